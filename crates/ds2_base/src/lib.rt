@@ -1,0 +1,25 @@
+//! What every other crate stands on: lists, texts, names, places, and the two ways in which a call stops.
+//!
+//! A contract sees a [`List`] as the list of its items, and a [`Text`] or a [`Name`] as the list of its UTF-8 bytes.
+#![tactic(auto)]
+
+mod characters;
+mod compare;
+mod list;
+mod name;
+mod name_compare;
+mod place;
+mod roomy;
+mod stop;
+#[cfg(test)]
+mod tests;
+mod text;
+mod text_compare;
+
+pub use characters::char_count;
+pub use list::{Bytes, List};
+pub use name::{BadName, Name};
+pub use place::{Place, Refusal};
+pub use roomy::Roomy;
+pub use stop::{OutOfMemory, Stop};
+pub use text::Text;

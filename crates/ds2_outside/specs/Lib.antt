@@ -1,0 +1,6 @@
+pub mod Calls
+pub mod Causes
+pub mod Files
+pub mod LogView
+pub mod Memory
+pub mod Written

@@ -1,0 +1,14 @@
+-- What a log has taken, and how a write ends.
+use Rattle.std.specs.Prelude.{◌≡◌, ℕ, List, ◌++◌, take, Option, Some, Bool, true, false, Result, Ok, Err}
+use Rattle.ds2_outside.specs.declared.store.WriteStop.{WriteStop}
+use Rattle.ds2_outside.specs.declared.store.WriteStop.TheVariants.{Failed, OutOfMemory}
+
+-- what a refused write leaves: a prefix of the bytes was appended
+abbrev pub TakesPart : List ℕ → List ℕ → Option (List ℕ) → Type 0
+TakesPart before bytes left = (n : ℕ) × (left ≡ Some (before ++ take n bytes))
+
+-- whether a write answers Failed
+abbrev pub has_write_failed : {T : Type 0} → Result T WriteStop → Bool
+has_write_failed (Ok x) = false
+has_write_failed (Err Failed) = true
+has_write_failed (Err OutOfMemory) = false

@@ -1,0 +1,25 @@
+//! The outside: a store of named files, a log that grows, and a gate that workers pass.
+//!
+//! Everything above is written against the three traits, whose clauses say what a file system and an output promise.
+//! [`MemStore`] and [`MemSink`] keep these promises in memory and fail at chosen calls. [`FolderStore`] and [`StdSink`]
+//! are the thin edge to the real ones, which tells nothing of contents.
+#![tactic(auto)]
+
+mod calls;
+mod folder;
+mod gate;
+mod memory;
+mod memory_sink;
+mod output;
+mod sink;
+mod store;
+#[cfg(test)]
+mod tests;
+
+pub use folder::FolderStore;
+pub use gate::{Gate, NoGate};
+pub use memory::MemStore;
+pub use memory_sink::MemSink;
+pub use output::StdSink;
+pub use sink::Sink;
+pub use store::{Failed, ReadStop, Store, WriteStop};
