@@ -1,0 +1,10 @@
+pub mod TenPowers
+pub mod UnitsLemmas
+pub mod IntegerLemmas
+pub mod AlignedLemmas
+pub mod QuotientLemmas
+pub mod RoundingLemmas
+pub mod SignLemmas
+pub mod TextLemmas
+pub mod LawLemmas
+pub mod ReadLemmas

@@ -1,0 +1,6 @@
+pub mod Arithmetic
+pub mod Decimal
+pub mod Laws
+pub mod Rounding
+pub mod Steps
+pub mod Text

@@ -1,0 +1,5 @@
+pub mod Lines
+pub mod Number
+pub mod Reads
+pub mod RoundTrip
+pub mod Text

@@ -1,0 +1,11 @@
+pub mod Stretch
+pub mod Slots
+pub mod Lockstep
+pub mod Steps
+pub mod Sizes
+pub mod Runs
+pub mod Forward
+pub mod Whole
+pub mod Chains
+pub mod Appended
+pub mod Assembled

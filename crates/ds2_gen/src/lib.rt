@@ -1,0 +1,13 @@
+//! The generator: from a program to its stack code.
+//!
+//! Code is only appended, and each target is known when its jump is written, since the size of a
+//! statement says how many instructions it has.
+#![tactic(auto)]
+
+mod emit;
+mod program;
+mod size;
+#[cfg(test)]
+mod tests;
+
+pub use program::generate;

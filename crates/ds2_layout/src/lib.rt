@@ -1,0 +1,15 @@
+//! The slots of a program's variables.
+//!
+//! A program's variables have numbers in the order of its program data vector: the declared ones
+//! first, and then the columns of its table that are not declared.
+#![tactic(auto)]
+
+mod known;
+mod layout;
+mod name_table;
+mod vector;
+
+pub use known::first_unknown;
+pub use layout::{Layout, lay_out};
+pub use name_table::NameTable;
+pub use vector::variables;

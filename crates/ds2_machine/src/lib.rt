@@ -1,0 +1,15 @@
+//! The machine that runs stack code, one unit at a time, in exactly the steps that the meaning of code says.
+//!
+//! A [`Machine`] holds the slots of a program between its units. A contract sees the slots, and whether the machine is spent.
+#![tactic(auto)]
+
+mod machine;
+mod operands;
+mod state;
+#[cfg(test)]
+mod tests;
+mod unit_end;
+mod values;
+
+pub use machine::Machine;
+pub use unit_end::{OutRow, UnitEnd};

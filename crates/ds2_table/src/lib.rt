@@ -1,0 +1,10 @@
+//! Tables, and the one-thread answer of a program over the rows of its tables.
+//!
+//! A contract sees a [`Table`] as its columns and its rows; every row fits the columns.
+#![tactic(auto)]
+
+mod table;
+#[cfg(test)]
+mod tests;
+
+pub use table::Table;

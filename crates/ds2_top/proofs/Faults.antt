@@ -1,0 +1,137 @@
+-- A command that ends in a runtime fault ends in the first of the one-thread meaning.
+use Rattle.std.proofs.Common.{◌≡◌, ℕ, List, refl, sym, ap, ◌∙◌, subst, Option, Some, None, Result, Ok, Err, IfSome}
+use Rattle.std.proofs.lemmas.List.{append-nil}
+use Rattle.ds2_base.specs.declared.place.Place.{Place}
+use Rattle.ds2_value.specs.declared.fault.Fault.{Fault}
+use Rattle.ds2_value.specs.declared.fault.Ending.{Ending}
+use Rattle.ds2_value.specs.declared.fault.Ending.TheVariants.{Normal, Faulted}
+use Rattle.ds2_value.specs.declared.schema.Column.{Column}
+use Rattle.ds2_value.specs.declared.value.Value.{Value}
+use Rattle.ds2_meaning.specs.Names.{first_unknown}
+use Rattle.ds2_meaning.specs.Program.{Program, one_thread_answer, variables}
+use Rattle.ds2_draft_source.specs.Source.{Source, source_of}
+use Rattle.ds2_draft_table.specs.Reads.{reads}
+use Rattle.ds2_draft_table.specs.declared.table.DraftRefusal.{DraftRefusal}
+use Rattle.ds2_draft_table.specs.declared.table.DraftTable.{DraftTable}
+use Rattle.ds2_outside.specs.Files.{Files, file}
+use Rattle.ds2_top.specs.declared.load.FileKind.{FileKind}
+use Rattle.ds2_top.specs.declared.status.Status.{Status}
+use Rattle.ds2_top.specs.declared.status.Status.TheVariants as ended
+use Rattle.ds2_top.specs.declared.words.Command.{Command}
+use Rattle.ds2_top.specs.declared.words.Command.TheVariants.{Run}
+use Rattle.ds2_top.specs.Actions.{actions, after, status_of, text}
+use Rattle.ds2_top.specs.Answer.{answer, on_command, on_ending, on_names, on_source, on_table, output_rows, program_over, source_limit, table_file, table_limit}
+use Rattle.ds2_top.specs.Fault.{FirstFault, LeavesFault}
+use Rattle.ds2_top.specs.Leaves.{Gained, Leaves}
+use Rattle.ds2_top.specs.Lines.{error_line, fault_text}
+use Rattle.ds2_top.specs.Load.{bounded, next_file}
+use Rattle.ds2_top.specs.Script.{Script, Reads}
+use Rattle.ds2_top.specs.Words.{command_of}
+
+-- a script that says the line of this fault and writes nothing
+record Faulting (script : Script) (files : Files) (fault : Fault) (place : Place) : Type 0 where
+  pub text_is : text (actions script) ≡ error_line (fault_text fault) place
+  pub files_are : after (actions script) files ≡ files
+
+-- a script that says the line of the first fault and writes nothing
+record Faults (words : List (List ℕ)) (files : Files) (script : Script) : Type 0 where
+  pub fault : Fault
+  pub place : Place
+  pub first : FirstFault words files fault place
+  pub faulting : Faulting script files fault place
+
+-- a program that has ended in a fault
+of_ending : (name : List ℕ) (columns : List Column) (rows : List (List Value)) (ending : Ending) (files : Files) → status_of (on_ending name columns rows ending) ≡ ended.Fault
+    → (fault : Fault) × (place : Place) × (ending ≡ Faulted fault place) × Faulting (on_ending name columns rows ending) files fault place
+of_ending name columns rows Normal files is = absurd (cc)
+of_ending name columns rows (Faulted fault place) files is = (fault, place, refl, record { text_is = append-nil (error_line (fault_text fault) place); files_are = refl })
+
+-- behind a read
+of_read : (words : List (List ℕ)) (files : Files) (name : List ℕ) (rest : Script) → Faults words files rest → Faults words files (Reads name rest)
+of_read words files name rest f =
+    record { fault = f.fault; place = f.place; first = f.first; faulting = record { text_is = f.faulting.text_is; files_are = f.faulting.files_are } }
+
+module _ (words : List (List ℕ)) (files : Files) (name : List ℕ) (budget : ℕ) (command_is : command_of words ≡ Some (Run name budget)) where
+  module _ (source_text : List ℕ) (text_is : bounded source_limit (file files name) ≡ Ok source_text) (source : Source) (source_is : source_of source_text ≡ Some source) where
+    module _ (bytes : List ℕ) (bytes_are : bounded table_limit (file files (table_file source.table)) ≡ Ok bytes) where
+      of_names : (table : DraftTable) → reads bytes ≡ Ok table → (unknown : Option Place) → first_unknown (program_over source table.columns) ≡ unknown
+          → status_of (on_names unknown source.output (program_over source table.columns) table.rows budget) ≡ ended.Fault
+          → Faults words files (on_names unknown source.output (program_over source table.columns) table.rows budget)
+      of_names table table_is (Some place) known is = absurd (cc)
+      of_names table table_is None known is =
+          let program : Program = program_over source table.columns in
+          let f = of_ending source.output (variables program) (output_rows (one_thread_answer program table.rows budget)) (one_thread_answer program table.rows budget).ending files is in
+          record {
+            fault = f.0;
+            place = f.1;
+            first = record {
+              name = name;
+              budget = budget;
+              text = source_text;
+              source = source;
+              bytes = bytes;
+              table = table;
+              command_is = command_is;
+              text_is = text_is;
+              source_is = source_is;
+              bytes_are = bytes_are;
+              table_is = table_is;
+              names_known = known;
+              ends = f.2;
+            };
+            faulting = f.3;
+          }
+
+      of_table : (result : Result DraftTable DraftRefusal) → reads bytes ≡ result → status_of (on_table source budget result) ≡ ended.Fault → Faults words files (on_table source budget result)
+      of_table (Err refusal) is fault = absurd (cc)
+      of_table (Ok table) is fault = of_names table is (first_unknown (program_over source table.columns)) refl fault
+
+    of_bytes : (result : Result (List ℕ) FileKind) → bounded table_limit (file files (table_file source.table)) ≡ result
+        → status_of (next_file (table_file source.table) result (λ bytes. on_table source budget (reads bytes))) ≡ ended.Fault
+        → Faults words files (next_file (table_file source.table) result (λ bytes. on_table source budget (reads bytes)))
+    of_bytes (Err kind) is fault = absurd (cc)
+    of_bytes (Ok bytes) is fault = of_table bytes is (reads bytes) refl fault
+
+  of_source : (source_text : List ℕ) → bounded source_limit (file files name) ≡ Ok source_text → (result : Option Source) → source_of source_text ≡ result
+      → status_of (on_source result budget files) ≡ ended.Fault → Faults words files (on_source result budget files)
+  of_source source_text text_is None is fault = absurd (cc)
+  of_source source_text text_is (Some source) is fault =
+      of_read words files (table_file source.table) (next_file (table_file source.table) (bounded table_limit (file files (table_file source.table))) (λ bytes. on_table source budget (reads bytes)))
+      (of_bytes source_text text_is source is (bounded table_limit (file files (table_file source.table))) refl fault)
+
+  of_text : (result : Result (List ℕ) FileKind) → bounded source_limit (file files name) ≡ result
+      → status_of (next_file name result (λ source_text. on_source (source_of source_text) budget files)) ≡ ended.Fault
+      → Faults words files (next_file name result (λ source_text. on_source (source_of source_text) budget files))
+  of_text (Err kind) is fault = absurd (cc)
+  of_text (Ok source_text) is fault = of_source source_text is (source_of source_text) refl fault
+
+of_command : (words : List (List ℕ)) (files : Files) (result : Option Command) → command_of words ≡ result → status_of (on_command result files) ≡ ended.Fault → Faults words files (on_command result files)
+of_command words files None is fault = absurd (cc)
+of_command words files (Some (Run name budget)) is fault =
+    of_read words files name (next_file name (bounded source_limit (file files name)) (λ source_text. on_source (source_of source_text) budget files))
+    (of_text words files name budget is (bounded source_limit (file files name)) refl fault)
+
+of_answer : (words : List (List ℕ)) (files : Files) → status_of (answer words files) ≡ ended.Fault → Faults words files (answer words files)
+of_answer words files fault = of_command words files (command_of words) refl fault
+
+-- what a command leaves that has ended in a fault
+fault_left : (words : List (List ℕ)) (files : Files) (reads writes rose : Type 0) (before : List ℕ) (now : Option Files) (logged : Option (List ℕ))
+    → Leaves (actions (answer words files)) (status_of (answer words files)) files ended.Fault reads writes rose before now logged → LeavesFault words files rose before now logged
+fault_left words files reads writes rose before now logged (did, gained) =
+    let f = of_answer words files (sym did.status_is) in
+    record {
+      fault = f.fault;
+      place = f.place;
+      first = f.first;
+      now_is = did.now_is ∙ ap (λ (a : Files). Some a) f.faulting.files_are;
+      gained = subst (λ (x : List ℕ). Gained x rose before logged) f.faulting.text_is gained;
+    }
+
+pub fault_leaves : (told now : Option Files) (written logged : Option (List ℕ)) (words : List (List ℕ)) (result : Status) (reads writes rose : Type 0)
+    → IfSome told (λ files. IfSome written (λ before. Leaves (actions (answer words files)) (status_of (answer words files)) files result reads writes rose before now logged))
+    → IfSome told (λ files. IfSome written (λ before. result ≡ ended.Fault → LeavesFault words files rose before now logged))
+fault_leaves None now written logged words result reads writes rose left = tt
+fault_leaves (Some files) now None logged words result reads writes rose left = tt
+fault_leaves (Some files) now (Some before) logged words result reads writes rose left =
+    λ is. fault_left words files reads writes rose before now logged
+    (subst (λ (s : Status). Leaves (actions (answer words files)) (status_of (answer words files)) files s reads writes rose before now logged) is left)

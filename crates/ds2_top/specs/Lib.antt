@@ -1,0 +1,11 @@
+pub mod Actions
+pub mod Answer
+pub mod Course
+pub mod Fault
+pub mod Leaves
+pub mod Lines
+pub mod Load
+pub mod Outcome
+pub mod Script
+pub mod Status
+pub mod Words

@@ -1,0 +1,63 @@
+-- The lines of the log.
+use Rattle.std.specs.Prelude.{ℕ, List, ◌++◌, codes}
+use Rattle.std.specs.Fmt.{decimal}
+use Rattle.ds2_base.specs.declared.place.Place.{Place}
+use Rattle.ds2_value.specs.declared.fault.Fault.{Fault}
+use Rattle.ds2_value.specs.declared.fault.Fault.TheVariants.{Overflow, DivideByZero, Range, NoWhen, BudgetSpent, DepthReached}
+use Rattle.ds2_top.specs.declared.lines.SourceKind.{SourceKind}
+use Rattle.ds2_top.specs.declared.lines.SourceKind.TheVariants.{NotBuilt, UnknownName}
+use Rattle.ds2_top.specs.declared.load.FileKind.{FileKind}
+use Rattle.ds2_top.specs.declared.load.FileKind.TheVariants as file
+
+-- the words are no command
+abbrev pub usage_line : List ℕ
+usage_line = codes "ERROR: Usage.\n"
+
+-- there was no memory
+abbrev pub memory_line : List ℕ
+memory_line = codes "ERROR: Want of memory.\n"
+
+-- a call of this kind on this file has failed
+abbrev pub fault_line : List ℕ → List ℕ → List ℕ
+fault_line kind name = codes "ERROR: " ++ (kind ++ (codes " fault on " ++ (name ++ codes ".\n")))
+
+-- what the line on a refused file says of a kind: its name and, for a cell, its row and column
+abbrev pub kind_text : FileKind → List ℕ
+kind_text file.Absent = codes "Absent.\n"
+kind_text file.TooLarge = codes "TooLarge.\n"
+kind_text file.NotBuilt = codes "NotBuilt.\n"
+kind_text (file.BadCell row column) = codes "BadCell at row " ++ (decimal row ++ (codes ", column " ++ (decimal column ++ codes ".\n")))
+
+-- a file is refused
+abbrev pub file_line : List ℕ → FileKind → List ℕ
+file_line name kind = codes "ERROR: File " ++ (name ++ (codes " refused: " ++ kind_text kind))
+
+-- a place, and what follows
+abbrev pub at_place : Place → List ℕ → List ℕ
+at_place place rest = codes " at " ++ (decimal place.line ++ (codes ":" ++ (decimal place.column ++ rest)))
+
+-- the name of a kind
+abbrev pub source_kind_text : SourceKind → List ℕ
+source_kind_text NotBuilt = codes "NotBuilt"
+source_kind_text UnknownName = codes "UnknownName"
+
+-- a source is refused
+abbrev pub source_line : SourceKind → Place → List ℕ
+source_line kind place = codes "ERROR: Source refused: " ++ (source_kind_text kind ++ at_place place (codes ".\n"))
+
+-- the name of a fault
+abbrev pub fault_text : Fault → List ℕ
+fault_text Overflow = codes "Overflow"
+fault_text DivideByZero = codes "DivideByZero"
+fault_text Range = codes "Range"
+fault_text NoWhen = codes "NoWhen"
+fault_text BudgetSpent = codes "BudgetSpent"
+fault_text DepthReached = codes "DepthReached"
+
+-- a program has ended in a fault of its own
+abbrev pub error_line : List ℕ → Place → List ℕ
+error_line kind place = codes "ERROR: " ++ (kind ++ at_place place (codes ".\n"))
+
+-- a table was written
+abbrev pub table_line : List ℕ → ℕ → List ℕ
+table_line name rows = codes "NOTE: Table " ++ (name ++ (codes ", " ++ (decimal rows ++ codes " rows.\n")))

@@ -1,0 +1,16 @@
+//! The top call: what a line of words does to a store of files and a log.
+#![tactic(auto)]
+
+mod lines;
+mod load;
+mod outputs;
+mod program;
+mod report;
+mod run;
+mod status;
+mod steps;
+mod top;
+mod words;
+
+pub use status::Status;
+pub use top::{ds2, ds2_alone};

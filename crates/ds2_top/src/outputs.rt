@@ -1,0 +1,91 @@
+//! What a program leaves that has ended.
+ghost use Rattle.std.specs.Prelude.{◌≡◌, ◌++◌, codes, IfSome, IfOk, IsOkAnd, length};
+ghost use Rattle.ds2_value.specs.declared.fault.Ending.TheVariants.{Normal};
+ghost use Rattle.ds2_outside.specs.Causes.{HasCause};
+ghost use Rattle.ds2_top.specs.Lines.{table_line};
+ghost use Rattle.ds2_top.specs.Answer.{on_ending, outputs, table_file};
+ghost use Rattle.ds2_top.specs.Course.{Left};
+ghost use Rattle.ds2_top.specs.Status.{IsOfCommand};
+
+use crate::Status;
+use crate::lines::{say_error, table_line};
+use crate::steps::{Step, perform_all};
+use ds2_base::{Bytes, List, Name, OutOfMemory, Text};
+use ds2_draft_table::write_table;
+use ds2_outside::Store;
+use ds2_value::{Column, Ending, Row};
+use std::alloc::Global;
+
+/// The name of a table's file.
+pub(crate) fn table_file(alloc: Global, name: &Name) -> Result<Text, OutOfMemory>
+    ensures { IfOk result (λ file. file ≡ table_file name.now) }
+{
+    let name = name.as_str();
+    Ok(Text::from_string(format!(in alloc; "{name}.csv")?))
+}
+
+// The step that counts a table's rows in the log.
+fn say_table(alloc: Global, name: &Name, rows: &[Row]) -> Result<Step, OutOfMemory>
+    ensures { IfOk result (λ step. step ≡ Step.Say (table_line name.now (length rows.now))) }
+{
+    let line = table_line(alloc, name.as_str(), rows.len())?;
+    Ok(Step::Say(List::from_slice(alloc, line.as_str().as_bytes())?))
+}
+
+// The steps that write a table and count its rows in the log.
+fn outputs(
+    alloc: Global,
+    name: &Name,
+    columns: &[Column],
+    rows: &[Row],
+) -> Result<List<Step>, OutOfMemory>
+    ensures { IfOk result (λ steps. steps ≡ outputs name.now columns.now rows.now) }
+{
+    let mut steps = List::new(alloc);
+    let file = table_file(alloc, name)?;
+    steps.push(Step::Write(file, write_table(alloc, columns, rows)?))?;
+    steps.push(say_table(alloc, name, rows)?)?;
+    Ok(steps)
+}
+
+// Writes the table of a program that has ended without fault.
+fn write_outputs<S: Store>(
+    alloc: Global,
+    name: &Name,
+    columns: &[Column],
+    rows: &[Row],
+    log: &mut Bytes,
+    store: &mut S,
+) -> Result<Status, OutOfMemory>
+    ensures left { IfSome (S.files store.old) (λ files. Left (on_ending name.now columns.now rows.now Normal) log.old files result log.new (S.files store.new)) }
+    ensures read { HasCause (S.read_faults store.old) (S.read_faults store.new) (IsOkAnd result (λ status. status ≡ Status.Read)) }
+    ensures write { HasCause (S.write_faults store.old) (S.write_faults store.new) (IsOkAnd result (λ status. status ≡ Status.Write)) }
+    ensures status { IfOk result IsOfCommand }
+{
+    let steps = outputs(alloc, name, columns, rows)?;
+    perform_all(alloc, steps.as_slice(), Status::Done, log, store)
+}
+
+/// Writes the table of a program, or says in which fault the program has ended.
+pub(crate) fn finish<S: Store>(
+    alloc: Global,
+    name: &Name,
+    columns: &[Column],
+    rows: &[Row],
+    ending: Ending,
+    log: &mut Bytes,
+    store: &mut S,
+) -> Result<Status, OutOfMemory>
+    ensures left { IfSome (S.files store.old) (λ files. Left (on_ending name.now columns.now rows.now ending) log.old files result log.new (S.files store.new)) }
+    ensures read { HasCause (S.read_faults store.old) (S.read_faults store.new) (IsOkAnd result (λ status. status ≡ Status.Read)) }
+    ensures write { HasCause (S.write_faults store.old) (S.write_faults store.new) (IsOkAnd result (λ status. status ≡ Status.Write)) }
+    ensures status { IfOk result IsOfCommand }
+{
+    match ending {
+        Ending::Normal => write_outputs(alloc, name, columns, rows, log, store),
+        Ending::Faulted { kind, place } => {
+            say_error(alloc, kind, place, log)?;
+            Ok(Status::Fault)
+        }
+    }
+}

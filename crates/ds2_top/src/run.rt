@@ -1,0 +1,228 @@
+//! What a line of words does to a store, and the text that it gives for the log.
+ghost use Rattle.std.specs.Prelude.{◌≡◌, ◌≢◌, ◌≤◌, All, IfSome, IfOk, IsOkAnd, length};
+ghost use Rattle.ds2_outside.specs.Causes.{HasCause};
+ghost use Rattle.ds2_meaning.specs.Names.{AllKnown};
+ghost use Rattle.ds2_meaning.specs.View.{program_of};
+ghost use Rattle.ds2_draft_source.specs.Source.{source_of, tree_of};
+ghost use Rattle.ds2_draft_table.specs.Reads.{reads};
+ghost use Rattle.ds2_top.specs.declared.words.Command.TheVariants.{Run};
+ghost use Rattle.ds2_top.specs.Answer.{answer, kind_of, on_command, on_names, on_program, on_source, on_table};
+ghost use Rattle.ds2_top.specs.Status.{IsOfCommand};
+ghost use Rattle.ds2_top.specs.Words.{command_of, most_budget};
+ghost use Rattle.ds2_top.specs.Course.{Left};
+
+use crate::Status;
+use crate::lines::{SourceKind, say_refused, say_source_refused};
+use crate::load::{FileKind, Seen, load_one};
+use crate::outputs::{finish, table_file};
+use crate::program::{one_thread_end, program_over};
+use crate::words::{Command, read_words};
+use ds2_base::{Bytes, OutOfMemory, Place, Stop, Text};
+use ds2_draft_source::{Source, read_source};
+use ds2_draft_table::{DraftKind, DraftTable, read_table};
+use ds2_layout::{first_unknown, variables};
+use ds2_meaning::TypedData;
+use ds2_outside::Store;
+use ds2_value::Row;
+use std::alloc::Global;
+
+const SOURCE_LIMIT: u64 = 262_144;
+
+const TABLE_LIMIT: u64 = 67_108_864;
+
+// Runs a program whose names are known.
+fn run_known<S: Store>(
+    alloc: Global,
+    program: &TypedData,
+    rows: &[Row],
+    budget: u64,
+    log: &mut Bytes,
+    store: &mut S,
+) -> Result<Status, OutOfMemory>
+    requires known { AllKnown (program_of program.now) }
+    requires even { All (λ row. length row ≡ length program.now.columns) rows.now }
+    requires budget { budget ≤ most_budget }
+    ensures left { IfSome (S.files store.old) (λ files. Left (on_names None program.now.output (program_of program.now) rows.now budget) log.old files result log.new (S.files store.new)) }
+    ensures read { HasCause (S.read_faults store.old) (S.read_faults store.new) (IsOkAnd result (λ status. status ≡ Status.Read)) }
+    ensures write { HasCause (S.write_faults store.old) (S.write_faults store.new) (IsOkAnd result (λ status. status ≡ Status.Write)) }
+    ensures status { IfOk result IsOfCommand }
+{
+    let end = one_thread_end(alloc, program, rows, budget)?;
+    let columns = variables(alloc, program)?;
+    finish(
+        alloc,
+        &program.output,
+        columns.as_slice(),
+        end.rows.as_slice(),
+        end.ending,
+        log,
+        store,
+    )
+}
+
+// Runs a program, or refuses the first name that it does not know.
+fn run_program<S: Store>(
+    alloc: Global,
+    program: &TypedData,
+    rows: &[Row],
+    budget: u64,
+    log: &mut Bytes,
+    store: &mut S,
+) -> Result<Status, OutOfMemory>
+    requires even { All (λ row. length row ≡ length program.now.columns) rows.now }
+    requires budget { budget ≤ most_budget }
+    ensures left { IfSome (S.files store.old) (λ files. Left (on_program program.now.output (program_of program.now) rows.now budget) log.old files result log.new (S.files store.new)) }
+    ensures read { HasCause (S.read_faults store.old) (S.read_faults store.new) (IsOkAnd result (λ status. status ≡ Status.Read)) }
+    ensures write { HasCause (S.write_faults store.old) (S.write_faults store.new) (IsOkAnd result (λ status. status ≡ Status.Write)) }
+    ensures status { IfOk result IsOfCommand }
+{
+    match first_unknown(alloc, program)? {
+        None => run_known(alloc, program, rows, budget, log, store),
+        Some(place) => {
+            say_source_refused(alloc, SourceKind::UnknownName, place, log)?;
+            Ok(Status::Source)
+        }
+    }
+}
+
+fn kind_of(kind: DraftKind, row: u64, column: u32) -> FileKind
+    ensures { result ≡ kind_of kind row column }
+{
+    match kind {
+        DraftKind::NotBuilt => FileKind::NotBuilt,
+        DraftKind::BadCell => FileKind::BadCell { row, column },
+    }
+}
+
+// Runs a source over its table.
+fn run_table<S: Store>(
+    alloc: Global,
+    source: Source,
+    table: DraftTable,
+    budget: u64,
+    log: &mut Bytes,
+    store: &mut S,
+) -> Result<Status, OutOfMemory>
+    requires even { All (λ row. length row ≡ length table.columns) table.rows }
+    requires budget { budget ≤ most_budget }
+    ensures left { IfSome (S.files store.old) (λ files. Left (on_table (tree_of source) budget (Ok table)) log.old files result log.new (S.files store.new)) }
+    ensures read { HasCause (S.read_faults store.old) (S.read_faults store.new) (IsOkAnd result (λ status. status ≡ Status.Read)) }
+    ensures write { HasCause (S.write_faults store.old) (S.write_faults store.new) (IsOkAnd result (λ status. status ≡ Status.Write)) }
+    ensures status { IfOk result IsOfCommand }
+{
+    let DraftTable { columns, rows } = table;
+    let program = program_over(alloc, source, columns)?;
+    run_program(alloc, &program, rows.as_slice(), budget, log, store)
+}
+
+// Runs a source over the bytes of its table, or refuses them.
+fn run_bytes<S: Store>(
+    alloc: Global,
+    source: Source,
+    bytes: &Bytes,
+    budget: u64,
+    log: &mut Bytes,
+    store: &mut S,
+) -> Result<Status, OutOfMemory>
+    requires { budget ≤ most_budget }
+    ensures left { IfSome (S.files store.old) (λ files. Left (on_table (tree_of source) budget (reads bytes.now)) log.old files result log.new (S.files store.new)) }
+    ensures read { HasCause (S.read_faults store.old) (S.read_faults store.new) (IsOkAnd result (λ status. status ≡ Status.Read)) }
+    ensures write { HasCause (S.write_faults store.old) (S.write_faults store.new) (IsOkAnd result (λ status. status ≡ Status.Write)) }
+    ensures status { IfOk result IsOfCommand }
+{
+    match read_table(alloc, bytes.as_slice()) {
+        Ok(table) => run_table(alloc, source, table, budget, log, store),
+        Err(Stop::Refused(refusal)) => {
+            let name = table_file(alloc, &source.table)?;
+            let kind = kind_of(refusal.kind, refusal.row, refusal.column);
+            say_refused(alloc, &name, kind, log)?;
+            Ok(Status::File)
+        }
+        Err(Stop::OutOfMemory) => Err(OutOfMemory),
+    }
+}
+
+// Reads the table of a source, and goes on.
+fn run_source<S: Store>(
+    alloc: Global,
+    source: Source,
+    budget: u64,
+    log: &mut Bytes,
+    store: &mut S,
+) -> Result<Status, OutOfMemory>
+    requires { budget ≤ most_budget }
+    ensures left { IfSome (S.files store.old) (λ files. Left (on_source (Some (tree_of source)) budget files) log.old files result log.new (S.files store.new)) }
+    ensures read { HasCause (S.read_faults store.old) (S.read_faults store.new) (IsOkAnd result (λ status. status ≡ Status.Read)) }
+    ensures write { HasCause (S.write_faults store.old) (S.write_faults store.new) (IsOkAnd result (λ status. status ≡ Status.Write)) }
+    ensures status { IfOk result IsOfCommand }
+{
+    let name = table_file(alloc, &source.table)?;
+    match load_one(alloc, &name, TABLE_LIMIT, log, store)? {
+        Seen::Ended(status) => Ok(status),
+        Seen::Found(bytes) => run_bytes(alloc, source, &bytes, budget, log, store),
+    }
+}
+
+// Runs the source of a text, or refuses it.
+fn run_text<S: Store>(
+    alloc: Global,
+    text: &Bytes,
+    budget: u64,
+    log: &mut Bytes,
+    store: &mut S,
+) -> Result<Status, OutOfMemory>
+    requires { budget ≤ most_budget }
+    ensures left { IfSome (S.files store.old) (λ files. Left (on_source (source_of text.now) budget files) log.old files result log.new (S.files store.new)) }
+    ensures read { HasCause (S.read_faults store.old) (S.read_faults store.new) (IsOkAnd result (λ status. status ≡ Status.Read)) }
+    ensures write { HasCause (S.write_faults store.old) (S.write_faults store.new) (IsOkAnd result (λ status. status ≡ Status.Write)) }
+    ensures status { IfOk result IsOfCommand }
+{
+    match read_source(alloc, text.as_slice())? {
+        Some(source) => run_source(alloc, source, budget, log, store),
+        None => {
+            say_source_refused(alloc, SourceKind::NotBuilt, Place::start(), log)?;
+            Ok(Status::Source)
+        }
+    }
+}
+
+// Reads a source, and goes on.
+fn run_command<S: Store>(
+    alloc: Global,
+    name: &Text,
+    budget: u64,
+    log: &mut Bytes,
+    store: &mut S,
+) -> Result<Status, OutOfMemory>
+    requires { budget ≤ most_budget }
+    ensures left { IfSome (S.files store.old) (λ files. Left (on_command (Some (Run name.now budget)) files) log.old files result log.new (S.files store.new)) }
+    ensures read { HasCause (S.read_faults store.old) (S.read_faults store.new) (IsOkAnd result (λ status. status ≡ Status.Read)) }
+    ensures write { HasCause (S.write_faults store.old) (S.write_faults store.new) (IsOkAnd result (λ status. status ≡ Status.Write)) }
+    ensures status { IfOk result IsOfCommand }
+{
+    match load_one(alloc, name, SOURCE_LIMIT, log, store)? {
+        Seen::Ended(status) => Ok(status),
+        Seen::Found(text) => run_text(alloc, &text, budget, log, store),
+    }
+}
+
+/// Does what a line of words says, but for the writing of the log.
+pub(crate) fn run<S: Store>(
+    alloc: Global,
+    words: &[Text],
+    log: &mut Bytes,
+    store: &mut S,
+) -> Result<Status, OutOfMemory>
+    ensures left { IfSome (S.files store.old) (λ files. Left (answer words.now files) log.old files result log.new (S.files store.new)) }
+    ensures read { HasCause (S.read_faults store.old) (S.read_faults store.new) (IsOkAnd result (λ status. status ≡ Status.Read)) }
+    ensures write { HasCause (S.write_faults store.old) (S.write_faults store.new) (IsOkAnd result (λ status. status ≡ Status.Write)) }
+    ensures status { IfOk result (λ status. (status ≢ Status.Log) × ((status ≡ Status.Usage → command_of words.now ≡ None) × (command_of words.now ≡ None → status ≡ Status.Usage))) }
+{
+    match read_words(alloc, words)? {
+        Some(Command::Run { source, budget }) => run_command(alloc, &source, budget, log, store),
+        None => {
+            log.append(b"ERROR: Usage.\n")?;
+            Ok(Status::Usage)
+        }
+    }
+}

@@ -1,0 +1,6 @@
+//! The run of a program's code on one thread: its units on the rows of its table, one after the other.
+#![tactic(auto)]
+
+mod alone;
+
+pub use alone::{ProgramEnd, run_alone};

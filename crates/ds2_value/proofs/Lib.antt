@@ -1,0 +1,10 @@
+pub mod ChoiceLemmas
+pub mod CutLemmas
+pub mod IntegerLemmas
+pub mod JoinLemmas
+pub mod KeepLemmas
+pub mod LowestLemmas
+pub mod OrderLemmas
+pub mod PowerLemmas
+pub mod TextLemmas
+pub mod TrimLemmas

@@ -1,0 +1,12 @@
+pub mod DecimalText
+pub mod Functions
+pub mod Hashing
+pub mod Keeping
+pub mod Order
+pub mod Run
+pub mod Schema
+pub mod TextLaws
+pub mod Texts
+pub mod Types
+pub mod Value
+pub mod ValueLaws

@@ -1,0 +1,45 @@
+-- The laws of the order, the equality and the hash of values.
+use Rattle.std.proofs.Common.{◌≡◌, refl, ap}
+use Rattle.std.specs.Prelude.{IsTrue, true}
+use Rattle.std.specs.Cmp.{IsTotalOrder, IsEquivalence, IsPartialEquivalence, IsPartialOrder, on_total, then_total, nat_cmp_total, int_cmp_total, eq_by_cmp_equiv, partial_equiv_from_equiv, partial_order_from_total}
+use Rattle.std.specs.Ordering.{nat_cmp, int_cmp, ordering_then, is_eq, as_partial_cmp}
+use Rattle.std.specs.declared.cmp.Ordering.{Ordering}
+use Rattle.std.specs.declared.cmp.Ordering.TheVariants.{Less, Equal, Greater}
+use Rattle.std.specs.Str.{chars, encode_utf8_all}
+use Rattle.std.proofs.lemmas.Map.Lookups.{exact_unsigned, exact_signed}
+use Rattle.ds2_value.specs.Hashing.{value_writes}
+use Rattle.ds2_value.specs.Order.{rank, exact, bytes_of, key_order, value_eq}
+use Rattle.ds2_value.specs.Texts.{text_cmp, trimmed}
+use Rattle.ds2_value.specs.declared.value.Value.{Value}
+use Rattle.ds2_value.specs.TextLaws.{text_cmp_total, padded_cmp-Equal}
+
+pub key_order_total : IsTotalOrder key_order
+unfolding key_order
+key_order_total = then_total (on_total rank nat_cmp_total) (then_total (on_total exact int_cmp_total) (on_total bytes_of text_cmp_total))
+
+pub value_equiv : IsEquivalence value_eq
+value_equiv = eq_by_cmp_equiv key_order_total
+
+pub value_per : IsPartialEquivalence value_eq
+value_per = partial_equiv_from_equiv value_equiv
+
+pub value_partial_order : IsPartialOrder value_eq (as_partial_cmp key_order)
+value_partial_order = partial_order_from_total key_order_total
+
+-- both of two orders are Equal
+both-Equal : (r o : Ordering) → is_eq (ordering_then r o) ≡ true → (r ≡ Equal) × (o ≡ Equal)
+both-Equal Less o h = cc
+both-Equal Equal Less h = cc
+both-Equal Equal Equal h = (refl, refl)
+both-Equal Equal Greater h = cc
+both-Equal Greater o h = cc
+
+pub value_alike : (a b : Value) → IsTrue (value_eq a b) → value_writes a ≡ value_writes b
+unfolding key_order value_writes
+value_alike a b h =
+    let outer = both-Equal (nat_cmp (rank a) (rank b)) (ordering_then (int_cmp (exact a) (exact b)) (text_cmp (bytes_of a) (bytes_of b))) h in
+    let inner = both-Equal (int_cmp (exact a) (exact b)) (text_cmp (bytes_of a) (bytes_of b)) (ap is_eq outer.1) in
+    let kind = exact_unsigned (rank a) (rank b) outer.0 in
+    let number = exact_signed (exact a) (exact b) inner.0 in
+    let text : trimmed (bytes_of a) ≡ trimmed (bytes_of b) = ap encode_utf8_all (padded_cmp-Equal (chars (bytes_of a)) (chars (bytes_of b)) inner.1) in
+    rw (kind, number, text) refl

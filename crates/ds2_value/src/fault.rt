@@ -1,0 +1,29 @@
+//! Why and where a run ends.
+
+use ds2_base::Place;
+
+/// Why a run ends early.
+#[derive(Clone, Copy, Debug, PartialEq, Eq)]
+pub enum Fault {
+    /// A number has more digits than its type.
+    Overflow,
+    /// A divisor is 0.
+    DivideByZero,
+    /// A position lies outside a text, or a length is below 0.
+    Range,
+    /// No `when` of a `select` without `otherwise` applies.
+    NoWhen,
+    /// The unit has carried out as many steps as it may.
+    BudgetSpent,
+    /// A method call lies deeper than calls may lie.
+    DepthReached,
+}
+
+/// How a run ends.
+#[derive(Clone, Copy, Debug, PartialEq, Eq)]
+pub enum Ending {
+    /// At its end.
+    Normal,
+    /// Early, for this reason, in the statement at this place.
+    Faulted { kind: Fault, place: Place },
+}

@@ -1,0 +1,50 @@
+//! Whether values are of a type.
+ghost use Rattle.std.specs.Prelude.{◌≡◌, IsTrue};
+ghost use Rattle.ds2_value.specs.Schema.{row_fits, types_in_bounds, is_schema};
+ghost use Rattle.ds2_value.specs.Types.{in_bounds, fits};
+
+use crate::decimal_text::power_of_ten;
+use crate::{Column, Schema, Ty, Value};
+use ds2_base::char_count;
+
+impl Value {
+    /// Whether the value is of a type in bounds: a BIGINT of BIGINT, a number of scale s and at most p digits of DECIMAL(p,s), a
+    /// text of exactly n characters of CHAR(n), a text of at most n of VARCHAR(n), and null of every type.
+    pub fn fits(&self, ty: Ty) -> bool
+        requires { IsTrue (in_bounds ty) }
+        ensures { result ≡ fits self.now ty }
+    {
+        match (self, ty) {
+            (Value::Null, _) | (Value::Int(_), Ty::BigInt) => true,
+            (Value::Dec(d), Ty::Decimal { p, s }) => {
+                d.scale() == s && d.units().unsigned_abs() < power_of_ten(p)
+            }
+            (Value::Txt(t), Ty::Char { n }) => char_count(t.as_str()) == n as usize,
+            (Value::Txt(t), Ty::Varchar { n }) => char_count(t.as_str()) <= n as usize,
+            _ => false,
+        }
+    }
+}
+
+// Whether a row has a value for each column, and each is of its column's type.
+fn row_fits(row: &[Value], columns: &[Column]) -> bool
+    requires { IsTrue (types_in_bounds columns.now) }
+    ensures { result ≡ row_fits row.now columns.now }
+{
+    match row {
+        [] => columns.is_empty(),
+        [v, vs @ ..] => match columns {
+            [] => false,
+            [c, cs @ ..] => v.fits(c.ty) && row_fits(vs, cs),
+        },
+    }
+}
+
+impl Schema {
+    /// Whether a row has a value for each column, and each is of its column's type.
+    pub fn fits(&self, row: &[Value]) -> bool
+        ensures { result ≡ row_fits row.now self.now }
+    {
+        row_fits(row, self.columns().as_slice())
+    }
+}

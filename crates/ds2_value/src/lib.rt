@@ -1,0 +1,38 @@
+//! Values, their types, their order and functions, and what ends a run.
+//!
+//! A contract sees a [`Value`] with the plain data in it: a number as a whole number, a text as its UTF-8 bytes.
+#![tactic(auto)]
+
+mod arithmetic;
+mod assignment;
+mod choice;
+mod comparison;
+mod condition;
+mod decimal_text;
+mod equality;
+mod fault;
+mod fit;
+mod functions;
+mod hashing;
+pub mod laws;
+mod order;
+mod schema;
+#[cfg(test)]
+mod tests;
+mod texts;
+mod truth;
+mod ty;
+mod value;
+
+pub use arithmetic::{difference, sum};
+pub use assignment::assign;
+pub use choice::{coalesce, greatest, least};
+pub use comparison::{Comparison, compare, compared};
+pub use decimal_text::write_dec;
+pub use fault::{Ending, Fault};
+pub use functions::{concat, is_null, length, substr, trim};
+pub use order::key_compare;
+pub use schema::{Column, Schema};
+pub use truth::{Truth, and, not, or};
+pub use ty::{Ty, join_types};
+pub use value::{Row, Value};

@@ -1,0 +1,51 @@
+//! Parts of texts, counted in characters.
+ghost use Rattle.std.specs.Prelude.{◌≡◌, IfOk, string_bytes};
+ghost use Rattle.ds2_value.specs.Texts.{trimmed, cut_to, after_characters, filled_to};
+
+use ds2_base::{OutOfMemory, Text, char_count};
+use std::alloc::Global;
+
+// The text without the blanks at its end.
+pub(crate) fn trimmed(s: &str) -> &str
+    ensures { result.now ≡ trimmed s.now }
+{
+    let mut rest = s;
+    'blanks: while let Some(front) = rest.strip_suffix(' ') {
+        rest = front;
+    }
+    rest
+}
+
+// What follows the first n characters.
+pub(crate) fn after_characters(s: &str, n: usize) -> &str
+    ensures { result.now ≡ after_characters n s.now }
+{
+    let mut rest = s.chars();
+    for i in 0..n {
+        let _ = rest.next();
+    }
+    rest.as_str()
+}
+
+// The first n characters. A text of at most n bytes has no more of them.
+pub(crate) fn cut_to(s: &str, n: usize) -> &str
+    ensures { result.now ≡ cut_to n s.now }
+{
+    if s.len() <= n {
+        return s;
+    }
+    let kept = s.len() - after_characters(s, n).len();
+    s.split_at(kept).0
+}
+
+// The first n characters, filled with blanks to n.
+pub(crate) fn filled_to(alloc: Global, s: &str, n: usize) -> Result<Text, OutOfMemory>
+    ensures { IfOk result (λ text. text ≡ filled_to n s.now) }
+{
+    let kept = cut_to(s, n);
+    let mut filled = String::from_str(alloc, kept)?;
+    for i in char_count(kept)..n {
+        filled.push(' ')?;
+    }
+    Ok(Text::from_string(filled))
+}
