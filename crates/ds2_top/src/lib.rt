@@ -9,6 +9,8 @@ mod report;
 mod run;
 mod status;
 mod steps;
+#[cfg(test)]
+mod tests;
 mod top;
 mod words;
 
