@@ -1,6 +1,8 @@
 //! The top call: what a line of words does to a store of files and a log.
 #![tactic(auto)]
 
+#[cfg(test)]
+mod budget_tests;
 mod lines;
 mod load;
 mod outputs;

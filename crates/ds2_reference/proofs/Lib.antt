@@ -1,0 +1,4 @@
+pub mod Names
+pub mod Steps
+pub mod Units
+pub mod Lists
