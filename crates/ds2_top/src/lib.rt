@@ -3,6 +3,8 @@
 
 #[cfg(test)]
 mod budget_tests;
+#[cfg(test)]
+mod layer_tests;
 mod lines;
 mod load;
 mod outputs;
