@@ -1,0 +1,12 @@
+pub mod BlankLemmas
+pub mod CellLemmas
+pub mod ColumnLemmas
+pub mod HeaderLemmas
+pub mod NumberLemmas
+pub mod ReadLemmas
+pub mod Reading
+pub mod SchemaLemmas
+pub mod Sheets
+pub mod Spellings
+pub mod ValueLemmas
+pub mod Writing

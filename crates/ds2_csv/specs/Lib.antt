@@ -1,0 +1,11 @@
+pub mod Cells
+pub mod Columns
+pub mod Header
+pub mod Kept
+pub mod Number
+pub mod Reads
+pub mod Records
+pub mod Refusals
+pub mod Sheet
+pub mod Text
+pub mod Values

@@ -1,0 +1,31 @@
+//! Why bytes are no table.
+
+/// The kind of a refusal, in the order in which the reasons are looked for.
+#[derive(Clone, Copy, Debug, PartialEq, Eq)]
+pub enum CsvKind {
+    /// There are more than 67,108,864 bytes, more than 256 columns, or more than 4,000,000 cells below the header.
+    TooLarge,
+    /// The bytes are not UTF-8.
+    NotUtf8,
+    /// There is no record.
+    NoHeader,
+    /// A header cell tells no name.
+    BadHeader,
+    /// A header cell tells a type whose numbers are outside their range.
+    BadType,
+    /// A header cell tells the name of an earlier column.
+    DuplicateColumn,
+    /// A record has another number of cells than the header.
+    BadRecord,
+    /// A cell has no value of its column's type.
+    BadCell,
+}
+
+/// A refusal. A row counts from 1 below the header, a column from 1. What says nothing of a kind is 0: the row of all kinds but
+/// BadRecord and BadCell, the column of all but BadHeader, BadType, DuplicateColumn and BadCell.
+#[derive(Clone, Copy, Debug, PartialEq, Eq)]
+pub struct CsvRefusal {
+    pub kind: CsvKind,
+    pub row: u64,
+    pub column: u32,
+}
