@@ -1,66 +1,42 @@
 -- What the records of a text make.
-use Rattle.std.proofs.Common.{◌≡◌, ◌≤◌, ◌*◌, ℕ, true, false, List, [], ◌∷◌, Option, Some, None, length, refl, sym, ap, ◌∙◌}
-use Rattle.std.specs.Prelude.{nat_lt, Result, Ok, Err}
+use Rattle.std.proofs.Common.{◌≡◌, ◌≤◌, ◌+◌, ◌-◌, ◌*◌, ℕ, Bool, true, false, List, [], ◌∷◌, Option, Some, None, length, refl, ap, ◌∙◌, ◌<◌}
+use Rattle.std.specs.Prelude.{nat_lt, if◌then◌else◌, Result, Ok, Err}
 use Rattle.std.specs.Str.{IsUtf8, is_utf8}
-use Rattle.std.proofs.lemmas.Bool.{le-ltb, ltb-false, false_from_ne_true}
+use Rattle.std.proofs.lemmas.Bool.{lt-ltb, le-ltb, false_from_ne_true}
 use Rattle.std.proofs.lemmas.Str.{IsUtf8-from_is_utf8, is_utf8-from_IsUtf8}
-use Rattle.csv.specs.Records.{fields_of}
 use Rattle.ds2_base.specs.Says.{Says}
 use Rattle.ds2_base.specs.declared.stop.Stop.{Stop}
+use Rattle.ds2_base.specs.declared.stop.Stop.TheVariants.{Refused, OutOfMemory}
 use Rattle.ds2_table.specs.Table.{Contents}
+use Rattle.ds2_value.specs.declared.schema.Column.{Column}
 use Rattle.ds2_csv.specs.Columns.{columns_from}
 use Rattle.ds2_csv.specs.Header.{headings_of}
-use Rattle.ds2_csv.specs.Kept.{IsKept}
 use Rattle.ds2_csv.specs.Reads.{under_columns, of_even_rows, of_rows, of_records, reads}
-use Rattle.ds2_csv.specs.Records.{Rows, records_of}
-use Rattle.ds2_csv.specs.Refusals.{of_file, of_row}
+use Rattle.ds2_csv.specs.Records.{Rows, records_of, odd_from}
+use Rattle.ds2_csv.specs.Refusals.{of_file}
+use Rattle.ds2_csv.specs.Sheet.{Sheet, sheet_by, sheet_of, of_sheet}
+use Rattle.ds2_csv.specs.Typed.{are_typed, under_headings}
 use Rattle.ds2_csv.specs.declared.heading.Heading.{Heading}
-use Rattle.ds2_csv.specs.declared.records.Records.{Records}
 use Rattle.ds2_csv.specs.declared.refusal.CsvRefusal.{CsvRefusal}
-use Rattle.ds2_csv.specs.declared.refusal.CsvKind.TheVariants.{TooLarge, NotUtf8, NoHeader, BadRecord}
-use Rattle.ds2_csv.proofs.SchemaLemmas.{headings-count}
+use Rattle.ds2_csv.specs.declared.refusal.CsvKind.TheVariants.{TooLarge, NotUtf8, NoHeader}
+use Rattle.ds2_csv.proofs.Reading.{sheet-large, sheet-whole}
+use Rattle.ds2_csv.proofs.SchemaLemmas.{columns-count, columns-typed}
 
-pub kept-width : (kept : Records) (rows : Rows) → IsKept (Some kept) rows → kept.sheet.width ≡ length (fields_of kept.header)
-kept-width kept [] k = absurd k
-kept-width kept (header ∷ rows) k = k.2 ∙ ap length (sym k.0)
+-- the table below a header that was read
+pub under-read : (header : List (List ℕ)) (rows : Rows) (hs : List Heading) → length header ≤ 256 → headings_of header ≡ Ok hs → of_records (header ∷ rows) ≡ under_headings hs rows
+unfolding of_records of_even_rows sheet_of
+under-read header rows hs few read =
+    let no : nat_lt 256 (length header) ≡ false = le-ltb 256 (length header) few in
+    rw (no, read) (by (odd_from (length hs) 1 rows))
+  where
+    large : (b : Bool) → (if b then Err (of_file TooLarge) else under_columns (columns_from 0 hs rows) rows)
+        ≡ of_sheet (λ even. under_columns (columns_from 0 hs even) even) (if b then Err (of_file TooLarge) else Ok (record { width = length hs; rows = rows }))
+    large true = refl
+    large false = refl
 
--- under a header that was read
-under : (kept : Records) (header : List (List ℕ)) (rows : Rows) (hs : List Heading) → IsKept (Some kept) (header ∷ rows) → length (fields_of kept.header) ≤ 256
-    → headings_of (fields_of kept.header) ≡ Ok hs → of_records (header ∷ rows) ≡ of_rows kept.odd hs rows
-unfolding of_records
-under kept header rows hs k few read =
-    let no : nat_lt 256 (length header) ≡ false = le-ltb 256 (length header) (rw k.0 at few) in
-    let here : headings_of header ≡ Ok hs = rw k.0 at read in
-    let count : length hs ≡ length header = headings-count header hs here in
-    rw (no, here, count) (ap (λ (o : Option ℕ). of_rows o hs rows) (sym k.1))
-
-pub kept-odd : (kept : Records) (rows : Rows) (hs : List Heading) (odd : ℕ) → IsKept (Some kept) rows → length (fields_of kept.header) ≤ 256
-    → headings_of (fields_of kept.header) ≡ Ok hs → kept.odd ≡ Some odd → of_records rows ≡ Err (of_row BadRecord odd)
-kept-odd kept [] hs odd k few read is = absurd k
-kept-odd kept (header ∷ rows) hs odd k few read is = under kept header rows hs k few read ∙ ap (λ (o : Option ℕ). of_rows o hs rows) is
-
-pub kept-even : (kept : Records) (rows : Rows) (hs : List Heading) (result : Result Contents (Stop CsvRefusal)) → IsKept (Some kept) rows → length (fields_of kept.header) ≤ 256
-    → headings_of (fields_of kept.header) ≡ Ok hs → kept.odd ≡ None
-    → ((all : Rows) → kept.count ≡ length all → (kept.count * length hs ≤ 4000000 → kept.sheet.rows ≡ all) → Says result (of_even_rows hs all)) → Says result (of_records rows)
-kept-even kept [] hs result k few read none said = absurd k
-kept-even kept (header ∷ rows) hs result k few read none said =
-    let count : length hs ≡ length header = headings-count (fields_of kept.header) hs read ∙ ap length k.0 in
-    let same : kept.count * length hs ≡ length rows * length header = ap (λ n. n * length hs) (k.3 none) ∙ ap (λ n. length rows * n) count in
-    let whole : of_records (header ∷ rows) ≡ of_even_rows hs rows = under kept header rows hs k few read ∙ ap (λ (o : Option ℕ). of_rows o hs rows) none in
-    rw whole (said rows (k.3 none) (λ small. k.4 none (rw same at small)))
-
--- rows under headings, all of which are there where they are not too many
-pub even-large : (hs : List Heading) (rows : Rows) (count : ℕ) → count ≡ length rows → nat_lt 4000000 (count * length hs) ≡ true → of_even_rows hs rows ≡ Err (of_file TooLarge)
-unfolding of_even_rows
-even-large hs rows count is large = let more : nat_lt 4000000 (length rows * length hs) ≡ true = rw is at large in rw more refl
-
-pub even-small : (hs : List Heading) (rows some : Rows) (count : ℕ) → count ≡ length rows → nat_lt 4000000 (count * length hs) ≡ false → (count * length hs ≤ 4000000 → some ≡ rows)
-    → of_even_rows hs rows ≡ under_columns (columns_from 0 hs some) some
-unfolding of_even_rows
-even-small hs rows some count is small all =
-    let less : nat_lt 4000000 (length rows * length hs) ≡ false = rw is at small in
-    let same : some ≡ rows = all (ltb-false 4000000 (count * length hs) small) in
-    rw less (ap (λ (t : Rows). under_columns (columns_from 0 hs t) t) (sym same))
+    by : (o : Option ℕ) → of_rows o hs rows ≡ of_sheet (λ even. under_columns (columns_from 0 hs even) even) (sheet_by o (length hs) rows)
+    by (Some odd) = refl
+    by None = large (nat_lt 4000000 (length rows * length hs))
 
 -- bytes that are not UTF-8, and those of a text
 pub reads-not : (bytes : List ℕ) → length bytes ≤ 67108864 → ¬ (IsUtf8 bytes) → reads bytes ≡ Err (of_file NotUtf8)
@@ -76,6 +52,58 @@ reads-text bytes few good =
     let no : nat_lt 67108864 (length bytes) ≡ false = le-ltb 67108864 (length bytes) few in
     rw (no, is_utf8-from_IsUtf8 bytes good) refl
 
+-- rows under columns that are known, at their end
+pub typed-end : (columns told : List Column) (rows : Rows) (number : ℕ) (state : Result Contents CsvRefusal) (result : Result Contents (Stop CsvRefusal)) → odd_from (length columns) 1 rows ≡ None
+    → number ≡ 1 + length rows → (length rows * length columns ≤ 4000000 → state ≡ under_columns columns rows)
+    → told ≡ columns → Says result (if nat_lt 4000000 ((number - 1) * length told) then Err (of_file TooLarge) else state) → Says result (of_sheet (under_columns columns) (sheet_of (length columns) rows))
+typed-end columns told rows number state result even count few is said = by (nat_lt 4000000 ((number - 1) * length columns)) refl (rw is at said)
+  where
+    by : (b : Bool) → nat_lt 4000000 ((number - 1) * length columns) ≡ b → Says result (if b then Err (of_file TooLarge) else state)
+        → Says result (of_sheet (under_columns columns) (sheet_of (length columns) rows))
+    by true large told = let e = sheet-large (length columns) number rows even count large in rw e told
+    by false small told =
+        let e = sheet-whole (length columns) number rows even count small in
+        let same : state ≡ under_columns columns rows = few e.1 in
+        rw e.0 (rw same at told)
+
+-- the columns are those of the headings over any rows, where each heading tells its type
+pub typed-said : (hs : List Heading) (schema : List Column) (none rows : Rows) (result : Result Contents (Stop CsvRefusal)) → are_typed hs ≡ true → schema ≡ columns_from 0 hs none
+    → Says result (of_sheet (under_columns schema) (sheet_of (length schema) rows)) → Says result (under_headings hs rows)
+typed-said hs schema none rows result all is said =
+    let count : length schema ≡ length hs = ap (λ (t : List Column). length t) is ∙ columns-count 0 hs none in
+    let same : of_sheet (under_columns schema) (sheet_of (length schema) rows) ≡ under_headings hs rows =
+    ap (λ n. of_sheet (under_columns schema) (sheet_of n rows)) count ∙ by (sheet_of (length hs) rows) in
+    rw same at said
+  where
+    by : (s : Result Sheet CsvRefusal) → of_sheet (under_columns schema) s ≡ of_sheet (λ even. under_columns (columns_from 0 hs even) even) s
+    by (Err refusal) = refl
+    by (Ok sheet) = ap (λ (t : List Column). under_columns t sheet.rows) (is ∙ columns-typed 0 hs none sheet.rows all)
+
+-- a sheet has the width that was asked for
+pub sheet-width : (width : ℕ) (rows : Rows) (sheet : Sheet) → sheet_of width rows ≡ Ok sheet → sheet.width ≡ width
+unfolding sheet_of
+sheet-width width rows sheet e = by (odd_from width 1 rows) e
+  where
+    by_size : (b : Bool) → (if b then Err (of_file TooLarge) else Ok (record { width = width; rows = rows })) ≡ Ok sheet → sheet.width ≡ width
+    by_size true f = cc f
+    by_size false f = let same : sheet ≡ record { width = width; rows = rows } = cc f in ap (λ (s : Sheet). s.width) same
+
+    by : (o : Option ℕ) → sheet_by o width rows ≡ Ok sheet → sheet.width ≡ width
+    by (Some odd) f = cc f
+    by None f = by_size (nat_lt 4000000 (length rows * width)) f
+
 pub none-read : (rows : Rows) → rows ≡ [] → of_records rows ≡ Err (of_file NoHeader)
 unfolding of_records
 none-read rows e = rw e refl
+
+pub wide-read : (header : List (List ℕ)) (rows all : Rows) → all ≡ header ∷ rows → 256 < length header → of_records all ≡ Err (of_file TooLarge)
+unfolding of_records
+wide-read header rows all e wide = let yes : nat_lt 256 (length header) ≡ true = lt-ltb 256 (length header) wide in rw (e, yes) refl
+
+pub stopped-read : (header : List (List ℕ)) (rows all : Rows) (stop : Stop CsvRefusal) → all ≡ header ∷ rows → length header ≤ 256 → Says {T = List Heading} (Err stop) (headings_of header)
+    → Says {T = Contents} (Err stop) (of_records all)
+unfolding of_records
+stopped-read header rows all OutOfMemory e few said = tt
+stopped-read header rows all (Refused r) e few said =
+    let no : nat_lt 256 (length header) ≡ false = le-ltb 256 (length header) few in
+    rw (e, no, said) refl

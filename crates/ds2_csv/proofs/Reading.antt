@@ -1,12 +1,10 @@
 -- The records of a text, by the reads of a reader.
-use Rattle.std.proofs.Common.{◌≡◌, ◌≢◌, ◌+◌, ◌<◌, ◌≤◌, ◌==◌, ◌∷◌, ◌++◌, ◌⊎◌, [], ℕ, zero, suc, List, Bool, true, false, Option, Some, None, IfSome, length, refl, sym, ap, inl, inr, ◌∙◌, arith}
-use Rattle.std.proofs.lemmas.Bool.{ne_eqb}
+use Rattle.std.proofs.Common.{◌≡◌, ◌≢◌, ◌+◌, ◌-◌, ◌*◌, ◌<◌, ◌≤◌, ◌==◌, ◌∷◌, ◌++◌, ◌⊎◌, [], ℕ, zero, suc, List, Bool, true, false, Option, Some, None, IfSome, IsSome, length, drop, take, refl, sym, ap, inl, inr, ◌∙◌, arith, append_assoc, length-append}
+use Rattle.std.proofs.lemmas.Bool.{ne_eqb, ltb-false}
 use Rattle.std.proofs.lemmas.List.{append-nil}
-use Rattle.std.specs.Prelude.{if◌then◌else◌}
+use Rattle.std.specs.Prelude.{if◌then◌else◌, not, ◌&&◌, nat_lt, Ok, Err}
 use Rattle.csv.specs.Machine.{Read, step, is_end, after_end, ends_with, ends_at_end, in_field, start_field, start_record, next_record, fields_after, field_after}
-use Rattle.csv.specs.Reading.{default_config, records, records_from, Reached, ReadsNext, NextIs, ReadRecord, ExplainsRead, Ready, source_of, pending_of, reader_config, reader_trim, is_flexible, expected_len, reader_state, names_headers, reader_headers, took_first}
-use Rattle.csv.specs.declared.reader.Trim.TheVariants as trim
-use Rattle.csv.specs.declared.reader.Reader.{Reader}
+use Rattle.csv.specs.Reading.{default_config, records_from, ReadsNext, NextIs, ReadRecord, ExplainsRead, source_of, pending_of, has_failed, strip_bom, is_flexible, expected_len, reader_state, took_first}
 use Rattle.csv.specs.declared.record.Position.{Position}
 use Rattle.csv.specs.declared.error.ErrorKind.{ErrorKind}
 use Rattle.csv.specs.declared.error.ErrorKind.TheVariants as kind
@@ -17,7 +15,12 @@ use Rattle.csv.specs.declared.parser.Action.{Action}
 use Rattle.csv.specs.declared.parser.Action.TheVariants as act
 use Rattle.csv.specs.declared.parser.Terminator.{Terminator}
 use Rattle.csv.specs.declared.parser.Terminator.TheVariants as term
-use Rattle.ds2_csv.specs.Records.{Rows, odd_from}
+use Rattle.ds2_csv.specs.Reader.{TextReader, lent, records_left, IsBetween, IsNext}
+use Rattle.ds2_csv.specs.Records.{Rows, records_of, odd_from}
+use Rattle.ds2_csv.specs.Refusals.{of_file, of_row}
+use Rattle.ds2_csv.specs.Sheet.{sheet_of}
+use Rattle.ds2_csv.specs.declared.refusal.CsvKind.TheVariants.{TooLarge, BadRecord}
+use Rattle.ds2_csv.specs.declared.records.Next.TheVariants.{Row, Odd, End}
 
 -- a state between two records
 abbrev pub Clean : State → Type 0
@@ -108,50 +111,35 @@ read-takes cfg s (c ∷ rest) q k h = by (is_end (step cfg s c).1) h
         let k = read-leaves cfg (step cfg s c).0 (fields_after (step cfg s c).1 [] []) (field_after (step cfg s c).1 c []) rest q e in
         omega arith
 
--- the records that were reached come first
-pub reached-first : (cfg : Config) (n : ℕ) (s : State) (xs : List ℕ) (rows : Rows) (s2 : State) (ys : List ℕ)
-    → Clean s → length xs < n → Reached cfg s xs rows s2 ys
-    → (m : ℕ) × (records_from cfg n s xs ≡ rows ++ records_from cfg m s2 ys) × Clean s2 × (length ys < m)
-unfolding Reached records_from
-reached-first cfg n s xs [] s2 ys k l h = (n, rw (h.0, h.1) refl, rw (← h.0) k, rw (← h.1) l)
-reached-first cfg zero s xs (r ∷ rs) s2 ys k l h = absurd (omega arith)
-reached-first cfg (suc n) s xs (r ∷ rs) s2 ys k l h =
-    let p = h.0 in
-    let shorter = read-takes cfg s xs p k h.1 in
-    let clean = read-leaves cfg s [] [] xs p h.1 in
-    let more = reached-first cfg n p.1 p.2 rs s2 ys clean.0 (omega arith) h.3 in
-    (more.0, rw (h.1, h.2) (ap (λ (t : Rows). p.0 ∷ t) more.1), more.2, more.3)
-
--- where a text ends, the records that were reached are all
-pub all-reached : (xs : List ℕ) (rows : Rows) (s2 : State) (ys : List ℕ) → Reached default_config st.StartRecord xs rows s2 ys
-    → next_record default_config s2 [] [] ys ≡ None → rows ≡ records default_config xs
+-- any count of records above the number of bytes gives all of them
+enough : (cfg : Config) (n m : ℕ) (s : State) (xs : List ℕ) → Clean s → length xs < n → length xs < m → records_from cfg n s xs ≡ records_from cfg m s xs
 unfolding records_from
-all-reached xs rows s2 ys h e = by (reached-first default_config (length xs + 1) st.StartRecord xs rows s2 ys (inl refl) (omega arith) h)
+enough cfg zero m s xs k h l = absurd (omega arith)
+enough cfg (suc n) zero s xs k h l = absurd (omega arith)
+enough cfg (suc n) (suc m) s xs k h l = by (next_record cfg s [] [] xs) refl (enough cfg n m)
   where
-    none : (m : ℕ) → length ys < m → records_from default_config m s2 ys ≡ []
-    none zero l = absurd (omega arith)
-    none (suc m) l = rw e refl
+    by : (o : Option Read) → next_record cfg s [] [] xs ≡ o
+        → ((s2 : State) (ys : List ℕ) → Clean s2 → length ys < n → length ys < m → records_from cfg n s2 ys ≡ records_from cfg m s2 ys)
+        → records_from cfg (suc n) s xs ≡ records_from cfg (suc m) s xs
+    by None e more = rw e refl
+    by (Some p) e more =
+        let shorter = read-takes cfg s xs p k e in
+        let clean = (read-leaves cfg s [] [] xs p e).0 in
+        rw e (ap (λ (t : Rows). p.0 ∷ t) (more p.1 p.2 clean (omega arith) (omega arith)))
 
-    by : (m : ℕ) × (records_from default_config (length xs + 1) st.StartRecord xs ≡ rows ++ records_from default_config m s2 ys) × Clean s2 × (length ys < m) → rows ≡ records default_config xs
-    by k = rw (k.1, none k.0 k.3) (sym (append-nil rows))
-
--- the record that comes next
-pub next-reached : (xs : List ℕ) (rows : Rows) (s2 : State) (ys : List ℕ) (p : Read) → Reached default_config st.StartRecord xs rows s2 ys
-    → next_record default_config s2 [] [] ys ≡ Some p → (more : Rows) × (records default_config xs ≡ rows ++ (p.0 ∷ more))
+-- the records of a text are the next one and those after it
+records-next : (cfg : Config) (s : State) (xs : List ℕ) (p : Read) → Clean s → next_record cfg s [] [] xs ≡ Some p
+    → records_from cfg (length xs + 1) s xs ≡ p.0 ∷ records_from cfg (length p.2 + 1) p.1 p.2
 unfolding records_from
-next-reached xs rows s2 ys p h e = by (reached-first default_config (length xs + 1) st.StartRecord xs rows s2 ys (inl refl) (omega arith) h)
-  where
-    one : (m : ℕ) → length ys < m → (more : Rows) × (records_from default_config m s2 ys ≡ p.0 ∷ more)
-    one zero l = absurd (omega arith)
-    one (suc m) l = (records_from default_config m p.1 p.2, rw e refl)
+records-next cfg s xs p k e =
+    let n : length xs + 1 ≡ suc (length xs) = omega arith in
+    let shorter = read-takes cfg s xs p k e in
+    let clean = (read-leaves cfg s [] [] xs p e).0 in
+    rw (n, e) (ap (λ (t : Rows). p.0 ∷ t) (enough cfg (length xs) (length p.2 + 1) p.1 p.2 clean shorter (omega arith)))
 
-    by : (m : ℕ) × (records_from default_config (length xs + 1) st.StartRecord xs ≡ rows ++ records_from default_config m s2 ys) × Clean s2 × (length ys < m) → (more : Rows) × (records default_config xs ≡ rows ++ (p.0 ∷ more))
-    by k = let o = one k.0 k.3 in (o.0, rw (k.1, o.1) refl)
-
--- the records so far are as long as the length that is expected
-abbrev pub Expects : Rows → Option ℕ → Type 0
-Expects [] e = e ≡ None
-Expects (r ∷ rs) e = (e ≡ Some (length r)) × (odd_from (length r) 1 rs ≡ None)
+records-none : (cfg : Config) (s : State) (xs : List ℕ) → next_record cfg s [] [] xs ≡ None → records_from cfg (length xs + 1) s xs ≡ []
+unfolding records_from
+records-none cfg s xs e = let n : length xs + 1 ≡ suc (length xs) = omega arith in rw (n, e) refl
 
 odd-more : (n i : ℕ) (rs : Rows) (f : List (List ℕ)) → odd_from n i rs ≡ None → length f ≡ n → odd_from n i (rs ++ (f ∷ [])) ≡ None
 unfolding odd_from
@@ -166,15 +154,6 @@ odd-more n i (r ∷ rs) f h k = by (length r == n) h (λ g. odd-more n (i + 1) r
         → (if b then odd_from n (i + 1) (rs ++ (f ∷ [])) else Some i) ≡ None
     by true g more = more g
     by false g more = cc g
-
-expects-more : (rows : Rows) (e e2 : Option ℕ) (f : List (List ℕ)) → Expects rows e
-    → IfSome e (λ x. e2 ≡ Some x) → e2 ≡ Some (length f) → Expects (rows ++ (f ∷ [])) e2
-unfolding odd_from
-expects-more [] e e2 f h s k = (k, refl)
-expects-more (r ∷ rs) e e2 f h s k =
-    let t : e2 ≡ Some (length r) = rw h.0 at s in
-    let same : length f ≡ length r = cc (t, k) in
-    (t, odd-more (length r) 1 rs f h.1 same)
 
 odd-here : (n i : ℕ) (rs more : Rows) (f : List (List ℕ)) → odd_from n i rs ≡ None → n ≢ length f → odd_from n i (rs ++ (f ∷ more)) ≡ Some (i + length rs)
 unfolding odd_from
@@ -209,78 +188,152 @@ none-known cfg s s2 y (Some z) f h = by (next_record cfg s [] [] y) refl h
     by None e n = refl
     by (Some p) e n = cc n.0
 
-reached-more : (cfg : Config) (s : State) (xs : List ℕ) (rows : Rows) (s2 : State) (ys : List ℕ) (f : List (List ℕ)) (s3 : State) (zs : List ℕ)
-    → Reached cfg s xs rows s2 ys → next_record cfg s2 [] [] ys ≡ Some (f, s3, zs) → Reached cfg s xs (rows ++ (f ∷ [])) s3 zs
-unfolding Reached
-reached-more cfg s xs [] s2 ys f s3 zs h e = ((f, s3, zs), rw (h.0, h.1) e, refl, (refl, refl))
-reached-more cfg s xs (r ∷ rs) s2 ys f s3 zs h e = (h.0, h.1, h.2, reached-more cfg h.0.1 h.0.2 rs s2 ys f s3 zs h.3 e)
+-- a state at which no record ends is between two
+clean-of : (s : State) → ends_at_end s ≡ false → Clean s
+clean-of st.StartRecord e = inl refl
+clean-of st.AfterCr e = inr refl
+clean-of st.StartField e = cc e
+clean-of st.InField e = cc e
+clean-of st.InQuoted e = cc e
+clean-of st.AfterQuote e = cc e
+clean-of st.InEscape e = cc e
+clean-of st.InComment e = cc e
 
-reached-none : (cfg : Config) (s : State) (xs : List ℕ) → Reached cfg s xs [] s xs
-unfolding Reached
-reached-none cfg s xs = (refl, refl)
+of-clean : (s : State) → Clean s → ends_at_end s ≡ false
+of-clean s (inl e) = ap ends_at_end e
+of-clean s (inr e) = ap ends_at_end e
 
--- a reader with the crate's defaults, without a header of its own, that has taken these records of these bytes
-pub record Stands {R : Type 0} (rem : R → Option (List ℕ)) (xs : List ℕ) (done : Rows) (rdr : Reader R) : Type 0 where
-  pub config : reader_config rdr ≡ default_config
-  pub trims : reader_trim rdr ≡ trim.None
-  pub flexible : is_flexible rdr ≡ false
-  pub ready : Ready rdr
-  pub expects : Expects done (expected_len rdr)
-  pub rest : List ℕ
-  pub source : source_of rem rdr ≡ Some rest
-  pub reached : Reached default_config st.StartRecord xs done (reader_state rdr) rest
-
-pub stands-first : {R : Type 0} (rem : R → Option (List ℕ)) (xs : List ℕ) (rdr : Reader R) → reader_config rdr ≡ default_config → reader_trim rdr ≡ trim.None
-    → is_flexible rdr ≡ false → names_headers rdr ≡ false → reader_headers rdr ≡ None → expected_len rdr ≡ None → reader_state rdr ≡ st.StartRecord
-    → source_of rem rdr ≡ Some xs → Stands rem xs [] rdr
-stands-first rem xs rdr config trims flexible names headers expected state source =
-    record {
-      config = config;
-      trims = trims;
-      flexible = flexible;
-      ready = inr (inr (names, headers));
-      expects = expected;
-      rest = xs;
-      source = source;
-      reached = rw state (reached-none default_config st.StartRecord xs);
-    }
+-- a reader of bytes that are lent has known bytes left
+known-left : (rdr : TextReader) → has_failed rdr ≡ false → (bytes : List ℕ) × (source_of lent rdr ≡ Some bytes)
+known-left rdr goes = by (not rdr.bom_checked && (rdr.at == 0) && (rdr.filled == 0))
+  where
+    by : (b : Bool) → (bytes : List ℕ) × ((if has_failed rdr then None else if b then Some (strip_bom rdr.rdr.now) else Some (drop rdr.at (take rdr.filled rdr.buffer) ++ rdr.rdr.now)) ≡ Some bytes)
+    by true = (strip_bom rdr.rdr.now, rw goes refl)
+    by false = (drop rdr.at (take rdr.filled rdr.buffer) ++ rdr.rdr.now, rw goes refl)
 
 -- what is left of a reader that has looked for a byte order mark
-left-of : {R : Type 0} (rem : R → Option (List ℕ)) (rdr : Reader R) → rdr.bom_checked ≡ true → source_of rem rdr ≡ pending_of (rem rdr.rdr) rdr
-left-of rem rdr checked = rw checked refl
+left-of : (rdr : TextReader) → rdr.bom_checked ≡ true → source_of lent rdr ≡ pending_of (lent rdr.rdr) rdr
+left-of rdr checked = rw checked refl
 
--- one more record
-pub stands-more : {R : Type 0} (rem : R → Option (List ℕ)) (xs : List ℕ) (done : Rows) (a b : Reader R) (f : List (List ℕ)) → Stands rem xs done a
-    → ReadRecord rem a b true f → took_first b ≡ true → is_flexible b ≡ is_flexible a → Stands rem xs (done ++ (f ∷ [])) b
-stands-more rem xs done a b f s reads first flexible =
-    let next = read-known default_config a.state b.state s.rest (pending_of (rem b.rdr) b) f (rw (s.config, s.source) at reads.0) in
-    let lengths = reads.5 refl s.flexible in
+left-is : (rdr : TextReader) (bytes : List ℕ) → source_of lent rdr ≡ Some bytes → records_left rdr ≡ records_from default_config (length bytes + 1) (reader_state rdr) bytes
+unfolding records_left
+left-is rdr bytes e = rw e refl
+
+-- a reader of a text that has read nothing
+pub first-left : (rdr : TextReader) (text : List ℕ) → reader_state rdr ≡ st.StartRecord → source_of lent rdr ≡ Some (strip_bom text) → records_left rdr ≡ records_of text
+unfolding records_of
+first-left rdr text start source =
+    left-is rdr (strip_bom text) source ∙ ap (λ (s : State). records_from default_config (length (strip_bom text) + 1) s (strip_bom text)) start
+
+-- a reader that took a record
+pub row-next : (a b : TextReader) (f : List (List ℕ)) → IsBetween a → ReadRecord lent a b true f → took_first b ≡ true → is_flexible b ≡ is_flexible a → has_failed b ≡ has_failed a
+    → (records_left a ≡ f ∷ records_left b) × IsBetween b
+row-next a b f s reads first flexible goes =
+    let y = known-left a s.goes in
+    let next = read-known default_config a.state b.state y.0 (pending_of (lent b.rdr) b) f (rw (s.config, y.1) at reads.0) in
+    let clean = clean-of a.state s.state in
+    let p : Read = (f, b.state, next.0) in
+    let whole = records-next default_config a.state y.0 p clean next.2 in
+    let left : source_of lent b ≡ Some next.0 = left-of b reads.1 ∙ next.1 in (
+      left-is a y.0 y.1 ∙ whole ∙ ap (λ (t : Rows). f ∷ t) (sym (left-is b next.0 left)),
+      record {
+        goes = goes ∙ s.goes;
+        config = reads.2 ∙ s.config;
+        trims = reads.3 ∙ s.trims;
+        flexible = flexible ∙ s.flexible;
+        ready = inl first;
+        state = of-clean b.state (read-leaves default_config a.state [] [] y.0 p next.2).0;
+      },
+    )
+
+-- a reader goes on to expect records of the length that it expected
+pub same-lengths : (old new : Option ℕ) (n : ℕ) → IsSome old → IfSome old (λ e. new ≡ Some e) → new ≡ Some n → (new ≡ old) × (old ≡ Some n)
+same-lengths None new n some is long = cc some
+same-lengths (Some e) new n some is long = (is, sym is ∙ long)
+
+-- a reader that found no record
+pub none-next : (a b : TextReader) (f : List (List ℕ)) → IsBetween a → ReadRecord lent a b false f → records_left a ≡ []
+none-next a b f s reads =
+    let y = known-left a s.goes in
+    left-is a y.0 y.1
+    ∙ records-none default_config a.state y.0 (none-known default_config a.state b.state y.0 (pending_of (lent b.rdr) b) f (rw (s.config, y.1) at reads.0))
+
+-- a reader that found a record of another length
+pub odd-next : (a b : TextReader) (k : ErrorKind) (pos : Option Position) (expected len : ℕ) → IsBetween a → k ≡ kind.UnequalLengths pos expected len → ExplainsRead lent a b true k
+    → (odd : List (List ℕ)) × (more : Rows) × (records_left a ≡ odd ∷ more) × (expected_len a ≢ Some (length odd))
+odd-next a b k pos expected len s e why =
+    let w = rw e at why in
+    let y = known-left a s.goes in
+    let next = read-known default_config a.state b.state y.0 (pending_of (lent b.rdr) b) w.3 (rw (s.config, y.1) at w.4) in
+    let p : Read = (w.3, b.state, next.0) in
+    let whole = records-next default_config a.state y.0 p (clean-of a.state s.state) next.2 in
+    (w.3, records_from default_config (length next.0 + 1) b.state next.0, left-is a y.0 y.1 ∙ whole, λ z. w.2 (by (sym w.1 ∙ z) ∙ w.5))
+  where
+    by : {x y : ℕ} → Some x ≡ Some y → x ≡ y
+    by e = cc e
+
+-- these rows were taken from a reader, each of them so many cells wide, and the next one has this number
+pub record Took (width : ℕ) (first now : TextReader) (number : ℕ) (rows : Rows) : Type 0 where
+  pub left : rows ++ records_left now ≡ records_left first
+  pub between : IsBetween now
+  pub expects : expected_len now ≡ Some width
+  pub even : odd_from width 1 rows ≡ None
+  pub count : number ≡ 1 + length rows
+
+pub took-none : (width : ℕ) (first : TextReader) → IsBetween first → expected_len first ≡ Some width → Took width first first 1 []
+unfolding odd_from
+took-none width first between expects = record { left = refl; between = between; expects = expects; even = refl; count = refl }
+
+pub took-wide : (width : ℕ) (first now new : TextReader) (number : ℕ) (rows : Rows) (row : List (List ℕ)) → Took width first now number rows → IsNext Row row now new → length row ≡ width
+took-wide width first now new number rows row t next = cc (t.expects, next.3)
+
+pub took-row : (width : ℕ) (first now new : TextReader) (number : ℕ) (rows : Rows) (row : List (List ℕ)) → Took width first now number rows → IsNext Row row now new
+    → Took width first new (number + 1) (rows ++ (row ∷ []))
+took-row width first now new number rows row t next =
     record {
-      config = reads.2 ∙ s.config;
-      trims = reads.3 ∙ s.trims;
-      flexible = flexible ∙ s.flexible;
-      ready = inl first;
-      expects = expects-more done a.expected b.expected f s.expects lengths.0 lengths.1;
-      rest = next.0;
-      source = left-of rem b reads.1 ∙ next.1;
-      reached = reached-more default_config st.StartRecord xs done a.state s.rest f b.state next.0 s.reached next.2;
+      left = append_assoc rows (row ∷ []) (records_left new) ∙ ap (λ (r : Rows). rows ++ r) (sym next.0) ∙ t.left;
+      between = next.1;
+      expects = next.2 ∙ t.expects;
+      even = odd-more width 1 rows row t.even (took-wide width first now new number rows row t next);
+      count = omega (arith, t.count, length-append rows (row ∷ []));
     }
 
--- no more records
-pub stands-last : {R : Type 0} (rem : R → Option (List ℕ)) (xs : List ℕ) (done : Rows) (a b : Reader R) (f : List (List ℕ)) → Stands rem xs done a
-    → ReadRecord rem a b false f → done ≡ records default_config xs
-stands-last rem xs done a b f s reads =
-    all-reached xs done a.state s.rest s.reached
-    (none-known default_config a.state b.state s.rest (pending_of (rem b.rdr) b) f (rw (s.config, s.source) at reads.0))
+-- all of them
+pub took-all : (width : ℕ) (first now new : TextReader) (number : ℕ) (rows : Rows) (row : List (List ℕ)) → Took width first now number rows → IsNext End row now new → rows ≡ records_left first
+took-all width first now new number rows row t next = sym (append-nil rows) ∙ ap (λ (r : Rows). rows ++ r) (sym next) ∙ t.left
 
--- the next record has another length
-pub stands-odd : {R : Type 0} (rem : R → Option (List ℕ)) (xs : List ℕ) (header : List (List ℕ)) (rows : Rows) (a b : Reader R) (k : ErrorKind) (pos : Option Position) (expected len : ℕ)
-    → Stands rem xs (header ∷ rows) a → k ≡ kind.UnequalLengths pos expected len → ExplainsRead rem a b true k
-    → (odd : List (List ℕ)) × (more : Rows) × (records default_config xs ≡ header ∷ (rows ++ (odd ∷ more))) × (odd_from (length header) 1 (rows ++ (odd ∷ more)) ≡ Some (1 + length rows))
-stands-odd rem xs header rows a b k pos expected len s e why =
-    let w = rw e at why in
-    let next = read-known default_config a.state b.state s.rest (pending_of (rem b.rdr) b) w.3 (rw (s.config, s.source) at w.4) in
-    let here = next-reached xs (header ∷ rows) a.state s.rest (w.3, b.state, next.0) s.reached next.2 in
-    let same : expected ≡ length header = cc (s.expects.0, w.1) in
-    let other : length header ≢ length w.3 = λ z. w.2 (same ∙ z ∙ w.5) in
-    (w.3, here.0, here.1, odd-here (length header) 1 rows here.0 w.3 s.expects.1 other)
+-- the next one has another length
+pub took-odd : (width : ℕ) (first now new : TextReader) (number : ℕ) (rows : Rows) (row : List (List ℕ)) → Took width first now number rows → IsNext Odd row now new
+    → odd_from width 1 (records_left first) ≡ Some number
+took-odd width first now new number rows row t next =
+    let other : width ≢ length next.0 = λ e. next.3 (t.expects ∙ ap (λ (n : ℕ). Some n) e) in
+    ap (odd_from width 1) (sym t.left ∙ ap (λ (r : Rows). rows ++ r) next.2) ∙ odd-here width 1 rows next.1 next.0 t.even other ∙ ap (λ (n : ℕ). Some n) (sym t.count)
+
+-- what rows make that were all taken, or behind which an odd one stands
+pub sheet-odd : (width odd : ℕ) (rows : Rows) → odd_from width 1 rows ≡ Some odd → sheet_of width rows ≡ Err (of_row BadRecord odd)
+unfolding sheet_of
+sheet-odd width odd rows e = rw e refl
+
+pub sheet-large : (width number : ℕ) (rows : Rows) → odd_from width 1 rows ≡ None → number ≡ 1 + length rows → nat_lt 4000000 ((number - 1) * width) ≡ true → sheet_of width rows ≡ Err (of_file TooLarge)
+unfolding sheet_of
+sheet-large width number rows e count large =
+    let n : number - 1 ≡ length rows = omega arith in
+    let more : nat_lt 4000000 (length rows * width) ≡ true = rw n at large in
+    rw (e, more) refl
+
+pub sheet-whole : (width number : ℕ) (rows : Rows) → odd_from width 1 rows ≡ None → number ≡ 1 + length rows → nat_lt 4000000 ((number - 1) * width) ≡ false
+    → (sheet_of width rows ≡ Ok (record { width = width; rows = rows })) × (length rows * width ≤ 4000000)
+unfolding sheet_of
+sheet-whole width number rows e count small =
+    let n : number - 1 ≡ length rows = omega arith in
+    let less : nat_lt 4000000 (length rows * width) ≡ false = rw n at small in
+    (rw (e, less) refl, ltb-false 4000000 (length rows * width) less)
+
+-- one more row, where that is not too many cells
+pub fewer : (number width : ℕ) (rows : Rows) (row : List (List ℕ)) → number ≡ 1 + length rows → length (rows ++ (row ∷ [])) * width ≤ 4000000
+    → (number * width ≤ 4000000) × (length rows * width ≤ 4000000)
+fewer number width rows row count few =
+    let longer : length (rows ++ (row ∷ [])) ≡ length rows + 1 = length-append rows (row ∷ []) in
+    let some : (length rows + 1) * width ≤ 4000000 = rw longer at few in
+    let same : number ≡ length rows + 1 = omega (arith, count) in
+    (rw same some, omega (arith, some))

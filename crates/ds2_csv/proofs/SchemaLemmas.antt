@@ -12,12 +12,14 @@ use Rattle.ds2_base.specs.declared.name.BadName.{BadName}
 use Rattle.ds2_decimal.specs.Text.{read}
 use Rattle.ds2_value.specs.Schema.{has_name, distinct_names, types_in_bounds, is_schema}
 use Rattle.ds2_value.specs.Types.{in_bounds, is_from_one}
+use Rattle.ds2_value.specs.declared.schema.Column.{Column}
 use Rattle.ds2_value.specs.declared.ty.Ty.{Ty}
 use Rattle.ds2_value.specs.declared.ty.Ty.TheVariants.{BigInt, Decimal as DecimalOf, Varchar}
 use Rattle.ds2_csv.specs.Columns.{cells_of, greatest, digits_after, precision_of, width_of, some_and_all, given, are_integers, decimals_of, type_of_cells, columns_from}
 use Rattle.ds2_csv.specs.Header.{is_blank, last_place, type_spelled, plain_heading, typed_heading, heading_by, heading_of_text, heading_of, is_taken, distinct_heading, and_headings, headings_after, headings_of}
 use Rattle.ds2_csv.specs.Records.{Rows}
 use Rattle.ds2_csv.specs.Refusals.{of_column}
+use Rattle.ds2_csv.specs.Typed.{are_typed}
 use Rattle.ds2_csv.specs.declared.heading.Heading.{Heading}
 use Rattle.ds2_csv.specs.declared.refusal.CsvKind.{CsvKind}
 use Rattle.ds2_csv.specs.declared.refusal.CsvKind.TheVariants.{DuplicateColumn}
@@ -178,3 +180,16 @@ unfolding distinct
 headings-schema cells hs rows e =
     let good = headings-good [] cells hs e refl refl in
     and_from (distinct_names (columns_from 0 hs rows)) (types_in_bounds (columns_from 0 hs rows)) (columns-distinct 0 hs rows ∙ good.1) (columns-bounds 0 hs rows good.0)
+
+-- columns whose headings tell their types are the same over all rows
+pub columns-typed : (column : ℕ) (hs : List Heading) (a b : Rows) → are_typed hs ≡ true → columns_from column hs a ≡ columns_from column hs b
+unfolding columns_from
+columns-typed column [] a b all = refl
+columns-typed column (h ∷ hs) a b all =
+    let e = both (is_some h.ty) (are_typed hs) all in
+    ap (λ (ty : Ty). record { name = h.name; ty = ty } ∷ columns_from (column + 1) hs a) (by h.ty e.0)
+    ∙ ap (λ (t : List Column). record { name = h.name; ty = unwrap_or h.ty (type_of_cells (cells_of column b)) } ∷ t) (columns-typed (column + 1) hs a b e.1)
+  where
+    by : (o : Option Ty) → is_some o ≡ true → unwrap_or o (type_of_cells (cells_of column a)) ≡ unwrap_or o (type_of_cells (cells_of column b))
+    by None e = cc e
+    by (Some ty) e = refl

@@ -1,5 +1,6 @@
 -- Rows out of cells that stand one behind the other.
 use Rattle.std.proofs.Common.{◌≡◌, ◌≤◌, ◌<◌, ◌+◌, ◌*◌, ℕ, zero, suc, List, [], ◌∷◌, ◌++◌, Option, Some, None, length, take, drop, refl, sym, ap, ◌∙◌, arith, unwrap_or, slice_get, length-drop}
+use Rattle.std.proofs.lemmas.List.{drop-drop}
 use Rattle.csv.specs.Records.{field_at}
 use Rattle.ds2_csv.specs.Columns.{cell_at}
 use Rattle.ds2_csv.specs.Records.{Rows}
@@ -139,3 +140,22 @@ row-wide (suc count) width cells long zero h = front cells width (omega arith)
     front [] (suc n) l = absurd (omega arith)
     front (x ∷ xs) (suc n) l = ap (λ (k : ℕ). suc k) (front xs n (omega arith))
 row-wide (suc count) width cells long (suc i) h = row-wide count width (drop width cells) (omega (arith, length-drop width cells)) i (omega arith)
+
+-- the cells of a row
+pub row-at : (count width row : ℕ) (cells : List (List ℕ)) → row < count → take width (drop (row * width) cells) ≡ unwrap_or (slice_get (rows_in count width cells) row) []
+unfolding rows_in
+row-at zero width row cells h = absurd (omega arith)
+row-at (suc count) width zero cells h = let e : 0 * width ≡ 0 = omega arith in ap (λ n. take width (drop n cells)) e
+row-at (suc count) width (suc row) cells h =
+    let e : suc row * width ≡ width + row * width = omega arith in
+    ap (λ n. take width (drop n cells)) e ∙ ap (λ (t : List (List ℕ)). take width t) (sym (drop-drop (row * width) width cells)) ∙ row-at count width row (drop width cells) (omega arith)
+
+pub row-within : (count width row : ℕ) (cells : List (List ℕ)) → length cells ≡ count * width → row < length (rows_in count width cells) → (row < count) × (row * width + width ≤ length cells)
+row-within count width row cells long h =
+    let lt : row < count = omega (arith, rows_in-length count width cells) in
+    (lt, omega (arith, long, more row count lt))
+  where
+    more : (r n : ℕ) → r < n → r * width + width ≤ n * width
+    more r zero l = absurd (omega arith)
+    more zero (suc n) l = omega arith
+    more (suc r) (suc n) l = let k = more r n (omega arith) in omega arith

@@ -1,11 +1,12 @@
 -- Values that are read one after the other.
-use Rattle.std.proofs.Common.{◌≡◌, ◌≤◌, ◌<◌, ◌+◌, ℕ, zero, suc, Bool, true, false, List, [], ◌∷◌, ◌++◌, Option, Some, None, length, take, drop, get_or, refl, sym, ap, ◌∙◌, arith, append_assoc, slice_get, unwrap_or}
+use Rattle.std.proofs.Common.{◌≡◌, ◌≤◌, ◌<◌, ◌+◌, ℕ, zero, suc, Bool, true, false, List, [], ◌∷◌, ◌++◌, Option, Some, None, length, take, drop, get_or, refl, sym, ap, ◌∙◌, arith, append_assoc, length-drop, slice_get, unwrap_or}
 use Rattle.std.specs.Prelude.{Result, Ok, Err, ◌&&◌}
 use Rattle.std.proofs.lemmas.List.{append-nil}
 use Rattle.ds2_value.specs.Schema.{types_in_bounds, row_fits}
 use Rattle.ds2_value.specs.Types.{in_bounds, fits}
 use Rattle.ds2_value.specs.declared.schema.Column.{Column}
 use Rattle.ds2_value.specs.declared.value.Value.{Value}
+use Rattle.ds2_csv.specs.Added.{IsAdded}
 use Rattle.ds2_csv.specs.Cells.{value_of}
 use Rattle.ds2_csv.specs.Columns.{cell_at}
 use Rattle.ds2_csv.specs.Refusals.{of_cell, with_first}
@@ -18,7 +19,10 @@ use Rattle.ds2_base.specs.declared.stop.Stop.{Stop}
 use Rattle.ds2_base.specs.declared.stop.Stop.TheVariants.{Refused, OutOfMemory}
 use Rattle.ds2_table.specs.Table.{Contents}
 use Rattle.ds2_csv.specs.Reads.{table_of, under_columns}
+use Rattle.ds2_csv.specs.Typed.{with_values, and_row}
 use Rattle.ds2_csv.proofs.ColumnLemmas.{drop-item, drop-none}
+use Rattle.ds2_csv.proofs.Sheets.{field_at-get, get-drop}
+use Rattle.csv.specs.Records.{field_at}
 
 -- items that are done before those to come
 abbrev pub with_front : {X : Type 0} → List X → Result (List X) CsvRefusal → Result (List X) CsvRefusal
@@ -34,6 +38,24 @@ cell-item : (cells : List (List ℕ)) (i : ℕ) → i < length cells → drop i 
 cell-item [] i h = absurd (omega arith)
 cell-item (x ∷ xs) zero h = refl
 cell-item (x ∷ xs) (suc i) h = let n : suc i + 1 ≡ suc (i + 1) = omega arith in cell-item xs i (omega arith) ∙ ap (λ k. cell_at i xs ∷ drop k (x ∷ xs)) (sym n)
+
+-- a field behind a place
+pub found : (cells : List (List ℕ)) (from i : ℕ) (cell : List ℕ) → Some cell ≡ field_at cells (from + i) → cell ≡ cell_at i (drop from cells)
+found cells from i cell is = ap (λ (o : Option (List ℕ)). unwrap_or o []) (is ∙ field_at-get cells (from + i) ∙ sym (get-drop cells from i))
+
+pub enough-cells : (cells : List (List ℕ)) (from n : ℕ) → from + n ≤ length cells → n ≤ length (drop from cells)
+enough-cells cells from n h = omega (arith, length-drop from cells)
+
+-- columns read no more cells than they are
+pub values-front : (row column width : ℕ) (columns : List Column) (cells : List (List ℕ)) → length columns ≤ width → values_from row column columns (take width cells) ≡ values_from row column columns cells
+unfolding values_from
+values-front row column width [] cells h = refl
+values-front row column zero (c ∷ cs) cells h = absurd (omega arith)
+values-front row column (suc width) (c ∷ cs) [] h = refl
+values-front row column (suc width) (c ∷ cs) (x ∷ xs) h = ap (λ (r : Result (List Value) CsvRefusal). with_first (value_at row column (value_of c.ty x)) r) (values-front row (column + 1) width cs xs (omega arith))
+
+pub values-row : (number width : ℕ) (columns : List Column) (cells row : List (List ℕ)) → take width cells ≡ row → length columns ≤ width → values_from number 1 columns cells ≡ values_from number 1 columns row
+values-row number width columns cells row is h = sym (values-front number 1 width columns cells h) ∙ ap (λ (t : List (List ℕ)). values_from number 1 columns t) is
 
 step : (row i : ℕ) (columns : List Column) (cells : List (List ℕ)) (c : Column) → i < length columns → length columns ≤ length cells → c ≡ get_or columns i c
     → values_from row (i + 1) (drop i columns) (drop i cells) ≡ with_first (value_at row (i + 1) (value_of c.ty (cell_at i cells))) (values_from row (i + 1 + 1) (drop (i + 1) columns) (drop (i + 1) cells))
@@ -149,3 +171,55 @@ unfolding rows_from
 rows-ended columns row rows table end same so =
     ap (table_of columns) (sym so ∙ ap (λ (t : Rows). with_front table.rows (rows_from columns (row + 1) t)) (drop-none rows row end) ∙ ap (λ (t : List (List Value)). Ok t) (append-nil table.rows))
     ∙ ap (λ (t : List Column). Ok (record { columns = t; rows = table.rows })) (sym same)
+
+-- items and one more behind them, or the first refusal
+abbrev with_last : {X : Type 0} → Result (List X) CsvRefusal → Result X CsvRefusal → Result (List X) CsvRefusal
+with_last (Err refusal) last = Err refusal
+with_last (Ok xs) (Err refusal) = Err refusal
+with_last (Ok xs) (Ok x) = Ok (xs ++ (x ∷ []))
+
+first-last : {X : Type 0} (first : Result X CsvRefusal) (xs : Result (List X) CsvRefusal) (last : Result X CsvRefusal) → with_first first (with_last xs last) ≡ with_last (with_first first xs) last
+first-last (Err e) xs last = refl
+first-last (Ok x) (Err e) last = refl
+first-last (Ok x) (Ok xs) (Err e) = refl
+first-last (Ok x) (Ok xs) (Ok y) = refl
+
+rows-more : (columns : List Column) (row : ℕ) (rows : Rows) (cells : List (List ℕ)) → rows_from columns row (rows ++ (cells ∷ [])) ≡ with_last (rows_from columns row rows) (values_from (row + length rows) 1 columns cells)
+unfolding rows_from
+rows-more columns row [] cells = let n : row ≡ row + 0 = omega arith in ap (λ k. with_first (values_from k 1 columns cells) (Ok [])) n ∙ by (values_from (row + 0) 1 columns cells)
+  where
+    by : (v : Result (List Value) CsvRefusal) → with_first v (Ok []) ≡ with_last (Ok []) v
+    by (Err e) = refl
+    by (Ok vs) = refl
+rows-more columns row (r ∷ rs) cells =
+    let n : row + 1 + length rs ≡ row + suc (length rs) = omega arith in
+    ap (λ (t : Result (List (List Value)) CsvRefusal). with_first (values_from row 1 columns r) t)
+    (rows-more columns (row + 1) rs cells ∙ ap (λ k. with_last (rows_from columns (row + 1) rs) (values_from k 1 columns cells)) n)
+    ∙ first-last (values_from row 1 columns r) (rows_from columns (row + 1) rs) (values_from (row + suc (length rs)) 1 columns cells)
+
+-- the table of rows and one more
+pub under-more : (columns : List Column) (rows : Rows) (cells : List (List ℕ)) (number : ℕ) → number ≡ 1 + length rows
+    → and_row number cells (under_columns columns rows) ≡ under_columns columns (rows ++ (cells ∷ []))
+under-more columns rows cells number is =
+    by (rows_from columns 1 rows) ∙ ap (λ n. table_of columns (with_last (rows_from columns 1 rows) (values_from n 1 columns cells))) is ∙ ap (table_of columns) (sym (rows-more columns 1 rows cells))
+  where
+    values : (all : List (List Value)) (v : Result (List Value) CsvRefusal) → with_values (record { columns = columns; rows = all }) v ≡ table_of columns (with_last (Ok all) v)
+    values all (Err e) = refl
+    values all (Ok vs) = refl
+
+    by : (r : Result (List (List Value)) CsvRefusal) → and_row number cells (table_of columns r) ≡ table_of columns (with_last r (values_from number 1 columns cells))
+    by (Err e) = refl
+    by (Ok all) = values all (values_from number 1 columns cells)
+
+pub under-none : (columns : List Column) → under_columns columns [] ≡ Ok (record { columns = columns; rows = [] })
+unfolding rows_from
+under-none columns = refl
+
+-- a value that was added, and one that was not
+pub was-added : (good : Bool) (old new : List Value) (o : Option Value) → good ≡ true → IsAdded good old new o → (v : Value) × (Some v ≡ o) × (new ≡ old ++ (v ∷ []))
+was-added good old new None is h = cc (is, h)
+was-added good old new (Some v) is h = (v, refl, h.1)
+
+pub not-added : (good : Bool) (old new : List Value) (o : Option Value) → good ≡ false → IsAdded good old new o → None ≡ o
+not-added good old new None is h = refl
+not-added good old new (Some v) is h = cc (is, h.0)

@@ -1,11 +1,11 @@
 -- Cells and rows that are written one after the other.
-use Rattle.std.proofs.Common.{◌≡◌, ◌≤◌, ◌<◌, ℕ, zero, suc, List, [], ◌∷◌, ◌++◌, ◌-◌, length, get_or, take, drop, map, refl, sym, ap, ◌∙◌, arith, append_assoc}
+use Rattle.std.proofs.Common.{◌≡◌, ◌≤◌, ◌<◌, ℕ, List, [], ◌∷◌, ◌++◌, ◌-◌, length, get_or, take, drop, map, refl, sym, ap, ◌∙◌, arith, append_assoc}
 use Rattle.std.proofs.lemmas.List.{append-nil}
 use Rattle.csv.specs.Writing.{default_writer, row_text}
 use Rattle.ds2_value.specs.declared.schema.Column.{Column}
 use Rattle.ds2_value.specs.declared.value.Value.{Value}
 use Rattle.ds2_csv.specs.Records.{text_of_rows}
-use Rattle.ds2_csv.specs.Text.{heading_text, cell_text, cells_text}
+use Rattle.ds2_csv.specs.Text.{heading_text, cell_text, cells_text, text}
 
 -- what follows the first item
 abbrev pub after : {X : Type 0} → List X → List X
@@ -68,36 +68,31 @@ pub rows_text : List Column → List (List Value) → List ℕ
 rows_text columns rows = text_of_rows (map (cells_text columns) rows)
 
 -- one more row
-pub rows_more : (columns : List Column) (rows : List (List Value)) (i : ℕ) (row : List Value) → i < length rows → row ≡ get_or rows i row
-    → rows_text columns (take (suc i) rows) ≡ rows_text columns (take i rows) ++ row_text default_writer (cells_text columns row)
+rows_after : (columns : List Column) (rows : List (List Value)) (row : List Value)
+    → rows_text columns (rows ++ row ∷ []) ≡ rows_text columns rows ++ row_text default_writer (cells_text columns row)
 unfolding rows_text text_of_rows
-rows_more columns [] i row lt is = absurd (omega arith)
-rows_more columns (r ∷ rs) zero row lt is =
-    ap (λ (t : List Value). row_text default_writer (cells_text columns t) ++ []) (sym is) ∙ append-nil (row_text default_writer (cells_text columns row))
-rows_more columns (r ∷ rs) (suc i) row lt is =
-    ap (λ (t : List ℕ). row_text default_writer (cells_text columns r) ++ t) (rows_more columns rs i row (omega arith) is)
-    ∙ sym (append_assoc (row_text default_writer (cells_text columns r)) (rows_text columns (take i rs)) (row_text default_writer (cells_text columns row)))
+rows_after columns [] row = append-nil (row_text default_writer (cells_text columns row))
+rows_after columns (r ∷ rs) row =
+    ap (λ (t : List ℕ). row_text default_writer (cells_text columns r) ++ t) (rows_after columns rs row)
+    ∙ sym (append_assoc (row_text default_writer (cells_text columns r)) (rows_text columns rs) (row_text default_writer (cells_text columns row)))
 
 pub rows_nothing : (columns : List Column) → rows_text columns [] ≡ []
 unfolding rows_text text_of_rows
 rows_nothing columns = refl
-
-pub rows_none : (columns : List Column) (rows : List (List Value)) → rows_text columns (take 0 rows) ≡ []
-unfolding rows_text text_of_rows
-rows_none columns [] = refl
-rows_none columns (r ∷ rs) = refl
-
-pub rows_all : (columns : List Column) (rows : List (List Value)) (i : ℕ) → length rows ≤ i → rows_text columns (take i rows) ≡ rows_text columns rows
-rows_all columns rows i h = ap (λ (t : List (List Value)). rows_text columns t) (all rows i h)
-  where
-    all : (rs : List (List Value)) (n : ℕ) → length rs ≤ n → take n rs ≡ rs
-    all [] zero h = refl
-    all [] (suc n) h = refl
-    all (r ∷ rs) zero h = absurd (omega arith)
-    all (r ∷ rs) (suc n) h = ap (λ (t : List (List Value)). r ∷ t) (all rs n (omega arith))
 
 -- the header and the rows
 pub header_and_rows : (header : List (List ℕ)) (columns : List Column) (rows : List (List Value))
     → text_of_rows (header ∷ map (cells_text columns) rows) ≡ row_text default_writer header ++ rows_text columns rows
 unfolding rows_text text_of_rows
 header_and_rows header columns rows = refl
+
+-- the text of a table with one more row
+pub text_after : (columns : List Column) (rows : List (List Value)) (row : List Value)
+    → text (record { columns = columns; rows = rows ++ row ∷ [] }) ≡ text (record { columns = columns; rows = rows }) ++ row_text default_writer (cells_text columns row)
+unfolding text
+text_after columns rows row =
+    let header = map heading_text columns in
+    header_and_rows header columns (rows ++ row ∷ [])
+    ∙ ap (λ (t : List ℕ). row_text default_writer header ++ t) (rows_after columns rows row)
+    ∙ sym (append_assoc (row_text default_writer header) (rows_text columns rows) (row_text default_writer (cells_text columns row)))
+    ∙ ap (λ (t : List ℕ). t ++ row_text default_writer (cells_text columns row)) (sym (header_and_rows header columns rows))

@@ -1,11 +1,16 @@
+pub mod Added
 pub mod Cells
 pub mod Columns
 pub mod Header
-pub mod Kept
+pub mod Inferred
+pub mod Law
 pub mod Number
+pub mod Reader
 pub mod Reads
 pub mod Records
 pub mod Refusals
 pub mod Sheet
+pub mod Short
 pub mod Text
+pub mod Typed
 pub mod Values

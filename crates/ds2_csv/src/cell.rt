@@ -1,13 +1,14 @@
 //! The value of a cell.
+ghost use Rattle.ds2_csv.specs.Added.{IsAdded};
 ghost use Rattle.std.specs.Prelude.{◌≡◌, ◌≤◌, IfOk, IfSome, IsTrue, nat_le, option_map};
 ghost use Rattle.ds2_csv.specs.Cells.{is_null_mark, is_missing, unescaped, decoded, decimal_in, filled, char_value, varchar_value, value_of};
 ghost use Rattle.ds2_base.specs.Characters.{char_count};
 ghost use Rattle.ds2_value.specs.Types.{in_bounds, fits};
 
+use crate::decimal::decimal;
 use crate::number::integer;
 use ds2_base::{OutOfMemory, Text, char_count};
-use ds2_decimal::Dec;
-use ds2_value::{Ty, Value};
+use ds2_value::{Row, Ty, Value};
 use std::alloc::Global;
 
 /// Whether a cell of a number column is null: it is empty, or `\N`.
@@ -28,21 +29,6 @@ pub fn decoded(cell: &str) -> Option<&str>
         [b'\\', b'N'] => None,
         [b'\\', b'\\', ..] => Some(cell.split_at(1).1),
         _ => Some(cell),
-    }
-}
-
-// A decimal in DECIMAL(p,s).
-fn decimal_in(p: u8, s: u8, d: Dec) -> Option<Value>
-    requires { IsTrue (in_bounds (Ty.Decimal p s)) }
-    ensures value { result ≡ decimal_in p s d }
-    ensures fit { IfSome result (λ v. IsTrue (fits v (Ty.Decimal p s))) }
-{
-    if d.scale() > s {
-        return None;
-    }
-    match d.rescale(p, s) {
-        Ok(e) => Some(Value::Dec(e)),
-        Err(_) => None,
     }
 }
 
@@ -100,46 +86,73 @@ fn varchar_value(alloc: Global, n: u16, cell: &str) -> Result<Option<Value>, Out
     }
 }
 
+// Adds a value at the end, where there is one.
+fn add(values: &mut Row, value: Option<Value>) -> Result<bool, OutOfMemory>
+    ensures { IfOk result (λ good. IsAdded good values.old values.new value) }
+{
+    match value {
+        Some(value) => {
+            values.push(value)?;
+            Ok(true)
+        }
+        None => Ok(false),
+    }
+}
+
 #[tactic(auto, unfolding(crate::specs::Cells::value_of))]
-fn bigint_value(cell: &[u8]) -> Option<Value>
-    ensures value { result ≡ value_of Ty.BigInt cell.now }
-    ensures fit { IfSome result (λ v. IsTrue (fits v Ty.BigInt)) }
+fn add_bigint(values: &mut Row, cell: &[u8]) -> Result<bool, OutOfMemory>
+    ensures added { IfOk result (λ good. IsAdded good values.old values.new (value_of Ty.BigInt cell.now)) }
+    ensures fit { IfOk result (λ good. IfSome (value_of Ty.BigInt cell.now) (λ v. IsTrue (fits v Ty.BigInt))) }
 {
     if is_missing(cell) {
-        return Some(Value::Null);
+        values.push(Value::Null)?;
+        return Ok(true);
     }
     match integer(cell) {
-        Some(i) => Some(Value::Int(i)),
-        None => None,
+        Some(i) => {
+            values.push(Value::Int(i))?;
+            Ok(true)
+        }
+        None => Ok(false),
     }
 }
 
 #[tactic(auto, unfolding(crate::specs::Cells::value_of))]
-fn decimal_value(p: u8, s: u8, cell: &str) -> Option<Value>
+fn add_decimal(values: &mut Row, p: u8, s: u8, cell: &str) -> Result<bool, OutOfMemory>
     requires { IsTrue (in_bounds (Ty.Decimal p s)) }
-    ensures value { result ≡ value_of (Ty.Decimal p s) cell.now }
-    ensures fit { IfSome result (λ v. IsTrue (fits v (Ty.Decimal p s))) }
+    ensures added { IfOk result (λ good. IsAdded good values.old values.new (value_of (Ty.Decimal p s) cell.now)) }
+    ensures fit { IfOk result (λ good. IfSome (value_of (Ty.Decimal p s) cell.now) (λ v. IsTrue (fits v (Ty.Decimal p s)))) }
 {
     if is_missing(cell.as_bytes()) {
-        return Some(Value::Null);
+        values.push(Value::Null)?;
+        return Ok(true);
     }
-    match Dec::read(cell) {
-        Some(d) => decimal_in(p, s, d),
-        None => None,
+    let Some(d) = decimal(cell) else {
+        return Ok(false);
+    };
+    if d.scale() > s {
+        return Ok(false);
+    }
+    match d.rescale(p, s) {
+        Ok(e) => {
+            values.push(Value::Dec(e))?;
+            Ok(true)
+        }
+        Err(_) => Ok(false),
     }
 }
 
-/// The value of a cell in a column of a type; None where it has none.
+/// Adds the value of a cell in a column of a type at the end, and says whether there is one.
 #[tactic(auto, unfolding(crate::specs::Cells::value_of))]
-pub fn value(alloc: Global, ty: Ty, cell: &str) -> Result<Option<Value>, OutOfMemory>
+pub fn add_value(alloc: Global, values: &mut Row, ty: Ty, cell: &str) -> Result<bool, OutOfMemory>
     requires { IsTrue (in_bounds ty) }
-    ensures value { IfOk result (λ v. v ≡ value_of ty cell.now) }
-    ensures fit { IfOk result (λ v. IfSome v (λ x. IsTrue (fits x ty))) }
+    ensures added { IfOk result (λ good. IsAdded good values.old values.new (value_of ty cell.now)) }
+    ensures fit { IfOk result (λ good. IfSome (value_of ty cell.now) (λ v. IsTrue (fits v ty))) }
 {
     match ty {
-        Ty::BigInt => Ok(bigint_value(cell.as_bytes())),
-        Ty::Decimal { p, s } => Ok(decimal_value(p, s, cell)),
-        Ty::Char { n } => char_value(alloc, n, cell),
-        Ty::Varchar { n } => varchar_value(alloc, n, cell),
+        Ty::BigInt => add_bigint(values, cell.as_bytes()),
+        Ty::Decimal { p, s } => add_decimal(values, p, s, cell),
+        Ty::Char { n } => add(values, char_value(alloc, n, cell)?),
+        Ty::Varchar { n } => add(values, varchar_value(alloc, n, cell)?),
     }
 }

@@ -1,5 +1,5 @@
 //! The cells of a file.
-ghost use Rattle.std.specs.Prelude.{◌≡◌, ◌<◌, ℕ, [], length, unwrap_or, slice_get, IfOk};
+ghost use Rattle.std.specs.Prelude.{◌≡◌, ◌<◌, ◌≤◌, ◌+◌, ℕ, [], length, take, drop, unwrap_or, slice_get, IfOk};
 ghost use Rattle.csv.specs.Records.{fields_of};
 ghost use Rattle.ds2_csv.specs.Columns.{cell_at};
 ghost use Rattle.ds2_csv.specs.Sheet.{with_row};
@@ -74,6 +74,16 @@ impl Grid {
         ensures wide { (i : ℕ) → i < length self.now.rows → length (unwrap_or (slice_get self.now.rows i) []) ≡ self.now.width }
     {
         self.count
+    }
+
+    /// The cells of all rows, one behind the other, and where those of a row begin among them.
+    pub fn row(&self, row: usize) -> (&StringRecord, usize)
+        requires { row < length self.now.rows }
+        ensures cells { take self.now.width (drop result.1 (fields_of result.0.now)) ≡ unwrap_or (slice_get self.now.rows row) [] }
+        ensures within { result.1 + self.now.width ≤ length (fields_of result.0.now) }
+    {
+        let count = self.cells.len();
+        (&self.cells, row * self.width)
     }
 
     /// The cell of a row in a column; the empty text where there is none.

@@ -4,20 +4,27 @@
 mod blanks;
 mod cell;
 mod column;
+mod decimal;
 mod grid;
 mod header;
 mod heading;
+mod inference;
+pub mod laws;
 mod number;
 mod part;
 mod read;
 mod records;
 mod refusal;
+mod rows;
 mod spelling;
 #[cfg(test)]
 mod tests;
+mod typed;
 mod values;
 mod write;
+mod writer;
 
 pub use read::read_table;
 pub use refusal::{CsvKind, CsvRefusal};
-pub use write::write_table;
+pub use write::{write_rows, write_table};
+pub use writer::TableWriter;

@@ -1,14 +1,33 @@
 //! Integers.
-ghost use Rattle.std.specs.Prelude.{◌≡◌, ◌≤◌, ◌^◌, IfSome};
+ghost use Rattle.std.specs.Prelude.{◌≡◌, ◌≤◌, ◌^◌, ◌+◌, ◌*◌, length, IfSome};
+ghost use Rattle.ds2_csv.specs.Short.{number_behind};
 ghost use Rattle.ds2_csv.specs.Number.{begins_well, size_of, below_zero, not_below_zero, integer_of};
 
 /// The greatest number behind which any digit may stand, so that the whole is at most 2^63 + 1.
 const MOST: u64 = 922_337_203_685_477_580;
 
-fn begins_well(digits: &[u8]) -> bool
+pub(crate) fn begins_well(digits: &[u8]) -> bool
     ensures { result ≡ begins_well digits.now }
 {
     !digits.is_empty() && !(digits.len() > 1 && digits[0] == b'0')
+}
+
+/// The number that digits spell behind those of `n`, with at most 18 digits in all; None where a byte is no digit.
+pub(crate) fn number_behind(n: u64, digits: &[u8]) -> Option<u64>
+    requires { (n + 1) * 10 ^ length digits.now ≤ 10 ^ 18 }
+    ensures value { result ≡ number_behind n digits.now }
+    ensures room { IfSome result (λ m. m + 1 ≤ (n + 1) * 10 ^ length digits.now) }
+{
+    let mut number = n;
+    let mut rest = digits;
+    while let [c, after @ ..] = rest {
+        if !c.is_ascii_digit() {
+            return None;
+        }
+        number = number * 10 + (*c - b'0') as u64;
+        rest = after;
+    }
+    Some(number)
 }
 
 /// The size of an integer that is spelled by `digits`, which have no 0 too many in front; none above 2^63.
@@ -18,6 +37,9 @@ fn size(digits: &[u8]) -> Option<u64>
 {
     if !begins_well(digits) {
         return None;
+    }
+    if digits.len() <= 18 {
+        return number_behind(0, digits);
     }
     let mut n = 0u64;
     let mut rest = digits;

@@ -1,4 +1,6 @@
 //! Why bytes are no table.
+ghost use Rattle.std.specs.Prelude.{◌≡◌};
+ghost use Rattle.ds2_csv.specs.Refusals.{of_file, of_row};
 
 /// The kind of a refusal, in the order in which the reasons are looked for.
 #[derive(Clone, Copy, Debug, PartialEq, Eq)]
@@ -28,4 +30,26 @@ pub struct CsvRefusal {
     pub kind: CsvKind,
     pub row: u64,
     pub column: u32,
+}
+
+/// A refusal of the file as a whole.
+pub(crate) fn of_file(kind: CsvKind) -> CsvRefusal
+    ensures { result ≡ of_file kind }
+{
+    CsvRefusal {
+        kind,
+        row: 0,
+        column: 0,
+    }
+}
+
+/// A refusal of a row.
+pub(crate) fn of_row(kind: CsvKind, row: u64) -> CsvRefusal
+    ensures { result ≡ of_row kind row }
+{
+    CsvRefusal {
+        kind,
+        row,
+        column: 0,
+    }
 }

@@ -1,73 +1,80 @@
-//! Small files: the table that each means, as it is written again, or why it means none.
-use crate::{CsvKind, CsvRefusal, read_table, write_table};
-use ds2_base::{List, OutOfMemory, Stop};
+//! Files by hand: the table that each means, as it is written again, or why it means none.
+mod built;
+mod cells;
+mod headers;
+mod limits;
+mod records;
+
+use crate::number::integer;
+use crate::part::cut;
+use crate::{read_table, write_table};
+use ds2_base::{Bytes, List, OutOfMemory, Stop};
 use std::alloc::Global;
 
-// Whether a file means the table that is written so.
-fn means(alloc: Global, file: &str, text: &str) -> Result<bool, OutOfMemory> {
-    let bytes = List::from_slice(alloc, file.as_bytes())?;
-    match read_table(alloc, &bytes) {
-        Ok(table) => Ok(write_table(alloc, &table)?.as_slice() == text.as_bytes()),
-        Err(Stop::Refused(_)) => Ok(false),
+// What a file means: its table as it is written again, or its refusal behind a `!`.
+fn meaning(alloc: Global, file: &Bytes) -> Result<Bytes, OutOfMemory> {
+    match read_table(alloc, file) {
+        Ok(table) => write_table(alloc, &table),
+        Err(Stop::Refused(refusal)) => {
+            let kind = refusal.kind;
+            let row = refusal.row;
+            let column = refusal.column;
+            let text = format!(in alloc; "!{kind:?} {row} {column}")?;
+            List::from_slice(alloc, text.as_bytes())
+        }
         Err(Stop::OutOfMemory) => Err(OutOfMemory),
     }
 }
 
-// Whether a file is refused so.
-fn is_refused(alloc: Global, file: &[u8], want: CsvRefusal) -> Result<bool, OutOfMemory> {
-    let bytes = List::from_slice(alloc, file)?;
-    match read_table(alloc, &bytes) {
-        Ok(_) => Ok(false),
-        Err(Stop::Refused(refusal)) => Ok(refusal == want),
-        Err(Stop::OutOfMemory) => Err(OutOfMemory),
+// The bytes that are written as a front, `^`, a piece, `^`, how often it stands there, `^` and a back, or simply as they are.
+fn bytes(alloc: Global, text: &[u8]) -> Result<Bytes, OutOfMemory> {
+    let (front, rest) = cut(text, b'^');
+    let (piece, rest) = cut(rest, b'^');
+    let (count, back) = cut(rest, b'^');
+    let mut bytes = List::from_slice(alloc, front)?;
+    for _ in 0..integer(count).unwrap_or(0) {
+        bytes.append(piece)?;
     }
+    bytes.append(back)?;
+    Ok(bytes)
 }
 
-fn tables_hold(alloc: Global) -> Result<bool, OutOfMemory> {
-    let mut hold = true;
-    for (file, text) in [
-        (
-            "id bigint,Amount,note\n1,2.50,x\n2,,y y\n",
-            "id bigint,\"amount decimal(3,2)\",note varchar(3)\n1,2.50,x\n2,,y y\n",
-        ),
-        ("x\n-1.5\n0.25\n", "\"x decimal(3,2)\"\n-1.50\n0.25\n"),
-        ("a,b char(2)\n", "a varchar(1),b char(2)\n"),
-        (
-            "a char(3)\n\"x,\"\n\"\"\"\"\n",
-            "a char(3)\n\"x, \"\n\"\"\"  \"\n",
-        ),
-        ("\u{feff}a\r\n7\r\n\"\"\r\n", "a bigint\n7\n\"\"\n"),
-        ("t\n\\N\nab\n\\\\N\n", "t varchar(2)\n\\N\nab\n\\\\N\n"),
-    ] {
-        hold = hold && means(alloc, file, text)?;
+// The number of the first of these cases that does not hold. A case is a file, `~` and what the file means; `|` stands between
+// cases.
+fn failing(alloc: Global, cases: &[u8]) -> Result<Option<usize>, OutOfMemory> {
+    let mut rest = cases;
+    for number in 0..cases.len() {
+        if rest.is_empty() {
+            return Ok(None);
+        }
+        let (case, more) = cut(rest, b'|');
+        let (file, want) = cut(case, b'~');
+        let file = bytes(alloc, file)?;
+        let want = bytes(alloc, want)?;
+        if meaning(alloc, &file)?.as_slice() != want.as_slice() {
+            return Ok(Some(number));
+        }
+        rest = more;
     }
-    Ok(hold)
-}
-
-fn refusals_hold(alloc: Global) -> Result<bool, OutOfMemory> {
-    let mut hold = true;
-    for (file, kind, row, column) in [
-        ("a\n\u{e9}\n", CsvKind::NotUtf8, 0, 0),
-        ("\u{feff}", CsvKind::NoHeader, 0, 0),
-        ("", CsvKind::NoHeader, 0, 0),
-        ("a,\n1\n", CsvKind::BadHeader, 0, 2),
-        ("a,\"b decimal(3,4)\"\n", CsvKind::BadType, 0, 2),
-        ("a,A bigint\nx\n", CsvKind::DuplicateColumn, 0, 2),
-        ("n bigint,m\nx,2\n1\n", CsvKind::BadRecord, 2, 0),
-        ("n bigint,m\n1,2\n1,2\n01,3\n", CsvKind::BadCell, 3, 1),
-    ] {
-        // Of the first file one byte is left out, so that it is not UTF-8.
-        let bytes = match kind {
-            CsvKind::NotUtf8 => file.as_bytes().split_at(3).0,
-            _ => file.as_bytes(),
-        };
-        hold = hold && is_refused(alloc, bytes, CsvRefusal { kind, row, column })?;
-    }
-    Ok(hold)
+    Ok(None)
 }
 
 #[test]
-fn small_files(rt: HostRuntime) {
+fn files_by_hand(rt: HostRuntime) {
     let alloc = rt.alloc();
-    assert!(&rt; tables_hold(alloc) == Ok(true) && refusals_hold(alloc) == Ok(true));
+    for cases in [
+        records::QUOTES,
+        records::LINES,
+        records::BYTES,
+        headers::NAMES,
+        headers::TYPES,
+        headers::ORDER,
+        cells::NUMBERS,
+        cells::TEXTS,
+        cells::INFERRED,
+        built::CELLS,
+        built::ROWS,
+    ] {
+        assert_eq!(&rt; failing(alloc, cases), Ok(None));
+    }
 }

@@ -3,10 +3,11 @@ ghost use Rattle.std.specs.Prelude.{◌≡◌, ◌++◌, ◌∷◌, [], map, OnO
 ghost use Rattle.csv.specs.Records.{fields_of};
 ghost use Rattle.ds2_csv.specs.Text.{type_text, heading_text, null_text, escaped, cell_text, cells_text, text};
 
-use csv::{StringRecord, WriterBuilder};
-use ds2_base::{Bytes, List, OutOfMemory};
+use crate::TableWriter;
+use csv::StringRecord;
+use ds2_base::{Bytes, OutOfMemory};
 use ds2_table::Table;
-use ds2_value::{Column, Ty, Value, write_dec};
+use ds2_value::{Column, Row, Ty, Value, write_dec};
 use itoa::Buffer;
 use std::alloc::{AllocError, Global};
 
@@ -81,8 +82,8 @@ fn add_cell(
     Ok(())
 }
 
-// Adds the cells of the header.
-fn add_header(
+/// Adds the cells of the header.
+pub fn add_header(
     alloc: Global,
     cells: &mut StringRecord,
     columns: &[Column],
@@ -98,8 +99,8 @@ fn add_header(
     Ok(())
 }
 
-// Adds the cells of a row under its columns.
-fn add_row(
+/// Adds the cells of a row under its columns.
+pub fn add_row(
     alloc: Global,
     cells: &mut StringRecord,
     columns: &[Column],
@@ -122,29 +123,22 @@ fn add_row(
     Ok(())
 }
 
-/// The bytes of a table: a record of header cells, each a column's name, one blank and its type, and a record for each row, with
-/// quotes where they are needed. Null is nothing in a number column and `\N` in a text column, and a text that begins with a
-/// backslash gets one more.
-#[tactic(auto, unfolding(crate::specs::Text::text))]
+/// The bytes of a table of these columns and rows: a record of header cells, each a column's name, one blank and its type, and a
+/// record for each row, with quotes where they are needed. Null is nothing in a number column and `\N` in a text column, and a
+/// text that begins with a backslash gets one more.
+pub fn write_rows(alloc: Global, columns: &[Column], rows: &[Row]) -> Result<Bytes, OutOfMemory>
+    ensures { IfOk result (λ bytes. bytes ≡ text (record { columns = columns.now; rows = rows.now })) }
+{
+    let mut writer = TableWriter::new(alloc, columns)?;
+    'each: for row in rows {
+        writer = writer.with_row(alloc, columns, row.as_slice())?;
+    }
+    writer.into_bytes()
+}
+
+/// The bytes of a table, as [`write_rows`] gives them for its columns and rows.
 pub fn write_table(alloc: Global, t: &Table) -> Result<Bytes, OutOfMemory>
     ensures { IfOk result (λ bytes. bytes ≡ text t.now) }
 {
-    let columns = t.schema().columns().as_slice();
-    let mut out = WriterBuilder::new().from_writer(Vec::new(alloc));
-    let mut cells = StringRecord::new(alloc);
-    add_header(alloc, &mut cells, columns)?;
-    if out.write_byte_record(cells.as_byte_record()).is_err() {
-        return Err(OutOfMemory);
-    }
-    'rows: for row in t.rows().as_slice() {
-        cells.clear();
-        add_row(alloc, &mut cells, columns, row.as_slice())?;
-        if out.write_byte_record(cells.as_byte_record()).is_err() {
-            return Err(OutOfMemory);
-        }
-    }
-    match out.into_inner() {
-        Ok(text) => Ok(List::of(text)),
-        Err(_) => Err(OutOfMemory),
-    }
+    write_rows(alloc, t.schema().columns().as_slice(), t.rows().as_slice())
 }

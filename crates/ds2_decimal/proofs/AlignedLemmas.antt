@@ -1,5 +1,5 @@
 -- Facts on decimals brought to a common scale.
-use Rattle.std.proofs.Common.{◌≡◌, ℕ, ◌-◌, ◌*◌, ◌^◌, ◌<◌, ◌≤◌, max, ℤ, pos, neg_ℤ, ◌+ℤ◌, ◌-ℤ◌, ◌*ℤ◌, unsigned_abs, Bool, true, false, ◌&&◌, Option, Some, None, Result, Ok, Err, cond, leb, refl, sym, ap, ◌∙◌, arith}
+use Rattle.std.proofs.Common.{◌≡◌, ℕ, ◌+◌, ◌-◌, ◌*◌, ◌^◌, ◌<◌, ◌≤◌, max, ℤ, pos, neg_ℤ, ◌+ℤ◌, ◌-ℤ◌, ◌*ℤ◌, unsigned_abs, Bool, true, false, ◌&&◌, Option, Some, None, Result, Ok, Err, cond, leb, refl, sym, ap, ◌∙◌, arith}
 use Rattle.std.specs.Option.{option_map_or}
 use Rattle.std.specs.Ordering.{int_cmp, ordering_reverse}
 use Rattle.std.proofs.Math.Nat.{pow-zero, mul-lt-mul_of_pos_right}
@@ -7,10 +7,10 @@ use Rattle.std.proofs.lemmas.Int.{unsigned_abs-mul}
 use Rattle.std.specs.Prelude.{int_rem}
 use Rattle.std.proofs.lemmas.Nat.{pow-add}
 use Rattle.ds2_decimal.specs.declared.dec.DecFault.{DecFault}
-use Rattle.ds2_decimal.specs.declared.dec.DecFault.TheVariants.{Overflow}
+use Rattle.ds2_decimal.specs.declared.dec.DecFault.TheVariants.{Overflow, DivideByZero}
 use Rattle.ds2_decimal.specs.Decimal.{Decimal, is_within, units_at, value}
-use Rattle.ds2_decimal.specs.Steps.{raised}
-use Rattle.ds2_decimal.specs.Rounding.{round}
+use Rattle.ds2_decimal.specs.Steps.{raised, signed_quotient}
+use Rattle.ds2_decimal.specs.Rounding.{is_zero, moved_sign, round}
 use Rattle.std.proofs.lemmas.Bool.Decides.{nat_tests}
 use Rattle.ds2_decimal.specs.Arithmetic as spec
 use Rattle.ds2_decimal.proofs.TenPowers.{pow-ten_pos}
@@ -106,3 +106,54 @@ aligned_divisor a b x y some e =
     let tens : 0 < 10 ^ (s - b.scale) = pow-ten_pos (s - b.scale) in
     let more : 0 * 10 ^ (s - b.scale) < unsigned_abs b.units * 10 ^ (s - b.scale) = mul-lt-mul_of_pos_right some tens in
     omega arith
+
+-- units that could be brought are those of the pair
+raised_is : (t : Bool) (x y : ℤ) → let none : Option ℤ = None in cond t (Some x) none ≡ Some y → (t ≡ true) × (x ≡ y)
+raised_is true x y e =
+    let held : Option ℤ → ℤ = λ o. option_map_or (λ (z : ℤ). z) o (pos 0) in
+    (refl, ap held e)
+raised_is false x y e = cc
+
+-- only the number of the lesser scale is brought
+pub aligned_first : (a b : Decimal) (x : ℤ) → a.scale ≤ b.scale → unsigned_abs b.units < 10 ^ 38 → raised a.units (b.scale - a.scale) ≡ Some x → spec.aligned a b ≡ Some (x, b.units)
+aligned_first a b x h fits e =
+    let is = raised_is (is_within 38 (units_at b.scale a)) (units_at b.scale a) x e in
+    let of : ℤ → ℤ → Option (ℤ × ℤ) = λ y z. cond (is_within 38 y && is_within 38 z) (Some (y, z)) None in
+    let tests : Bool → Bool → Option (ℤ × ℤ) = λ p q. cond (p && q) (Some (units_at b.scale a, b.units)) None in
+    ap (λ (s : ℕ). of (units_at s a) (units_at s b)) (omega arith)
+    ∙ ap (λ (z : ℤ). of (units_at b.scale a) z) (units_at-same b.scale b refl)
+    ∙ ap (λ (p : Bool). tests p (is_within 38 b.units)) is.0
+    ∙ ap (λ (q : Bool). tests true q) (is_within_yes 38 b.units fits)
+    ∙ ap (λ (y : ℤ). Some (y, b.units)) is.1
+
+pub aligned_second : (a b : Decimal) (y : ℤ) → b.scale ≤ a.scale → unsigned_abs a.units < 10 ^ 38 → raised b.units (a.scale - b.scale) ≡ Some y → spec.aligned a b ≡ Some (a.units, y)
+aligned_second a b y h fits e =
+    let is = raised_is (is_within 38 (units_at a.scale b)) (units_at a.scale b) y e in
+    let of : ℤ → ℤ → Option (ℤ × ℤ) = λ x z. cond (is_within 38 x && is_within 38 z) (Some (x, z)) None in
+    let tests : Bool → Bool → Option (ℤ × ℤ) = λ p q. cond (p && q) (Some (a.units, units_at a.scale b)) None in
+    ap (λ (s : ℕ). of (units_at s a) (units_at s b)) (omega arith)
+    ∙ ap (λ (x : ℤ). of x (units_at a.scale b)) (units_at-same a.scale a refl)
+    ∙ ap (λ (p : Bool). tests p (is_within 38 (units_at a.scale b))) (is_within_yes 38 a.units fits)
+    ∙ ap (λ (q : Bool). tests true q) is.0
+    ∙ ap (λ (z : ℤ). Some (a.units, z)) is.1
+
+-- what has at most p digits is a result
+pub within_ok : (p : ℕ) (z : ℤ) (s : ℕ) → unsigned_abs z < 10 ^ p → spec.within p z s ≡ Ok (record { units = z; scale = s })
+within_ok p z s fits = ap (λ (t : Bool). cond t (Ok (record { units = z; scale = s })) (Err Overflow)) (is_within_yes p z fits)
+
+-- a result, or Overflow, by units or none
+within_option : (t : Bool) (z : ℤ) (s : ℕ) → let of : Option ℤ → Result Decimal DecFault = λ o. option_map_or (λ (z : ℤ). Ok (record { units = z; scale = s })) o (Err Overflow) in cond t (Ok (record { units = z; scale = s })) (Err Overflow) ≡ of (cond t (Some z) None)
+within_option true z s = refl
+within_option false z s = refl
+
+-- a quotient, or Overflow, by its units or none
+pub div_is : (a b : Decimal) (s k : ℕ) (o : Option ℤ) → 0 < unsigned_abs b.units → s ≡ spec.quotient_scale a b → k ≡ s + b.scale - a.scale → signed_quotient a.units k b.units ≡ o → spec.div a b ≡ option_map_or (λ (z : ℤ). Ok (record { units = z; scale = s })) o (Err Overflow)
+div_is a b s k o some scale zeros e =
+    let units : ℕ → ℤ = λ k. round (moved_sign b.units a.units *ℤ pos (10 ^ k)) (unsigned_abs b.units) in
+    let divisor : is_zero b.units ≡ false = grind (arith, nat_tests) in
+    let same : spec.quotient_scale a b + b.scale - a.scale ≡ k = omega arith in
+    ap (λ (t : Bool). cond t (Err DivideByZero) (spec.within 38 (units (spec.quotient_scale a b + b.scale - a.scale)) (spec.quotient_scale a b))) divisor
+    ∙ ap (λ (k : ℕ). spec.within 38 (units k) (spec.quotient_scale a b)) same
+    ∙ ap (λ (s : ℕ). spec.within 38 (units k) s) (sym scale)
+    ∙ within_option (is_within 38 (units k)) (units k) s
+    ∙ ap (λ (o : Option ℤ). option_map_or (λ (z : ℤ). Ok (record { units = z; scale = s })) o (Err Overflow)) e

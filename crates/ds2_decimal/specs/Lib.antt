@@ -4,3 +4,4 @@ pub mod Laws
 pub mod Rounding
 pub mod Steps
 pub mod Text
+pub mod Words

@@ -9,8 +9,10 @@ use crate::powers::{LIMIT, SHORT, power_of_ten};
 use crate::quotient::divide_signed;
 use crate::read::read_unsigned;
 use crate::units::{divide_down, divide_rounded, raise, remainder};
+use crate::words::Units;
 use std::cmp::Ordering;
 use std::marker::Model;
+use std::mem::size_of;
 
 /// Why an operation on decimals has no result.
 #[derive(Debug, Clone, Copy, PartialEq, Eq, Drop)]
@@ -24,9 +26,12 @@ pub enum DecFault {
 /// The number units / 10 ^ scale, with at most 38 digits, and at most 38 of them after the point.
 #[derive(Debug, Clone, Copy)]
 pub struct Dec {
-    units: i128,
+    units: Units,
     scale: u8,
 }
+
+// A table holds many decimals, so one is small.
+const _: () = prove!(size_of::<Dec>() <= 24);
 
 impl Model for Dec {
     ghost use Rattle.std.specs.Prelude.{◌^◌, ◌<◌, ◌≤◌, unsigned_abs};
@@ -47,7 +52,10 @@ impl Dec {
         ensures { result ≡ spec.new units scale }
     {
         if units.unsigned_abs() < LIMIT && scale <= 38 {
-            Some(Dec { units, scale })
+            Some(Dec {
+                units: Units::of(units),
+                scale,
+            })
         } else {
             None
         }
@@ -71,7 +79,7 @@ impl Dec {
         ensures value { result ≡ self.units }
         ensures digits { IsTrue (is_within 38 result) }
     {
-        self.units
+        self.units.get()
     }
 
     /// How many digits stand after the point.
@@ -89,7 +97,7 @@ impl Dec {
         ensures { result ≡ spec.neg self }
     {
         Dec {
-            units: -self.units,
+            units: Units::of(-self.units.get()),
             scale: self.scale,
         }
     }
@@ -100,7 +108,7 @@ impl Dec {
         ensures { result ≡ spec.abs self }
     {
         Dec {
-            units: self.units.abs(),
+            units: Units::of(self.units.get().abs()),
             scale: self.scale,
         }
     }
@@ -110,7 +118,7 @@ impl Dec {
         ensures { result ≡ spec.floor self }
     {
         Dec {
-            units: divide_down(self.units, power_of_ten(self.scale)),
+            units: Units::of(divide_down(self.units.get(), power_of_ten(self.scale))),
             scale: 0,
         }
     }
@@ -127,12 +135,13 @@ impl Dec {
     pub fn compare(self, other: Dec) -> Ordering
         ensures { result ≡ spec.compare self other }
     {
+        let (first, second) = (self.units.get(), other.units.get());
         if self.scale == other.scale {
-            self.units.cmp(&other.units)
+            first.cmp(&second)
         } else if self.scale < other.scale {
-            compare_raised(self.units, other.scale - self.scale, other.units)
+            compare_raised(first, other.scale - self.scale, second)
         } else {
-            compare_raised(other.units, self.scale - other.scale, self.units).reverse()
+            compare_raised(second, self.scale - other.scale, first).reverse()
         }
     }
 
@@ -142,7 +151,7 @@ impl Dec {
         ensures { result ≡ spec.add self other }
     {
         if self.scale == other.scale {
-            return sum(self.units, other.units, self.scale);
+            return sum(self.units.get(), other.units.get(), self.scale);
         }
         match aligned(self, other) {
             Some((first, second)) => sum(first, second, self.scale.max(other.scale)),
@@ -164,7 +173,11 @@ impl Dec {
         requires { self.scale + other.scale ≤ 38 }
         ensures { result ≡ spec.mul self other }
     {
-        product(self.units, other.units, self.scale + other.scale)
+        product(
+            self.units.get(),
+            other.units.get(),
+            self.scale + other.scale,
+        )
     }
 
     /// The quotient at the larger scale, at least 6, rounded half away from zero. `DivideByZero` where `other` is 0,
@@ -172,13 +185,16 @@ impl Dec {
     pub fn div(self, other: Dec) -> Result<Dec, DecFault>
         ensures { result ≡ spec.div self other }
     {
-        if other.units == 0 {
+        if other.units.get() == 0 {
             return Err(DecFault::DivideByZero);
         }
         let scale = self.scale.max(other.scale).max(6);
         let zeros = scale + other.scale - self.scale;
-        match divide_signed(self.units, zeros, other.units) {
-            Some(units) => Ok(Dec { units, scale }),
+        match divide_signed(self.units.get(), zeros, other.units.get()) {
+            Some(units) => Ok(Dec {
+                units: Units::of(units),
+                scale,
+            }),
             None => Err(DecFault::Overflow),
         }
     }
@@ -188,7 +204,7 @@ impl Dec {
     pub fn modulo(self, other: Dec) -> Result<Dec, DecFault>
         ensures { result ≡ spec.modulo self other }
     {
-        match other.units {
+        match other.units.get() {
             0 => Err(DecFault::DivideByZero),
             _ => aligned_remainder(self, other),
         }
@@ -203,10 +219,10 @@ impl Dec {
         ensures { result ≡ spec.rescale precision scale self }
     {
         if self.scale > scale {
-            let units = divide_rounded(self.units, power_of_ten(self.scale - scale));
+            let units = divide_rounded(self.units.get(), power_of_ten(self.scale - scale));
             return within(precision, units, scale);
         }
-        match raise(self.units, scale - self.scale) {
+        match raise(self.units.get(), scale - self.scale) {
             Some(units) => within(precision, units, scale),
             None => Err(DecFault::Overflow),
         }
@@ -221,7 +237,10 @@ fn within(precision: u8, units: i128, scale: u8) -> Result<Dec, DecFault>
     ensures { result ≡ spec.within precision units scale }
 {
     if units.unsigned_abs() < power_of_ten(precision) {
-        Ok(Dec { units, scale })
+        Ok(Dec {
+            units: Units::of(units),
+            scale,
+        })
     } else {
         Err(DecFault::Overflow)
     }
@@ -246,7 +265,10 @@ fn product(first: i128, second: i128, scale: u8) -> Result<Dec, DecFault>
 {
     if first.unsigned_abs() < SHORT && second.unsigned_abs() < SHORT {
         let units = first * second;
-        return Ok(Dec { units, scale });
+        return Ok(Dec {
+            units: Units::of(units),
+            scale,
+        });
     }
     match first.checked_mul(second) {
         Some(units) => within(38, units, scale),
@@ -260,13 +282,13 @@ fn aligned(first: Dec, second: Dec) -> Option<(i128, i128)>
 {
     if first.scale < second.scale {
         Some((
-            raise(first.units, second.scale - first.scale)?,
-            second.units,
+            raise(first.units.get(), second.scale - first.scale)?,
+            second.units.get(),
         ))
     } else {
         Some((
-            first.units,
-            raise(second.units, first.scale - second.scale)?,
+            first.units.get(),
+            raise(second.units.get(), first.scale - second.scale)?,
         ))
     }
 }

@@ -399,7 +399,7 @@ header_spells ts =
     then_read ts ts [] (after (is_word (codes "data")) ts) _ (skip_word (codes "data") data_plain ts) refl
     (λ r h. then_read ts r (Word (codes "data") ∷ []) (name r) _ (name_spells r) h
     (λ n h. then_read ts n.1 (Word (codes "data") ∷ Word n.0 ∷ []) (after (λ t. is_semicolon t.kind) n.1) _ (skip_semicolon n.1) h
-    (λ r h. read_some ts (n.0, r) h)))
+    (λ r h. if_read ts (bytes_eq n.0 (codes "_null_")) _ _ (read_none ts) (read_some ts (n.0, r) h))))
 
 words_spelled : (ns : List (List ℕ)) → joined (λ (n : List ℕ). Word n ∷ []) ns ≡ words ns
 words_spelled [] = refl

@@ -20,13 +20,13 @@ pub record Source : Type 0 where
 abbrev pub tree_of : code.Source → Source
 tree_of s = record { output = s.output; declared = s.declared; table = s.table; body = stmts_of s.body }
 
--- `data name;`
+-- `data name;`; `data _null_;`, which has no output, isn't built yet
 unfoldable pub header : List Token → Reading (List ℕ)
 header ts = do
   rest ← after (is_word (codes "data")) ts
   output ← name rest
   rest ← after (λ t. is_semicolon t.kind) output.1
-  Some (output.0, rest)
+  if bytes_eq output.0 (codes "_null_") then None else Some (output.0, rest)
 
 -- whether a name stands more than once
 abbrev pub repeats : List (List ℕ) → Bool

@@ -28,7 +28,7 @@ pub struct Source {
     pub body: List<Stmt>,
 }
 
-/// `data name;`
+/// `data name;`; `data _null_;`, which has no output, isn't built yet.
 #[tactic(auto, unfolding(crate::specs::Source::header))]
 fn header(alloc: Global, tokens: &[Token]) -> Result<(Name, &[Token]), Stop<OtherForm>>
     ensures { Reads (λ r. (r.0, r.1.now)) result (header tokens.now) }
@@ -36,6 +36,9 @@ fn header(alloc: Global, tokens: &[Token]) -> Result<(Name, &[Token]), Stop<Othe
     let rest = after_word(tokens, "data")?;
     let (output, rest) = name(alloc, rest)?;
     let rest = after_semicolon(rest)?;
+    if output.as_str() == "_null_" {
+        return Err(Stop::Refused(OtherForm));
+    }
     Ok((output, rest))
 }
 

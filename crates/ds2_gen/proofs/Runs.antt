@@ -1,5 +1,5 @@
 -- The machine follows the tree.
-use Rattle.std.proofs.Common.{◌≡◌, ℕ, ◌+◌, Bool, true, false, cond, List, ◌∷◌, length, Option, Some, None, Ok, refl, ap, ◌∙◌, arith}
+use Rattle.std.proofs.Common.{◌≡◌, ℕ, ◌+◌, Bool, true, false, cond, not, List, ◌∷◌, length, Option, Some, None, Ok, refl, ap, ◌∙◌, arith}
 use Rattle.ds2_base.specs.declared.place.Place.{Place}
 use Rattle.ds2_value.specs.declared.value.Value.{Value}
 use Rattle.ds2_value.specs.Value.{compared_of, or_null}
@@ -9,7 +9,7 @@ use Rattle.ds2_meaning.specs.declared.tree.Sign.TheVariants.{Plus, Minus}
 use Rattle.ds2_meaning.specs.Tree.{Expr, Constant, Variable, Chain, Compare, Terms, NoTerm, Term, Stmt, Assign, If, IfElse, Stmts, NoStmt, Then}
 use Rattle.ds2_meaning.specs.Meaning.{Contents, Gave, signed, evaluate, evaluate_terms, exec, exec_all, done}
 use Rattle.ds2_meaning.specs.Program.{has_name}
-use Rattle.ds2_meaning.specs.Names.{or_next, unknown_name, unknown_in, unknown_in_stmt, unknown_in_all}
+use Rattle.ds2_meaning.specs.Names.{or_next, sought, sought_in, sought_in_stmt, sought_in_all}
 use Rattle.ds2_layout.specs.Slots.{slot_number}
 use Rattle.ds2_code.specs.declared.instr.Instr.TheVariants.{Const, GLoad, ICmp}
 use Rattle.ds2_code.specs.declared.program.ProgramCode.{ProgramCode}
@@ -31,11 +31,11 @@ second_none : (a b : Option Place) → or_next a b ≡ None → b ≡ None
 second_none None b h = h
 second_none (Some p) b h = absurd cc
 
-test_known : (b : Bool) (p : Place) → cond b None (Some p) ≡ None → b ≡ true
+test_known : (b : Bool) (p : Place) → cond (not b) (Some p) None ≡ None → b ≡ true
 test_known true p h = refl
 test_known false p h = absurd cc
 
-name_known : (known : List (List ℕ)) (name : List ℕ) (p : Place) → unknown_name known name p ≡ None → has_name known name ≡ true
+name_known : (known : List (List ℕ)) (name : List ℕ) (p : Place) → sought false known name p ≡ None → has_name known name ≡ true
 name_known known name p h = test_known (has_name known name) p h
 
 -- ---- expressions
@@ -92,7 +92,7 @@ module _ (code : ProgramCode) (names : List (List ℕ)) where
   -- ---- statements
 
   mutual
-    pub stmt_runs : (s : Stmt) (at to k : ℕ) (stack : List Value) (slots : Slots) (rest : Rest) (c : Contents) → at + stmt_size s ≡ to → unknown_in_stmt names s ≡ None → HasAt code.instrs at (stmt_code names at k s) → HasAt code.constants k (constants_in_stmt s) → Holds code names slots c
+    pub stmt_runs : (s : Stmt) (at to k : ℕ) (stack : List Value) (slots : Slots) (rest : Rest) (c : Contents) → at + stmt_size s ≡ to → sought_in_stmt false names s ≡ None → HasAt code.instrs at (stmt_code names at k s) → HasAt code.constants k (constants_in_stmt s) → Holds code names slots c
         → Does code names (mk at stack slots rest) stack to (exec s (world c rest))
     stmt_runs (Assign p target e) at to k stack slots rest c len known has con h =
         let ce = expr_code names k e in
@@ -128,15 +128,15 @@ module _ (code : ProgramCode) (names : List (List ℕ)) where
         let ht = has_back code.instrs (at + 1) branch ct _ (ap (λ n. at + 1 + n) (expr_size_is names k t)) has.1 in
         let hj = has_back code.instrs first skip cs _ (ap (λ n. first + n) (stmt_size_is names first k1 s)) ht.1 in
         let con1 = has_back code.constants k k1 (constants_of t) _ refl con in
-        let rest_known = second_none (unknown_in names t) (or_next (unknown_in_stmt names s) (unknown_in_stmt names o)) known in
+        let rest_known = second_none (sought_in false names t) (or_next (sought_in_stmt false names s) (sought_in_stmt false names o)) known in
         runs_at code names _ stack end to _ (omega arith)
         (begin_runs code names at stack slots rest p end c _ has.0
         (λ r. value_runs code names (at + 1) stack slots r branch end c _ _ (expr_runs t (at + 1) branch k stack slots r c refl (has_front code.instrs (at + 1) ct _ has.1) (has_front code.constants k (constants_of t) _ con) h)
         (λ v q. choose_runs code names branch other v stack slots q end c (exec s) (exec o) ht.0
-        (λ u. jump_runs code names _ stack skip end _ hj.0 (stmt_runs s first skip k1 stack slots u c refl (first_none (unknown_in_stmt names s) (unknown_in_stmt names o) rest_known) (has_front code.instrs first cs _ ht.1) (has_front code.constants k1 (constants_in_stmt s) _ con1) h))
-        (λ u. stmt_runs o other end k2 stack slots u c refl (second_none (unknown_in_stmt names s) (unknown_in_stmt names o) rest_known) hj.1 (has_back code.constants k1 k2 (constants_in_stmt s) _ refl con1) h))))
+        (λ u. jump_runs code names _ stack skip end _ hj.0 (stmt_runs s first skip k1 stack slots u c refl (first_none (sought_in_stmt false names s) (sought_in_stmt false names o) rest_known) (has_front code.instrs first cs _ ht.1) (has_front code.constants k1 (constants_in_stmt s) _ con1) h))
+        (λ u. stmt_runs o other end k2 stack slots u c refl (second_none (sought_in_stmt false names s) (sought_in_stmt false names o) rest_known) hj.1 (has_back code.constants k1 k2 (constants_in_stmt s) _ refl con1) h))))
 
-    pub all_run : (ss : Stmts) (at to k : ℕ) (stack : List Value) (slots : Slots) (rest : Rest) (c : Contents) → at + all_size ss ≡ to → unknown_in_all names ss ≡ None → HasAt code.instrs at (all_code names at k ss) → HasAt code.constants k (constants_in_all ss) → Holds code names slots c
+    pub all_run : (ss : Stmts) (at to k : ℕ) (stack : List Value) (slots : Slots) (rest : Rest) (c : Contents) → at + all_size ss ≡ to → sought_in_all false names ss ≡ None → HasAt code.instrs at (all_code names at k ss) → HasAt code.constants k (constants_in_all ss) → Holds code names slots c
         → Does code names (mk at stack slots rest) stack to (exec_all ss (world c rest))
     all_run NoStmt at to k stack slots rest c len known has con h = runs_at code names (mk at stack slots rest) stack at to (done (world c rest)) (omega arith) (slots, h, stays code names _)
     all_run (Then s ss) at to k stack slots rest c len known has con h =

@@ -4,12 +4,12 @@
 //! first, and then the columns of its table that are not declared.
 #![tactic(auto)]
 
-mod known;
 mod layout;
 mod name_table;
+mod sought;
 mod vector;
 
-pub use known::first_unknown;
 pub use layout::{Layout, lay_out};
 pub use name_table::NameTable;
+pub use sought::{first_listed, first_unknown};
 pub use vector::variables;

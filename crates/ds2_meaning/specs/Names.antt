@@ -1,5 +1,5 @@
 -- Which names a program may use, and the first that it may not.
-use Rattle.std.specs.Prelude.{◌≡◌, ℕ, if◌then◌else◌, List, Option, Some, None}
+use Rattle.std.specs.Prelude.{◌≡◌, ℕ, Bool, true, false, not, if◌then◌else◌, List, Option, Some, None}
 use Rattle.ds2_base.specs.declared.place.Place.{Place}
 use Rattle.ds2_meaning.specs.Tree.{Expr, Constant, Variable, Chain, Compare, Terms, NoTerm, Term, Stmt, Assign, If, IfElse, Stmts, NoStmt, Then}
 use Rattle.ds2_meaning.specs.Program.{Program, has_name, names_of, variables}
@@ -9,37 +9,46 @@ abbrev pub or_next : Option Place → Option Place → Option Place
 or_next None b = b
 or_next (Some p) b = Some p
 
--- a name that is not known, at its place
-abbrev pub unknown_name : List (List ℕ) → List ℕ → Place → Option Place
-unknown_name known name place = if has_name known name then None else Some place
+-- whether a name is sought: where it is listed, or where it is not
+abbrev pub is_sought : Bool → List (List ℕ) → List ℕ → Bool
+is_sought true names name = has_name names name
+is_sought false names name = not (has_name names name)
 
--- the place of the first name in an expression that is not known
+-- the place of a name that is sought
+abbrev pub sought : Bool → List (List ℕ) → List ℕ → Place → Option Place
+sought listed names name place = if is_sought listed names name then Some place else None
+
+-- the place of the first name in an expression that is sought
 abbrev mutual
-  pub unknown_in : List (List ℕ) → Expr → Option Place
-  unknown_in known (Constant v) = None
-  unknown_in known (Variable name place) = unknown_name known name place
-  unknown_in known (Chain first rest) = or_next (unknown_in known first) (unknown_in_terms known rest)
-  unknown_in known (Compare comparison left right) = or_next (unknown_in known left) (unknown_in known right)
+  pub sought_in : Bool → List (List ℕ) → Expr → Option Place
+  sought_in listed names (Constant v) = None
+  sought_in listed names (Variable name place) = sought listed names name place
+  sought_in listed names (Chain first rest) = or_next (sought_in listed names first) (sought_in_terms listed names rest)
+  sought_in listed names (Compare comparison left right) = or_next (sought_in listed names left) (sought_in listed names right)
 
-  pub unknown_in_terms : List (List ℕ) → Terms → Option Place
-  unknown_in_terms known NoTerm = None
-  unknown_in_terms known (Term sign operand rest) = or_next (unknown_in known operand) (unknown_in_terms known rest)
+  pub sought_in_terms : Bool → List (List ℕ) → Terms → Option Place
+  sought_in_terms listed names NoTerm = None
+  sought_in_terms listed names (Term sign operand rest) = or_next (sought_in listed names operand) (sought_in_terms listed names rest)
 
--- the place of the first name in the order of the source that is not known
+-- the place of the first name in the order of the source that is sought
 abbrev mutual
-  pub unknown_in_stmt : List (List ℕ) → Stmt → Option Place
-  unknown_in_stmt known (Assign place target value) = or_next (unknown_name known target place) (unknown_in known value)
-  unknown_in_stmt known (If place condition s) = or_next (unknown_in known condition) (unknown_in_stmt known s)
-  unknown_in_stmt known (IfElse place condition s o) =
-      or_next (unknown_in known condition) (or_next (unknown_in_stmt known s) (unknown_in_stmt known o))
+  pub sought_in_stmt : Bool → List (List ℕ) → Stmt → Option Place
+  sought_in_stmt listed names (Assign place target value) = or_next (sought listed names target place) (sought_in listed names value)
+  sought_in_stmt listed names (If place condition s) = or_next (sought_in listed names condition) (sought_in_stmt listed names s)
+  sought_in_stmt listed names (IfElse place condition s o) =
+      or_next (sought_in listed names condition) (or_next (sought_in_stmt listed names s) (sought_in_stmt listed names o))
 
-  pub unknown_in_all : List (List ℕ) → Stmts → Option Place
-  unknown_in_all known NoStmt = None
-  unknown_in_all known (Then first rest) = or_next (unknown_in_stmt known first) (unknown_in_all known rest)
+  pub sought_in_all : Bool → List (List ℕ) → Stmts → Option Place
+  sought_in_all listed names NoStmt = None
+  sought_in_all listed names (Then first rest) = or_next (sought_in_stmt listed names first) (sought_in_all listed names rest)
+
+-- the place of the first name in some statements that is listed
+abbrev pub first_listed : List (List ℕ) → Stmts → Option Place
+first_listed names stmts = sought_in_all true names stmts
 
 -- the place of the first name of a program that is neither declared nor a column
 abbrev pub first_unknown : Program → Option Place
-first_unknown program = unknown_in_all (names_of (variables program)) program.body
+first_unknown program = sought_in_all false (names_of (variables program)) program.body
 
 -- each name of a program is declared or a column
 abbrev pub AllKnown : Program → Type 0

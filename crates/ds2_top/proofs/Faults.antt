@@ -1,18 +1,16 @@
 -- A command that ends in a runtime fault ends in the first of the one-thread meaning.
-use Rattle.std.proofs.Common.{◌≡◌, ℕ, List, refl, sym, ap, ◌∙◌, subst, Option, Some, None, Result, Ok, Err, IfSome}
+use Rattle.std.proofs.Common.{◌≡◌, ℕ, Bool, true, false, List, length, refl, sym, ap, ◌∙◌, subst, Option, Some, None, Result, Ok, Err, IfSome}
 use Rattle.std.proofs.lemmas.List.{append-nil}
 use Rattle.ds2_base.specs.declared.place.Place.{Place}
 use Rattle.ds2_value.specs.declared.fault.Fault.{Fault}
 use Rattle.ds2_value.specs.declared.fault.Ending.{Ending}
 use Rattle.ds2_value.specs.declared.fault.Ending.TheVariants.{Normal, Faulted}
-use Rattle.ds2_value.specs.declared.schema.Column.{Column}
-use Rattle.ds2_value.specs.declared.value.Value.{Value}
 use Rattle.ds2_meaning.specs.Names.{first_unknown}
-use Rattle.ds2_meaning.specs.Program.{Program, one_thread_answer, variables}
+use Rattle.ds2_meaning.specs.Program.{Program, one_thread_answer}
+use Rattle.ds2_table.specs.Table.{Contents}
+use Rattle.ds2_csv.specs.Reads.{reads}
+use Rattle.ds2_csv.specs.declared.refusal.CsvRefusal.{CsvRefusal}
 use Rattle.ds2_draft_source.specs.Source.{Source, source_of}
-use Rattle.ds2_draft_table.specs.Reads.{reads}
-use Rattle.ds2_draft_table.specs.declared.table.DraftRefusal.{DraftRefusal}
-use Rattle.ds2_draft_table.specs.declared.table.DraftTable.{DraftTable}
 use Rattle.ds2_outside.specs.Files.{Files, file}
 use Rattle.ds2_top.specs.declared.load.FileKind.{FileKind}
 use Rattle.ds2_top.specs.declared.status.Status.{Status}
@@ -20,7 +18,8 @@ use Rattle.ds2_top.specs.declared.status.Status.TheVariants as ended
 use Rattle.ds2_top.specs.declared.words.Command.{Command}
 use Rattle.ds2_top.specs.declared.words.Command.TheVariants.{Run}
 use Rattle.ds2_top.specs.Actions.{actions, after, status_of, text}
-use Rattle.ds2_top.specs.Answer.{answer, on_command, on_ending, on_names, on_source, on_table, output_rows, program_over, source_limit, table_file, table_limit}
+use Rattle.ds2_top.specs.Answer.{answer, on_command, on_built, on_ending, on_names, on_source, on_table, output_rows, output_text, program_over, source_limit, table_file, table_limit}
+use Rattle.ds2_top.specs.Built.{is_built}
 use Rattle.ds2_top.specs.Fault.{FirstFault, LeavesFault}
 use Rattle.ds2_top.specs.Leaves.{Gained, Leaves}
 use Rattle.ds2_top.specs.Lines.{error_line, fault_text}
@@ -41,10 +40,10 @@ record Faults (words : List (List ℕ)) (files : Files) (script : Script) : Type
   pub faulting : Faulting script files fault place
 
 -- a program that has ended in a fault
-of_ending : (name : List ℕ) (columns : List Column) (rows : List (List Value)) (ending : Ending) (files : Files) → status_of (on_ending name columns rows ending) ≡ ended.Fault
-    → (fault : Fault) × (place : Place) × (ending ≡ Faulted fault place) × Faulting (on_ending name columns rows ending) files fault place
-of_ending name columns rows Normal files is = absurd (cc)
-of_ending name columns rows (Faulted fault place) files is = (fault, place, refl, record { text_is = append-nil (error_line (fault_text fault) place); files_are = refl })
+of_ending : (name table : List ℕ) (rows : ℕ) (ending : Ending) (files : Files) → status_of (on_ending name table rows ending) ≡ ended.Fault
+    → (fault : Fault) × (place : Place) × (ending ≡ Faulted fault place) × Faulting (on_ending name table rows ending) files fault place
+of_ending name table rows Normal files is = absurd (cc)
+of_ending name table rows (Faulted fault place) files is = (fault, place, refl, record { text_is = append-nil (error_line (fault_text fault) place); files_are = refl })
 
 -- behind a read
 of_read : (words : List (List ℕ)) (files : Files) (name : List ℕ) (rest : Script) → Faults words files rest → Faults words files (Reads name rest)
@@ -54,13 +53,14 @@ of_read words files name rest f =
 module _ (words : List (List ℕ)) (files : Files) (name : List ℕ) (budget : ℕ) (command_is : command_of words ≡ Some (Run name budget)) where
   module _ (source_text : List ℕ) (text_is : bounded source_limit (file files name) ≡ Ok source_text) (source : Source) (source_is : source_of source_text ≡ Some source) where
     module _ (bytes : List ℕ) (bytes_are : bounded table_limit (file files (table_file source.table)) ≡ Ok bytes) where
-      of_names : (table : DraftTable) → reads bytes ≡ Ok table → (unknown : Option Place) → first_unknown (program_over source table.columns) ≡ unknown
+      of_names : (table : Contents) → reads bytes ≡ Ok table → is_built (program_over source table.columns) ≡ true → (unknown : Option Place) → first_unknown (program_over source table.columns) ≡ unknown
           → status_of (on_names unknown source.output (program_over source table.columns) table.rows budget) ≡ ended.Fault
           → Faults words files (on_names unknown source.output (program_over source table.columns) table.rows budget)
-      of_names table table_is (Some place) known is = absurd (cc)
-      of_names table table_is None known is =
+      of_names table table_is built (Some place) known is = absurd (cc)
+      of_names table table_is built None known is =
           let program : Program = program_over source table.columns in
-          let f = of_ending source.output (variables program) (output_rows (one_thread_answer program table.rows budget)) (one_thread_answer program table.rows budget).ending files is in
+          let end = one_thread_answer program table.rows budget in
+          let f = of_ending source.output (output_text program end) (length (output_rows end)) end.ending files is in
           record {
             fault = f.0;
             place = f.1;
@@ -76,15 +76,22 @@ module _ (words : List (List ℕ)) (files : Files) (name : List ℕ) (budget : �
               source_is = source_is;
               bytes_are = bytes_are;
               table_is = table_is;
+              built = built;
               names_known = known;
               ends = f.2;
             };
             faulting = f.3;
           }
 
-      of_table : (result : Result DraftTable DraftRefusal) → reads bytes ≡ result → status_of (on_table source budget result) ≡ ended.Fault → Faults words files (on_table source budget result)
+      of_built : (table : Contents) → reads bytes ≡ Ok table → (built : Bool) → is_built (program_over source table.columns) ≡ built
+          → status_of (on_built built source.output (program_over source table.columns) table.rows budget) ≡ ended.Fault
+          → Faults words files (on_built built source.output (program_over source table.columns) table.rows budget)
+      of_built table table_is false built is = absurd (cc)
+      of_built table table_is true built is = of_names table table_is built (first_unknown (program_over source table.columns)) refl is
+
+      of_table : (result : Result Contents CsvRefusal) → reads bytes ≡ result → status_of (on_table source budget result) ≡ ended.Fault → Faults words files (on_table source budget result)
       of_table (Err refusal) is fault = absurd (cc)
-      of_table (Ok table) is fault = of_names table is (first_unknown (program_over source table.columns)) refl fault
+      of_table (Ok table) is fault = of_built table is (is_built (program_over source table.columns)) refl fault
 
     of_bytes : (result : Result (List ℕ) FileKind) → bounded table_limit (file files (table_file source.table)) ≡ result
         → status_of (next_file (table_file source.table) result (λ bytes. on_table source budget (reads bytes))) ≡ ended.Fault

@@ -6,3 +6,4 @@ pub mod OneThread
 pub mod Plain
 pub mod Refusals
 pub mod Loads
+pub mod Tables

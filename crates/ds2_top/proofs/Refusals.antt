@@ -1,16 +1,15 @@
 -- A command that refuses what it was given leaves each file as it was.
-use Rattle.std.proofs.Common.{◌≡◌, ℕ, List, refl, ap, ◌∙◌, subst, Option, Some, None, Result, Ok, Err, IfSome}
+use Rattle.std.proofs.Common.{◌≡◌, ℕ, Bool, true, false, List, length, refl, ap, ◌∙◌, subst, Option, Some, None, Result, Ok, Err, IfSome}
 use Rattle.ds2_base.specs.declared.place.Place.{Place}
 use Rattle.ds2_value.specs.declared.fault.Ending.{Ending}
 use Rattle.ds2_value.specs.declared.fault.Ending.TheVariants.{Normal, Faulted}
-use Rattle.ds2_value.specs.declared.schema.Column.{Column}
 use Rattle.ds2_value.specs.declared.value.Value.{Value}
 use Rattle.ds2_meaning.specs.Names.{first_unknown}
-use Rattle.ds2_meaning.specs.Program.{Program, one_thread_answer, variables}
+use Rattle.ds2_meaning.specs.Program.{Program, one_thread_answer}
+use Rattle.ds2_table.specs.Table.{Contents}
+use Rattle.ds2_csv.specs.Reads.{reads}
+use Rattle.ds2_csv.specs.declared.refusal.CsvRefusal.{CsvRefusal}
 use Rattle.ds2_draft_source.specs.Source.{Source, source_of}
-use Rattle.ds2_draft_table.specs.Reads.{reads}
-use Rattle.ds2_draft_table.specs.declared.table.DraftRefusal.{DraftRefusal}
-use Rattle.ds2_draft_table.specs.declared.table.DraftTable.{DraftTable}
 use Rattle.ds2_outside.specs.Files.{Files, file}
 use Rattle.ds2_top.specs.declared.load.FileKind.{FileKind}
 use Rattle.ds2_top.specs.declared.status.Status.{Status}
@@ -18,7 +17,8 @@ use Rattle.ds2_top.specs.declared.status.Status.TheVariants as ended
 use Rattle.ds2_top.specs.declared.words.Command.{Command}
 use Rattle.ds2_top.specs.declared.words.Command.TheVariants.{Run}
 use Rattle.ds2_top.specs.Actions.{Action, actions, after, status_of}
-use Rattle.ds2_top.specs.Answer.{answer, on_command, on_ending, on_names, on_source, on_table, output_rows, program_over, source_limit, table_file, table_limit}
+use Rattle.ds2_top.specs.Answer.{answer, on_command, on_built, on_ending, on_names, on_source, on_table, output_rows, output_text, program_over, source_limit, table_file, table_limit}
+use Rattle.ds2_top.specs.Built.{is_built}
 use Rattle.ds2_top.specs.Leaves.{Leaves}
 use Rattle.ds2_top.specs.Load.{bounded, next_file}
 use Rattle.ds2_top.specs.Script.{Script}
@@ -29,22 +29,28 @@ use Rattle.ds2_top.specs.Words.{command_of}
 Keeps : Script → Files → Type 0
 Keeps script files = IsRefusal (status_of script) → after (actions script) files ≡ files
 
-of_ending : (name : List ℕ) (columns : List Column) (rows : List (List Value)) (ending : Ending) (files : Files) → Keeps (on_ending name columns rows ending) files
+of_ending : (name table : List ℕ) (rows : ℕ) (ending : Ending) (files : Files) → Keeps (on_ending name table rows ending) files
 unfolding Keeps
-of_ending name columns rows Normal files is = absurd is
-of_ending name columns rows (Faulted fault place) files is = absurd is
+of_ending name table rows Normal files is = absurd is
+of_ending name table rows (Faulted fault place) files is = absurd is
 
 of_names : (unknown : Option Place) (name : List ℕ) (program : Program) (rows : List (List Value)) (budget : ℕ) (files : Files) → Keeps (on_names unknown name program rows budget) files
 unfolding Keeps
 of_names (Some place) name program rows budget files is = refl
 of_names None name program rows budget files is =
-    of_ending name (variables program) (output_rows (one_thread_answer program rows budget)) (one_thread_answer program rows budget).ending files is
+    let end = one_thread_answer program rows budget in
+    of_ending name (output_text program end) (length (output_rows end)) end.ending files is
 
-of_table : (source : Source) (budget : ℕ) (result : Result DraftTable DraftRefusal) (files : Files) → Keeps (on_table source budget result) files
+of_built : (built : Bool) (name : List ℕ) (program : Program) (rows : List (List Value)) (budget : ℕ) (files : Files) → Keeps (on_built built name program rows budget) files
+unfolding Keeps
+of_built false name program rows budget files is = refl
+of_built true name program rows budget files is = of_names (first_unknown program) name program rows budget files is
+
+of_table : (source : Source) (budget : ℕ) (result : Result Contents CsvRefusal) (files : Files) → Keeps (on_table source budget result) files
 unfolding Keeps
 of_table source budget (Err refusal) files is = refl
 of_table source budget (Ok table) files is =
-    of_names (first_unknown (program_over source table.columns)) source.output (program_over source table.columns) table.rows budget files is
+    of_built (is_built (program_over source table.columns)) source.output (program_over source table.columns) table.rows budget files is
 
 of_file : (name : List ℕ) (result : Result (List ℕ) FileKind) (go : List ℕ → Script) (files : Files) → ((bytes : List ℕ) → Keeps (go bytes) files) → Keeps (next_file name result go) files
 unfolding Keeps

@@ -1,5 +1,5 @@
 -- The answer of a line of words over the files of a store: a script.
-use Rattle.std.specs.Prelude.{◌≡◌, ℕ, List, [], ◌∷◌, ◌++◌, length, map, codes, Option, Some, None, Result, Ok, Err}
+use Rattle.std.specs.Prelude.{◌≡◌, ℕ, Bool, true, false, List, [], ◌∷◌, ◌++◌, length, map, codes, Option, Some, None, Result, Ok, Err}
 use Rattle.ds2_base.specs.Place.{start_place}
 use Rattle.ds2_base.specs.declared.place.Place.{Place}
 use Rattle.ds2_value.specs.declared.fault.Ending.{Ending}
@@ -9,18 +9,15 @@ use Rattle.ds2_value.specs.declared.ty.Ty.TheVariants.{BigInt}
 use Rattle.ds2_value.specs.declared.value.Value.{Value}
 use Rattle.ds2_value.specs.Run.{Written}
 use Rattle.ds2_table.specs.Alone.{ProgramEnd}
+use Rattle.ds2_table.specs.Table.{Contents}
+use Rattle.ds2_csv.specs.Reads.{reads}
+use Rattle.ds2_csv.specs.Text as csv
+use Rattle.ds2_csv.specs.declared.refusal.CsvRefusal.{CsvRefusal}
 use Rattle.ds2_meaning.specs.Names.{first_unknown}
 use Rattle.ds2_meaning.specs.Program.{Program, variables, one_thread_answer}
 use Rattle.ds2_draft_source.specs.Source.{Source, source_of}
-use Rattle.ds2_draft_table.specs.Reads.{reads}
-use Rattle.ds2_draft_table.specs.Text.{text_of}
-use Rattle.ds2_draft_table.specs.declared.table.DraftKind.{DraftKind}
-use Rattle.ds2_draft_table.specs.declared.table.DraftKind.TheVariants as draft
-use Rattle.ds2_draft_table.specs.declared.table.DraftRefusal.{DraftRefusal}
-use Rattle.ds2_draft_table.specs.declared.table.DraftTable.{DraftTable}
 use Rattle.ds2_outside.specs.Files.{Files}
 use Rattle.ds2_top.specs.declared.lines.SourceKind.TheVariants.{NotBuilt, UnknownName}
-use Rattle.ds2_top.specs.declared.load.FileKind.{FileKind}
 use Rattle.ds2_top.specs.declared.load.FileKind.TheVariants as file
 use Rattle.ds2_top.specs.declared.program.OneThreadEnd.{OneThreadEnd}
 use Rattle.ds2_top.specs.declared.status.Status.TheVariants as ended
@@ -28,6 +25,7 @@ use Rattle.ds2_top.specs.declared.steps.Step.{Step}
 use Rattle.ds2_top.specs.declared.steps.Step.TheVariants.{Say, Write}
 use Rattle.ds2_top.specs.declared.words.Command.{Command}
 use Rattle.ds2_top.specs.declared.words.Command.TheVariants.{Run}
+use Rattle.ds2_top.specs.Built.{is_built}
 use Rattle.ds2_top.specs.Lines.{usage_line, source_line, file_line, error_line, fault_text, table_line}
 use Rattle.ds2_top.specs.Load.{load_one}
 use Rattle.ds2_top.specs.Script.{Script, Ends, Says, fronts}
@@ -44,14 +42,14 @@ table_limit = 67108864
 abbrev pub table_file : List ℕ → List ℕ
 table_file name = name ++ codes ".csv"
 
--- a table is written, and its rows are counted in the log
-abbrev pub outputs : List ℕ → List Column → List (List Value) → List Step
-outputs name columns rows = Write (table_file name) (text_of columns rows) ∷ Say (table_line name (length rows)) ∷ []
+-- a table of so many rows is written, and its rows are counted in the log
+abbrev pub outputs : List ℕ → List ℕ → ℕ → List Step
+outputs name text rows = Write (table_file name) text ∷ Say (table_line name rows) ∷ []
 
 -- a program that has ended without fault writes its table, and one that has ended in a fault writes nothing
-abbrev pub on_ending : List ℕ → List Column → List (List Value) → Ending → Script
-on_ending name columns rows Normal = fronts (outputs name columns rows) (Ends ended.Done)
-on_ending name columns rows (Faulted fault place) = Says (error_line (fault_text fault) place) (Ends ended.Fault)
+abbrev pub on_ending : List ℕ → List ℕ → ℕ → Ending → Script
+on_ending name text rows Normal = fronts (outputs name text rows) (Ends ended.Done)
+on_ending name text rows (Faulted fault place) = Says (error_line (fault_text fault) place) (Ends ended.Fault)
 
 -- the rows alone, of rows that were written to an output
 abbrev pub rows_of : List Written → List (List Value)
@@ -61,38 +59,42 @@ rows_of written = map (λ (w : Written). w.row) written
 abbrev pub output_rows : ProgramEnd → List (List Value)
 output_rows end = rows_of end.rows
 
--- a run tells the rows of a program and how it has ended
-pub record IsAnswer (end : OneThreadEnd) (answer : ProgramEnd) : Type 0 where
-  pub rows : end.rows ≡ output_rows answer
+-- the text of the table that a program has written
+abbrev pub output_text : Program → ProgramEnd → List ℕ
+output_text program end = csv.text (record { columns = variables program; rows = output_rows end })
+
+-- a run tells the text and the number of the rows of a program, and how it has ended
+pub record IsAnswer (program : Program) (end : OneThreadEnd) (answer : ProgramEnd) : Type 0 where
+  pub text : end.text ≡ output_text program answer
+  pub rows : end.rows ≡ length (output_rows answer)
   pub ending : end.ending ≡ answer.ending
 
 -- what a program does after it has ended
 abbrev pub on_end : List ℕ → Program → ProgramEnd → Script
-on_end name program end = on_ending name (variables program) (output_rows end) end.ending
+on_end name program end = on_ending name (output_text program end) (length (output_rows end)) end.ending
 
 -- the first name that is neither declared nor a column is refused; else the program means its one-thread answer
 abbrev pub on_names : Option Place → List ℕ → Program → List (List Value) → ℕ → Script
 on_names (Some place) name program rows budget = Says (source_line UnknownName place) (Ends ended.Source)
 on_names None name program rows budget = on_end name program (one_thread_answer program rows budget)
 
+-- a program that isn't built yet is refused
+abbrev pub on_built : Bool → List ℕ → Program → List (List Value) → ℕ → Script
+on_built false name program rows budget = Says (source_line NotBuilt start_place) (Ends ended.Source)
+on_built true name program rows budget = on_names (first_unknown program) name program rows budget
+
 -- a program over its rows
 abbrev pub on_program : List ℕ → Program → List (List Value) → ℕ → Script
-on_program name program rows budget = on_names (first_unknown program) name program rows budget
+on_program name program rows budget = on_built (is_built program) name program rows budget
 
 -- the program of a source over the columns of its table; what a source declares is BIGINT
 abbrev pub program_over : Source → List Column → Program
 program_over source columns =
     record { declared = map (λ name. record { name = name; ty = BigInt }) source.declared; columns = columns; body = source.body }
 
--- why a table is refused
-abbrev pub kind_of : DraftKind → ℕ → ℕ → FileKind
-kind_of draft.NotBuilt row column = file.NotBuilt
-kind_of draft.BadCell row column = file.BadCell row column
-
 -- a table is refused, or its rows are read
-abbrev pub on_table : Source → ℕ → Result DraftTable DraftRefusal → Script
-on_table source budget (Err refusal) =
-    Says (file_line (table_file source.table) (kind_of refusal.kind refusal.row refusal.column)) (Ends ended.File)
+abbrev pub on_table : Source → ℕ → Result Contents CsvRefusal → Script
+on_table source budget (Err refusal) = Says (file_line (table_file source.table) (file.Table refusal)) (Ends ended.File)
 on_table source budget (Ok table) = on_program source.output (program_over source table.columns) table.rows budget
 
 -- a source is refused, or its table is read

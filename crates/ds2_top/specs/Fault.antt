@@ -1,16 +1,17 @@
 -- A runtime fault of a command: the first of the one-thread meaning.
-use Rattle.std.specs.Prelude.{◌≡◌, ℕ, List, Option, Some, None, Ok}
+use Rattle.std.specs.Prelude.{◌≡◌, ℕ, true, List, Option, Some, None, Ok}
 use Rattle.ds2_base.specs.declared.place.Place.{Place}
 use Rattle.ds2_value.specs.declared.fault.Fault.{Fault}
 use Rattle.ds2_value.specs.declared.fault.Ending.TheVariants.{Faulted}
+use Rattle.ds2_table.specs.Table.{Contents}
+use Rattle.ds2_csv.specs.Reads.{reads}
 use Rattle.ds2_meaning.specs.Names.{first_unknown}
 use Rattle.ds2_meaning.specs.Program.{one_thread_answer}
 use Rattle.ds2_draft_source.specs.Source.{Source, source_of}
-use Rattle.ds2_draft_table.specs.Reads.{reads}
-use Rattle.ds2_draft_table.specs.declared.table.DraftTable.{DraftTable}
 use Rattle.ds2_outside.specs.Files.{Files, file}
 use Rattle.ds2_top.specs.declared.words.Command.TheVariants.{Run}
 use Rattle.ds2_top.specs.Answer.{program_over, source_limit, table_file, table_limit}
+use Rattle.ds2_top.specs.Built.{is_built}
 use Rattle.ds2_top.specs.Leaves.{Gained}
 use Rattle.ds2_top.specs.Lines.{error_line, fault_text}
 use Rattle.ds2_top.specs.Load.{bounded}
@@ -23,12 +24,13 @@ pub record FirstFault (words : List (List ℕ)) (files : Files) (fault : Fault) 
   pub text : List ℕ
   pub source : Source
   pub bytes : List ℕ
-  pub table : DraftTable
+  pub table : Contents
   pub command_is : command_of words ≡ Some (Run name budget)
   pub text_is : bounded source_limit (file files name) ≡ Ok text
   pub source_is : source_of text ≡ Some source
   pub bytes_are : bounded table_limit (file files (table_file source.table)) ≡ Ok bytes
   pub table_is : reads bytes ≡ Ok table
+  pub built : is_built (program_over source table.columns) ≡ true
   pub names_known : first_unknown (program_over source table.columns) ≡ None
   pub ends : (one_thread_answer (program_over source table.columns) table.rows budget).ending ≡ Faulted fault place
 

@@ -1,5 +1,6 @@
 pub mod Actions
 pub mod Answer
+pub mod Built
 pub mod Course
 pub mod Fault
 pub mod Leaves

@@ -4,6 +4,8 @@ use Rattle.std.specs.Fmt.{decimal}
 use Rattle.ds2_base.specs.declared.place.Place.{Place}
 use Rattle.ds2_value.specs.declared.fault.Fault.{Fault}
 use Rattle.ds2_value.specs.declared.fault.Fault.TheVariants.{Overflow, DivideByZero, Range, NoWhen, BudgetSpent, DepthReached}
+use Rattle.ds2_csv.specs.declared.refusal.CsvKind.{CsvKind}
+use Rattle.ds2_csv.specs.declared.refusal.CsvKind.TheVariants as csv
 use Rattle.ds2_top.specs.declared.lines.SourceKind.{SourceKind}
 use Rattle.ds2_top.specs.declared.lines.SourceKind.TheVariants.{NotBuilt, UnknownName}
 use Rattle.ds2_top.specs.declared.load.FileKind.{FileKind}
@@ -21,12 +23,33 @@ memory_line = codes "ERROR: Want of memory.\n"
 abbrev pub fault_line : List ℕ → List ℕ → List ℕ
 fault_line kind name = codes "ERROR: " ++ (kind ++ (codes " fault on " ++ (name ++ codes ".\n")))
 
--- what the line on a refused file says of a kind: its name and, for a cell, its row and column
+-- the name of a kind of a table's refusal
+abbrev pub table_kind_text : CsvKind → List ℕ
+table_kind_text csv.TooLarge = codes "TooLarge"
+table_kind_text csv.NotUtf8 = codes "NotUtf8"
+table_kind_text csv.NoHeader = codes "NoHeader"
+table_kind_text csv.BadHeader = codes "BadHeader"
+table_kind_text csv.BadType = codes "BadType"
+table_kind_text csv.DuplicateColumn = codes "DuplicateColumn"
+table_kind_text csv.BadRecord = codes "BadRecord"
+table_kind_text csv.BadCell = codes "BadCell"
+
+-- the place of a table's refusal: a cell has a row and a column, a header cell a column, a record a row, and a file none
+abbrev pub table_place : CsvKind → ℕ → ℕ → List ℕ
+table_place csv.TooLarge row column = codes ".\n"
+table_place csv.NotUtf8 row column = codes ".\n"
+table_place csv.NoHeader row column = codes ".\n"
+table_place csv.BadHeader row column = codes " at column " ++ (decimal column ++ codes ".\n")
+table_place csv.BadType row column = codes " at column " ++ (decimal column ++ codes ".\n")
+table_place csv.DuplicateColumn row column = codes " at column " ++ (decimal column ++ codes ".\n")
+table_place csv.BadRecord row column = codes " at row " ++ (decimal row ++ codes ".\n")
+table_place csv.BadCell row column = codes " at row " ++ (decimal row ++ (codes ", column " ++ (decimal column ++ codes ".\n")))
+
+-- what the line on a refused file says of a kind: its name, and the place in the table
 abbrev pub kind_text : FileKind → List ℕ
 kind_text file.Absent = codes "Absent.\n"
 kind_text file.TooLarge = codes "TooLarge.\n"
-kind_text file.NotBuilt = codes "NotBuilt.\n"
-kind_text (file.BadCell row column) = codes "BadCell at row " ++ (decimal row ++ (codes ", column " ++ (decimal column ++ codes ".\n")))
+kind_text (file.Table refusal) = table_kind_text refusal.kind ++ table_place refusal.kind refusal.row refusal.column
 
 -- a file is refused
 abbrev pub file_line : List ℕ → FileKind → List ℕ

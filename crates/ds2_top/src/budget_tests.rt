@@ -4,13 +4,17 @@ ghost use Rattle.ds2_meaning.specs.Names.{AllKnown};
 ghost use Rattle.ds2_meaning.specs.View.{program_of};
 ghost use Rattle.ds2_top.specs.Words.{most_budget};
 
-use crate::program::{one_thread_end, program_over};
-use ds2_base::{OutOfMemory, Stop};
+use crate::program::{copy_columns, one_thread_end, program_over};
+use ds2_base::{List, OutOfMemory, Stop};
+use ds2_csv::{read_table, write_rows};
 use ds2_draft_source::{Source, read_source};
-use ds2_draft_table::{DraftTable, read_table};
-use ds2_layout::first_unknown;
+use ds2_gen::generate;
+use ds2_layout::{first_unknown, variables};
+use ds2_machine::OutRow;
 use ds2_meaning::TypedData;
 use ds2_reference::one_thread_answer;
+use ds2_table::Table;
+use ds2_unit::run_alone;
 use ds2_value::Row;
 use std::alloc::Global;
 use std::test::Fail;
@@ -20,6 +24,11 @@ const CHOICES: &str =
 
 // The last row overflows in its last statement.
 const PAIRS: &str = "a bigint,b bigint\n1,2\n2,1\n3,3\n0,0\n,5\n9223372036854775807,1\n";
+
+// Whether rows that were kept are these.
+fn are_rows(kept: &[OutRow], rows: &[Row]) -> bool {
+    kept.len() == rows.len() && kept.iter().zip(rows).all(|(out, row)| out.row == *row)
+}
 
 // Whether the compiled run and the plain one end alike.
 fn ends_alike(
@@ -33,8 +42,18 @@ fn ends_alike(
     requires budget { budget ≤ most_budget }
 {
     let compiled = one_thread_end(alloc, program, rows, budget)?;
+    let code = generate(alloc, program)?;
+    let kept = run_alone(alloc, &code, rows, budget)?;
     let plain = one_thread_answer(alloc, program, rows, budget)?;
-    Ok(compiled.ending == plain.ending && compiled.rows == plain.rows)
+    let columns = variables(alloc, program)?;
+    let text = write_rows(alloc, columns.as_slice(), plain.rows.as_slice())?;
+    Ok(
+        compiled.ending == plain.ending
+            && compiled.text == text
+            && compiled.rows == plain.rows.len() as u64
+            && kept.ending == plain.ending
+            && are_rows(kept.rows.as_slice(), plain.rows.as_slice()),
+    )
 }
 
 // Whether they end alike with each budget, from none to more than the job has steps in a row.
@@ -50,13 +69,11 @@ fn all_end_alike(alloc: Global, program: &TypedData, rows: &[Row]) -> Result<boo
     Ok(true)
 }
 
-fn with_table(alloc: Global, source: Source, table: DraftTable) -> Result<bool, OutOfMemory>
-    requires { All (λ row. length row ≡ length table.columns) table.rows }
-{
-    let DraftTable { columns, rows } = table;
+fn with_table(alloc: Global, source: Source, table: &Table) -> Result<bool, OutOfMemory> {
+    let columns = copy_columns(alloc, table.schema().columns().as_slice())?;
     let program = program_over(alloc, source, columns)?;
     match first_unknown(alloc, &program)? {
-        None => all_end_alike(alloc, &program, rows.as_slice()),
+        None => all_end_alike(alloc, &program, table.rows().as_slice()),
         Some(_) => Ok(false),
     }
 }
@@ -65,8 +82,9 @@ fn agrees(alloc: Global, source: &str, table: &str) -> Result<bool, OutOfMemory>
     let Some(source) = read_source(alloc, source.as_bytes())? else {
         return Ok(false);
     };
-    match read_table(alloc, table.as_bytes()) {
-        Ok(table) => with_table(alloc, source, table),
+    let bytes = List::from_slice(alloc, table.as_bytes())?;
+    match read_table(alloc, &bytes) {
+        Ok(table) => with_table(alloc, source, &table),
         Err(Stop::OutOfMemory) => Err(OutOfMemory),
         Err(Stop::Refused(_)) => Ok(false),
     }

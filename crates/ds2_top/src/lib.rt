@@ -3,10 +3,12 @@
 
 #[cfg(test)]
 mod budget_tests;
+mod built;
 #[cfg(test)]
 mod layer_tests;
 mod lines;
 mod load;
+mod output_text;
 mod outputs;
 mod program;
 mod report;

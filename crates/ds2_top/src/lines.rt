@@ -1,9 +1,10 @@
 //! The lines of the log. Each ends with a line feed.
 ghost use Rattle.std.specs.Prelude.{◌≡◌, ◌++◌, IfOk, OnOk, string_bytes};
-ghost use Rattle.ds2_top.specs.Lines.{error_line, fault_line, fault_text, file_line, source_kind_text, source_line, table_line};
+ghost use Rattle.ds2_top.specs.Lines.{error_line, fault_line, fault_text, file_line, source_kind_text, source_line, table_kind_text, table_line};
 
 use crate::load::FileKind;
 use ds2_base::{Bytes, OutOfMemory, Place, Text};
+use ds2_csv::{CsvKind, CsvRefusal};
 use ds2_value::Fault;
 use std::alloc::{AllocError, Global};
 
@@ -23,6 +24,43 @@ pub(crate) fn fault_line(alloc: Global, kind: &str, name: &str) -> Result<String
     format!(in alloc; "ERROR: {kind} fault on {name}.\n")
 }
 
+fn table_kind_text(kind: CsvKind) -> &'static str
+    ensures { result.now ≡ table_kind_text kind }
+{
+    match kind {
+        CsvKind::TooLarge => "TooLarge",
+        CsvKind::NotUtf8 => "NotUtf8",
+        CsvKind::NoHeader => "NoHeader",
+        CsvKind::BadHeader => "BadHeader",
+        CsvKind::BadType => "BadType",
+        CsvKind::DuplicateColumn => "DuplicateColumn",
+        CsvKind::BadRecord => "BadRecord",
+        CsvKind::BadCell => "BadCell",
+    }
+}
+
+// `ERROR: File NAME refused: KIND.`, with the place in the table.
+fn refused_table_line(alloc: Global, name: &str, refusal: CsvRefusal) -> Result<String, AllocError>
+    ensures { IfOk result (λ line. string_bytes line ≡ file_line name.now (FileKind.Table refusal)) }
+{
+    let CsvRefusal { kind, row, column } = refusal;
+    let text = table_kind_text(kind);
+    match kind {
+        CsvKind::TooLarge | CsvKind::NotUtf8 | CsvKind::NoHeader => {
+            format!(in alloc; "ERROR: File {name} refused: {text}.\n")
+        }
+        CsvKind::BadHeader | CsvKind::BadType | CsvKind::DuplicateColumn => {
+            format!(in alloc; "ERROR: File {name} refused: {text} at column {column}.\n")
+        }
+        CsvKind::BadRecord => {
+            format!(in alloc; "ERROR: File {name} refused: {text} at row {row}.\n")
+        }
+        CsvKind::BadCell => {
+            format!(in alloc; "ERROR: File {name} refused: {text} at row {row}, column {column}.\n")
+        }
+    }
+}
+
 /// `ERROR: File NAME refused: KIND.`
 fn file_line(alloc: Global, name: &str, kind: FileKind) -> Result<String, AllocError>
     ensures { IfOk result (λ line. string_bytes line ≡ file_line name.now kind) }
@@ -30,12 +68,7 @@ fn file_line(alloc: Global, name: &str, kind: FileKind) -> Result<String, AllocE
     match kind {
         FileKind::Absent => format!(in alloc; "ERROR: File {name} refused: Absent.\n"),
         FileKind::TooLarge => format!(in alloc; "ERROR: File {name} refused: TooLarge.\n"),
-        FileKind::NotBuilt => format!(in alloc; "ERROR: File {name} refused: NotBuilt.\n"),
-        FileKind::BadCell { row, column } => {
-            format!(in alloc;
-                "ERROR: File {name} refused: BadCell at row {row}, column {column}.\n"
-            )
-        }
+        FileKind::Table(refusal) => refused_table_line(alloc, name, refusal),
     }
 }
 
@@ -79,7 +112,7 @@ fn fault_text(fault: Fault) -> &'static str
 }
 
 /// `NOTE: Table NAME, R rows.`
-pub(crate) fn table_line(alloc: Global, name: &str, rows: usize) -> Result<String, AllocError>
+pub(crate) fn table_line(alloc: Global, name: &str, rows: u64) -> Result<String, AllocError>
     ensures { IfOk result (λ line. string_bytes line ≡ table_line name.now rows) }
 {
     format!(in alloc; "NOTE: Table {name}, {rows} rows.\n")

@@ -10,6 +10,7 @@ use crate::Status;
 use crate::lines::say_refused;
 use crate::steps::say_fault;
 use ds2_base::{Bytes, OutOfMemory, Text};
+use ds2_csv::CsvRefusal;
 use ds2_outside::{ReadStop, Store};
 use std::alloc::Global;
 
@@ -20,10 +21,8 @@ pub enum FileKind {
     Absent,
     /// It is longer than its limit.
     TooLarge,
-    /// It is in a form that isn't built yet.
-    NotBuilt,
-    /// A cell of it is no value; rows and columns are counted from 1.
-    BadCell { row: u64, column: u32 },
+    /// Its bytes are no table.
+    Table(CsvRefusal),
 }
 
 /// What a read of a whole file gave.

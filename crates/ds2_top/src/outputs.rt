@@ -1,5 +1,5 @@
 //! What a program leaves that has ended.
-ghost use Rattle.std.specs.Prelude.{◌≡◌, ◌++◌, codes, IfSome, IfOk, IsOkAnd, length};
+ghost use Rattle.std.specs.Prelude.{◌≡◌, ◌++◌, codes, IfSome, IfOk, IsOkAnd};
 ghost use Rattle.ds2_value.specs.declared.fault.Ending.TheVariants.{Normal};
 ghost use Rattle.ds2_outside.specs.Causes.{HasCause};
 ghost use Rattle.ds2_top.specs.Lines.{table_line};
@@ -9,11 +9,11 @@ ghost use Rattle.ds2_top.specs.Status.{IsOfCommand};
 
 use crate::Status;
 use crate::lines::{say_error, table_line};
+use crate::program::OneThreadEnd;
 use crate::steps::{Step, perform_all};
 use ds2_base::{Bytes, List, Name, OutOfMemory, Text};
-use ds2_draft_table::write_table;
 use ds2_outside::Store;
-use ds2_value::{Column, Ending, Row};
+use ds2_value::Ending;
 use std::alloc::Global;
 
 /// The name of a table's file.
@@ -25,25 +25,20 @@ pub(crate) fn table_file(alloc: Global, name: &Name) -> Result<Text, OutOfMemory
 }
 
 // The step that counts a table's rows in the log.
-fn say_table(alloc: Global, name: &Name, rows: &[Row]) -> Result<Step, OutOfMemory>
-    ensures { IfOk result (λ step. step ≡ Step.Say (table_line name.now (length rows.now))) }
+fn say_table(alloc: Global, name: &Name, rows: u64) -> Result<Step, OutOfMemory>
+    ensures { IfOk result (λ step. step ≡ Step.Say (table_line name.now rows)) }
 {
-    let line = table_line(alloc, name.as_str(), rows.len())?;
+    let line = table_line(alloc, name.as_str(), rows)?;
     Ok(Step::Say(List::from_slice(alloc, line.as_str().as_bytes())?))
 }
 
 // The steps that write a table and count its rows in the log.
-fn outputs(
-    alloc: Global,
-    name: &Name,
-    columns: &[Column],
-    rows: &[Row],
-) -> Result<List<Step>, OutOfMemory>
-    ensures { IfOk result (λ steps. steps ≡ outputs name.now columns.now rows.now) }
+fn outputs(alloc: Global, name: &Name, text: Bytes, rows: u64) -> Result<List<Step>, OutOfMemory>
+    ensures { IfOk result (λ steps. steps ≡ outputs name.now text rows) }
 {
     let mut steps = List::new(alloc);
     let file = table_file(alloc, name)?;
-    steps.push(Step::Write(file, write_table(alloc, columns, rows)?))?;
+    steps.push(Step::Write(file, text))?;
     steps.push(say_table(alloc, name, rows)?)?;
     Ok(steps)
 }
@@ -52,17 +47,17 @@ fn outputs(
 fn write_outputs<S: Store>(
     alloc: Global,
     name: &Name,
-    columns: &[Column],
-    rows: &[Row],
+    text: Bytes,
+    rows: u64,
     log: &mut Bytes,
     store: &mut S,
 ) -> Result<Status, OutOfMemory>
-    ensures left { IfSome (S.files store.old) (λ files. Left (on_ending name.now columns.now rows.now Normal) log.old files result log.new (S.files store.new)) }
+    ensures left { IfSome (S.files store.old) (λ files. Left (on_ending name.now text rows Normal) log.old files result log.new (S.files store.new)) }
     ensures read { HasCause (S.read_faults store.old) (S.read_faults store.new) (IsOkAnd result (λ status. status ≡ Status.Read)) }
     ensures write { HasCause (S.write_faults store.old) (S.write_faults store.new) (IsOkAnd result (λ status. status ≡ Status.Write)) }
     ensures status { IfOk result IsOfCommand }
 {
-    let steps = outputs(alloc, name, columns, rows)?;
+    let steps = outputs(alloc, name, text, rows)?;
     perform_all(alloc, steps.as_slice(), Status::Done, log, store)
 }
 
@@ -70,19 +65,17 @@ fn write_outputs<S: Store>(
 pub(crate) fn finish<S: Store>(
     alloc: Global,
     name: &Name,
-    columns: &[Column],
-    rows: &[Row],
-    ending: Ending,
+    end: OneThreadEnd,
     log: &mut Bytes,
     store: &mut S,
 ) -> Result<Status, OutOfMemory>
-    ensures left { IfSome (S.files store.old) (λ files. Left (on_ending name.now columns.now rows.now ending) log.old files result log.new (S.files store.new)) }
+    ensures left { IfSome (S.files store.old) (λ files. Left (on_ending name.now end.text end.rows end.ending) log.old files result log.new (S.files store.new)) }
     ensures read { HasCause (S.read_faults store.old) (S.read_faults store.new) (IsOkAnd result (λ status. status ≡ Status.Read)) }
     ensures write { HasCause (S.write_faults store.old) (S.write_faults store.new) (IsOkAnd result (λ status. status ≡ Status.Write)) }
     ensures status { IfOk result IsOfCommand }
 {
-    match ending {
-        Ending::Normal => write_outputs(alloc, name, columns, rows, log, store),
+    match end.ending {
+        Ending::Normal => write_outputs(alloc, name, end.text, end.rows, log, store),
         Ending::Faulted { kind, place } => {
             say_error(alloc, kind, place, log)?;
             Ok(Status::Fault)

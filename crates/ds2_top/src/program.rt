@@ -5,16 +5,16 @@ ghost use Rattle.ds2_meaning.specs.Names.{AllKnown};
 ghost use Rattle.ds2_meaning.specs.Program.{one_thread_answer};
 ghost use Rattle.ds2_meaning.specs.View.{program_of};
 ghost use Rattle.ds2_draft_source.specs.Source.{tree_of};
-ghost use Rattle.ds2_machine.specs.UnitEnd.{written};
-ghost use Rattle.ds2_top.specs.Answer.{IsAnswer, program_over, rows_of};
+ghost use Rattle.ds2_top.specs.Answer.{IsAnswer, program_over};
 ghost use Rattle.ds2_top.specs.Words.{most_budget};
 
-use ds2_base::{List, Name, OutOfMemory};
+use crate::output_text::OutputText;
+use ds2_base::{Bytes, List, Name, OutOfMemory};
 use ds2_draft_source::Source;
 use ds2_gen::generate;
-use ds2_machine::OutRow;
+use ds2_layout::variables;
 use ds2_meaning::TypedData;
-use ds2_unit::run_alone;
+use ds2_unit::run_into;
 use ds2_value::{Column, Ending, Row, Ty};
 use std::alloc::Global;
 
@@ -30,6 +30,20 @@ fn bigint_columns(alloc: Global, names: &[Name]) -> Result<List<Column>, OutOfMe
         })?;
     }
     Ok(columns)
+}
+
+/// The same columns once more.
+pub(crate) fn copy_columns(alloc: Global, columns: &[Column]) -> Result<List<Column>, OutOfMemory>
+    ensures { IfOk result (λ copy. copy ≡ columns.now) }
+{
+    let mut copy = List::new(alloc);
+    for column in columns {
+        copy.push(Column {
+            name: column.name.copy(alloc)?,
+            ty: column.ty,
+        })?;
+    }
+    Ok(copy)
 }
 
 /// The program of a source over the columns of its table.
@@ -60,25 +74,14 @@ pub(crate) fn program_over(
 /// How a program ends on one thread.
 #[derive(Drop)]
 pub struct OneThreadEnd {
-    /// The rows of its output, in the order in which they were written.
-    pub rows: List<Row>,
+    /// The text of the table of its output, with the rows that were written before a fault.
+    pub text: Bytes,
+    /// How many rows that table has.
+    pub rows: u64,
     pub ending: Ending,
 }
 
-// The rows alone, of rows that a machine has written.
-fn rows_of(alloc: Global, outs: List<OutRow>) -> Result<List<Row>, OutOfMemory>
-    ensures { IfOk result (λ rows. rows ≡ rows_of (written outs)) }
-{
-    let mut rows = List::new(alloc);
-    rows.reserve(outs.len())?;
-    for out in outs.into_vec() {
-        let OutRow { row, .. } = out;
-        rows.push(row)?;
-    }
-    Ok(rows)
-}
-
-/// Compiles a program, and runs it on the rows of its table.
+/// Compiles a program, runs it on the rows of its table, and makes the text of its output as its rows are written.
 pub(crate) fn one_thread_end(
     alloc: Global,
     program: &TypedData,
@@ -88,12 +91,15 @@ pub(crate) fn one_thread_end(
     requires known { AllKnown (program_of program.now) }
     requires even { All (λ row. length row ≡ length program.now.columns) rows.now }
     requires budget { budget ≤ most_budget }
-    ensures { IfOk result (λ end. IsAnswer end (one_thread_answer (program_of program.now) rows.now budget)) }
+    ensures { IfOk result (λ end. IsAnswer (program_of program.now) end (one_thread_answer (program_of program.now) rows.now budget)) }
 {
     let code = generate(alloc, program)?;
-    let end = run_alone(alloc, &code, rows, budget)?;
+    let sink = OutputText::new(alloc, variables(alloc, program)?)?;
+    let end = run_into(alloc, &code, rows, budget, sink)?;
+    let rows = end.rows.len();
     Ok(OneThreadEnd {
-        rows: rows_of(alloc, end.rows)?,
+        text: end.rows.into_bytes()?,
+        rows,
         ending: end.ending,
     })
 }

@@ -1,28 +1,30 @@
 //! What a line of words does to a store, and the text that it gives for the log.
-ghost use Rattle.std.specs.Prelude.{◌≡◌, ◌≢◌, ◌≤◌, All, IfSome, IfOk, IsOkAnd, length};
+ghost use Rattle.std.specs.Prelude.{◌≡◌, ◌≢◌, ◌≤◌, true, All, IfSome, IfOk, IsOkAnd, length};
 ghost use Rattle.ds2_outside.specs.Causes.{HasCause};
 ghost use Rattle.ds2_meaning.specs.Names.{AllKnown};
 ghost use Rattle.ds2_meaning.specs.View.{program_of};
 ghost use Rattle.ds2_draft_source.specs.Source.{source_of, tree_of};
-ghost use Rattle.ds2_draft_table.specs.Reads.{reads};
+ghost use Rattle.ds2_csv.specs.Reads.{reads};
 ghost use Rattle.ds2_top.specs.declared.words.Command.TheVariants.{Run};
-ghost use Rattle.ds2_top.specs.Answer.{answer, kind_of, on_command, on_names, on_program, on_source, on_table};
+ghost use Rattle.ds2_top.specs.Answer.{answer, on_built, on_command, on_names, on_program, on_source, on_table};
 ghost use Rattle.ds2_top.specs.Status.{IsOfCommand};
 ghost use Rattle.ds2_top.specs.Words.{command_of, most_budget};
 ghost use Rattle.ds2_top.specs.Course.{Left};
 
 use crate::Status;
+use crate::built::is_built;
 use crate::lines::{SourceKind, say_refused, say_source_refused};
 use crate::load::{FileKind, Seen, load_one};
 use crate::outputs::{finish, table_file};
-use crate::program::{one_thread_end, program_over};
+use crate::program::{copy_columns, one_thread_end, program_over};
 use crate::words::{Command, read_words};
 use ds2_base::{Bytes, OutOfMemory, Place, Stop, Text};
+use ds2_csv::read_table;
 use ds2_draft_source::{Source, read_source};
-use ds2_draft_table::{DraftKind, DraftTable, read_table};
-use ds2_layout::{first_unknown, variables};
+use ds2_layout::first_unknown;
 use ds2_meaning::TypedData;
 use ds2_outside::Store;
+use ds2_table::Table;
 use ds2_value::Row;
 use std::alloc::Global;
 
@@ -48,19 +50,35 @@ fn run_known<S: Store>(
     ensures status { IfOk result IsOfCommand }
 {
     let end = one_thread_end(alloc, program, rows, budget)?;
-    let columns = variables(alloc, program)?;
-    finish(
-        alloc,
-        &program.output,
-        columns.as_slice(),
-        end.rows.as_slice(),
-        end.ending,
-        log,
-        store,
-    )
+    finish(alloc, &program.output, end, log, store)
 }
 
-// Runs a program, or refuses the first name that it does not know.
+// Runs a program that is built, or refuses the first name that it does not know.
+fn run_built<S: Store>(
+    alloc: Global,
+    program: &TypedData,
+    rows: &[Row],
+    budget: u64,
+    log: &mut Bytes,
+    store: &mut S,
+) -> Result<Status, OutOfMemory>
+    requires even { All (λ row. length row ≡ length program.now.columns) rows.now }
+    requires budget { budget ≤ most_budget }
+    ensures left { IfSome (S.files store.old) (λ files. Left (on_built true program.now.output (program_of program.now) rows.now budget) log.old files result log.new (S.files store.new)) }
+    ensures read { HasCause (S.read_faults store.old) (S.read_faults store.new) (IsOkAnd result (λ status. status ≡ Status.Read)) }
+    ensures write { HasCause (S.write_faults store.old) (S.write_faults store.new) (IsOkAnd result (λ status. status ≡ Status.Write)) }
+    ensures status { IfOk result IsOfCommand }
+{
+    match first_unknown(alloc, program)? {
+        None => run_known(alloc, program, rows, budget, log, store),
+        Some(place) => {
+            say_source_refused(alloc, SourceKind::UnknownName, place, log)?;
+            Ok(Status::Source)
+        }
+    }
+}
+
+// Runs a program, or refuses it where it isn't built yet.
 fn run_program<S: Store>(
     alloc: Global,
     program: &TypedData,
@@ -76,21 +94,11 @@ fn run_program<S: Store>(
     ensures write { HasCause (S.write_faults store.old) (S.write_faults store.new) (IsOkAnd result (λ status. status ≡ Status.Write)) }
     ensures status { IfOk result IsOfCommand }
 {
-    match first_unknown(alloc, program)? {
-        None => run_known(alloc, program, rows, budget, log, store),
-        Some(place) => {
-            say_source_refused(alloc, SourceKind::UnknownName, place, log)?;
-            Ok(Status::Source)
-        }
-    }
-}
-
-fn kind_of(kind: DraftKind, row: u64, column: u32) -> FileKind
-    ensures { result ≡ kind_of kind row column }
-{
-    match kind {
-        DraftKind::NotBuilt => FileKind::NotBuilt,
-        DraftKind::BadCell => FileKind::BadCell { row, column },
+    if is_built(alloc, program)? {
+        run_built(alloc, program, rows, budget, log, store)
+    } else {
+        say_source_refused(alloc, SourceKind::NotBuilt, Place::start(), log)?;
+        Ok(Status::Source)
     }
 }
 
@@ -98,21 +106,20 @@ fn kind_of(kind: DraftKind, row: u64, column: u32) -> FileKind
 fn run_table<S: Store>(
     alloc: Global,
     source: Source,
-    table: DraftTable,
+    table: &Table,
     budget: u64,
     log: &mut Bytes,
     store: &mut S,
 ) -> Result<Status, OutOfMemory>
-    requires even { All (λ row. length row ≡ length table.columns) table.rows }
     requires budget { budget ≤ most_budget }
-    ensures left { IfSome (S.files store.old) (λ files. Left (on_table (tree_of source) budget (Ok table)) log.old files result log.new (S.files store.new)) }
+    ensures left { IfSome (S.files store.old) (λ files. Left (on_table (tree_of source) budget (Ok table.now)) log.old files result log.new (S.files store.new)) }
     ensures read { HasCause (S.read_faults store.old) (S.read_faults store.new) (IsOkAnd result (λ status. status ≡ Status.Read)) }
     ensures write { HasCause (S.write_faults store.old) (S.write_faults store.new) (IsOkAnd result (λ status. status ≡ Status.Write)) }
     ensures status { IfOk result IsOfCommand }
 {
-    let DraftTable { columns, rows } = table;
+    let columns = copy_columns(alloc, table.schema().columns().as_slice())?;
     let program = program_over(alloc, source, columns)?;
-    run_program(alloc, &program, rows.as_slice(), budget, log, store)
+    run_program(alloc, &program, table.rows().as_slice(), budget, log, store)
 }
 
 // Runs a source over the bytes of its table, or refuses them.
@@ -130,12 +137,11 @@ fn run_bytes<S: Store>(
     ensures write { HasCause (S.write_faults store.old) (S.write_faults store.new) (IsOkAnd result (λ status. status ≡ Status.Write)) }
     ensures status { IfOk result IsOfCommand }
 {
-    match read_table(alloc, bytes.as_slice()) {
-        Ok(table) => run_table(alloc, source, table, budget, log, store),
+    match read_table(alloc, bytes) {
+        Ok(table) => run_table(alloc, source, &table, budget, log, store),
         Err(Stop::Refused(refusal)) => {
             let name = table_file(alloc, &source.table)?;
-            let kind = kind_of(refusal.kind, refusal.row, refusal.column);
-            say_refused(alloc, &name, kind, log)?;
+            say_refused(alloc, &name, FileKind::Table(refusal), log)?;
             Ok(Status::File)
         }
         Err(Stop::OutOfMemory) => Err(OutOfMemory),

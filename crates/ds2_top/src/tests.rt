@@ -28,6 +28,8 @@ const TWO_STEPS: &str =
 const NEAREST_ELSE: &str =
     "data out; dcl bigint x; method run(); set t; if a then if b then x = 1; else x = 2; end; enddata;";
 
+const COPY: &str = "data out; method run(); set t; end; enddata;";
+
 const ONE_ROW: &str = "a bigint,b bigint\n1,2\n";
 
 /// The sum of one row, which is written and noted.
@@ -86,8 +88,39 @@ fn leaves(alloc: Global, case: &Case) -> Result<bool, OutOfMemory> {
 }
 
 // Commands that write the table.
-const DONE: [Case; 5] = [
+const DONE: [Case; 9] = [
     FIRST,
+    // A byte order mark, CRLF, and types out of the cells.
+    Case {
+        source: COPY,
+        table: Some("\u{feff}region,code,amt\r\nNorth,007,12.5\r\nSouth,010,3.25\r\n"),
+        output: Some(
+            "region varchar(5),code varchar(3),\"amt decimal(4,2)\"\nNorth,007,12.50\nSouth,010,3.25\n",
+        ),
+        log: "NOTE: Table out, 2 rows.\n",
+        ..FIRST
+    },
+    // Null, a text that is written as null is, and the empty text.
+    Case {
+        source: COPY,
+        table: Some("i bigint,s varchar(5)\n1,\\N\n2,\\\\N\n3,\n"),
+        output: Some("i bigint,s varchar(5)\n1,\\N\n2,\\\\N\n3,\n"),
+        log: "NOTE: Table out, 3 rows.\n",
+        ..FIRST
+    },
+    // Columns that are no BIGINT beside sums of those that are.
+    Case {
+        table: Some("a,name,b,fee\n1,\"x, y\",2,0.5\n"),
+        output: Some(
+            "x bigint,a bigint,name varchar(4),b bigint,\"fee decimal(1,1)\"\n3,1,\"x, y\",2,0.5\n",
+        ),
+        ..FIRST
+    },
+    // The columns' types are told by their cells.
+    Case {
+        table: Some("a,b\n1,2\n"),
+        ..FIRST
+    },
     Case {
         table: Some("a bigint,b bigint\n"),
         output: Some("x bigint,a bigint,b bigint\n"),
@@ -126,7 +159,7 @@ const USAGE: Case = Case {
     ..REFUSED
 };
 
-const OTHERS: [Case; 15] = [
+const OTHERS: [Case; 14] = [
     Case { words: "", ..USAGE },
     Case {
         words: "run job",
@@ -147,27 +180,21 @@ const OTHERS: [Case; 15] = [
         ..REFUSED
     },
     Case {
+        source: "data _null_; method run(); set t; end; enddata;",
+        status: 3,
+        log: "ERROR: Source refused: NotBuilt at 1:1.\n",
+        ..REFUSED
+    },
+    Case {
         source: "data out; dcl bigint x; method run(); set t; x = q + r; end; enddata;",
         status: 3,
         log: "ERROR: Source refused: UnknownName at 1:50.\n",
         ..REFUSED
     },
     Case {
-        table: None,
-        status: 4,
-        log: "ERROR: File t.csv refused: Absent.\n",
-        ..REFUSED
-    },
-    Case {
         table: Some("a bigint,b bigint\n1,2\nx,2\n"),
         status: 4,
         log: "ERROR: File t.csv refused: BadCell at row 2, column 1.\n",
-        ..REFUSED
-    },
-    Case {
-        table: Some("a,b\n1,2\n"),
-        status: 4,
-        log: "ERROR: File t.csv refused: NotBuilt.\n",
         ..REFUSED
     },
     Case {
@@ -210,6 +237,85 @@ const OTHERS: [Case; 15] = [
     },
 ];
 
+const BAD_TABLE: Case = Case {
+    status: 4,
+    ..REFUSED
+};
+
+// Tables that are refused, the first reason each.
+const BAD_TABLES: [Case; 8] = [
+    Case {
+        table: Some(""),
+        log: "ERROR: File t.csv refused: NoHeader.\n",
+        ..BAD_TABLE
+    },
+    Case {
+        table: Some("a,a\n1,2\n"),
+        log: "ERROR: File t.csv refused: DuplicateColumn at column 2.\n",
+        ..BAD_TABLE
+    },
+    Case {
+        table: Some("a,\n1\n"),
+        log: "ERROR: File t.csv refused: BadHeader at column 2.\n",
+        ..BAD_TABLE
+    },
+    Case {
+        table: Some("a char(0),a\n1\n"),
+        log: "ERROR: File t.csv refused: BadType at column 1.\n",
+        ..BAD_TABLE
+    },
+    Case {
+        table: Some("a bigint,b\nx,2\n1,2,3\n"),
+        log: "ERROR: File t.csv refused: BadRecord at row 2.\n",
+        ..BAD_TABLE
+    },
+    Case {
+        table: Some("a bigint,b bigint\n1,x\nx,2\n"),
+        log: "ERROR: File t.csv refused: BadCell at row 1, column 2.\n",
+        ..BAD_TABLE
+    },
+    // A refused table comes before a name that is not known.
+    Case {
+        source: "data out; method run(); set t; q = 1; end; enddata;",
+        table: Some("a char(1)\nxy\n"),
+        log: "ERROR: File t.csv refused: BadCell at row 1, column 1.\n",
+        ..BAD_TABLE
+    },
+    Case {
+        table: None,
+        log: "ERROR: File t.csv refused: Absent.\n",
+        ..BAD_TABLE
+    },
+];
+
+const NOT_BUILT: Case = Case {
+    table: Some("a,b\n1,x\n"),
+    status: 3,
+    log: "ERROR: Source refused: NotBuilt at 1:1.\n",
+    ..REFUSED
+};
+
+// A column that is no BIGINT in a sum, in a condition, assigned to, declared, and beside a name that is not known.
+const NOT_BUILT_YET: [Case; 5] = [
+    NOT_BUILT,
+    Case {
+        source: "data out; method run(); set t; if a then a = 1; else if b then a = 2; end; enddata;",
+        ..NOT_BUILT
+    },
+    Case {
+        source: "data out; method run(); set t; b = 1; end; enddata;",
+        ..NOT_BUILT
+    },
+    Case {
+        source: "data out; dcl bigint b; method run(); set t; end; enddata;",
+        ..NOT_BUILT
+    },
+    Case {
+        source: "data out; method run(); set t; a = q; a = a - b; end; enddata;",
+        ..NOT_BUILT
+    },
+];
+
 // Whether each of these commands leaves what it is to leave.
 fn all_leave(alloc: Global, cases: &[Case]) -> Result<bool, OutOfMemory> {
     for case in cases {
@@ -223,8 +329,22 @@ fn all_leave(alloc: Global, cases: &[Case]) -> Result<bool, OutOfMemory> {
 #[test]
 fn commands(rt: HostRuntime) -> Result<(), Fail> {
     let done = all_leave(rt.alloc(), &DONE)?;
+    assert!(rt; done);
+    Ok(())
+}
+
+#[test]
+fn refusals(rt: HostRuntime) -> Result<(), Fail> {
     let others = all_leave(rt.alloc(), &OTHERS)?;
-    assert!(rt; done && others);
+    assert!(rt; others);
+    Ok(())
+}
+
+#[test]
+fn tables(rt: HostRuntime) -> Result<(), Fail> {
+    let bad = all_leave(rt.alloc(), &BAD_TABLES)?;
+    let not_built = all_leave(rt.alloc(), &NOT_BUILT_YET)?;
+    assert!(rt; bad && not_built);
     Ok(())
 }
 

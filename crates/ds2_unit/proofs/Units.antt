@@ -2,7 +2,6 @@
 use Rattle.std.proofs.Common.{◌≡◌, ℕ, ◌+◌, ◌*◌, ◌^◌, ◌<◌, ◌≤◌, true, false, List, [], ◌∷◌, ◌++◌, length, drop, get_or, refl, sym, ap, ◌∙◌, subst, arith, append_assoc, append-nil, add-one, suc}
 use Rattle.std.proofs.Math.Nat.{mul-le-mul_left}
 use Rattle.std.proofs.Math.Seq.{drop-cons}
-use Rattle.std.proofs.lemmas.List.{map-append}
 use Rattle.ds2_value.specs.declared.value.Value.{Value}
 use Rattle.ds2_value.specs.declared.fault.Fault.{Fault}
 use Rattle.ds2_value.specs.declared.fault.Ending.{Ending}
@@ -12,9 +11,10 @@ use Rattle.ds2_table.specs.Alone.{ProgramEnd, ended, faulted, then_end, IsAlone}
 use Rattle.ds2_code.specs.declared.program.ProgramCode.{ProgramCode}
 use Rattle.ds2_code.specs.Machine.{Slots}
 use Rattle.ds2_code.specs.Unit.{RunsUnit}
-use Rattle.ds2_machine.specs.declared.unit_end.OutRow.{OutRow}
 use Rattle.ds2_machine.specs.declared.unit_end.UnitEnd.{UnitEnd}
-use Rattle.ds2_machine.specs.UnitEnd.{written_of, written, IsToldBy, spent_by}
+use Rattle.ds2_machine.specs.Idle.{all_null}
+use Rattle.ds2_machine.specs.UnitEnd.{written, IsToldBy, spent_by}
+use Rattle.ds2_unit.specs.Answer.{HasAnswered}
 
 -- the row at an index, and those after it
 pub row_first : (rows : List (List Value)) (i : ℕ) (row : List Value) → row ≡ get_or rows i row → i < length rows → drop i rows ≡ row ∷ drop (i + 1) rows
@@ -26,13 +26,15 @@ unit_fits budget n executed few short bound =
     let most : (budget + 1) * n ≤ (budget + 1) * 2 ^ 32 = mul-le-mul_left (budget + 1) (omega arith) in
     omega (arith, most)
 
-pub written_append : (all before more : List OutRow) → all ≡ before ++ more → written before ++ written more ≡ written all
-written_append all before more is = sym (ap written is ∙ map-append written_of before more)
-
 -- there is an answer with this number of instructions, these rows and this ending
 abbrev pub Answers : ProgramCode → ℕ → List (List Value) → Slots → ℕ → List Written → Ending → Type 0
 Answers code budget rows slots executed written ending =
     (end : ProgramEnd) × IsAlone (RunsUnit code budget) rows slots executed end × (written ≡ end.rows) × (ending ≡ end.ending)
+
+-- an answer whose rows have been taken
+pub answered : (HasTaken : List Written → Type 0) (code : ProgramCode) (budget : ℕ) (rows : List (List Value)) (executed : ℕ) (taken : List Written) (ending : Ending)
+    → HasTaken taken → Answers code budget rows (all_null code.slots) executed taken ending → HasAnswered HasTaken code budget rows executed ending
+answered HasTaken code budget rows executed taken ending has h = (h.0, h.1, subst HasTaken h.2 has, h.3)
 
 -- whatever comes of the rows that are left, comes of all rows after this number of instructions and these rows
 abbrev pub Leads : ProgramCode → ℕ → List (List Value) → Slots → ℕ → List Written → List (List Value) → Slots → Type 0

@@ -2,5 +2,7 @@
 #![tactic(auto)]
 
 mod alone;
+mod row_sink;
 
-pub use alone::{ProgramEnd, run_alone};
+pub use alone::{ProgramEnd, run_alone, run_into};
+pub use row_sink::RowSink;

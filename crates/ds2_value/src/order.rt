@@ -1,7 +1,7 @@
 //! The order of values.
-ghost use Rattle.std.specs.Prelude.{◌≡◌};
+ghost use Rattle.std.specs.Prelude.{◌≡◌, []};
 ghost use Rattle.ds2_value.specs.Order.{key_order};
-ghost use Rattle.ds2_value.specs.Texts.{text_cmp};
+ghost use Rattle.ds2_value.specs.Texts.{padded_cmp, text_cmp};
 
 use crate::Value;
 use ds2_decimal::Dec;
@@ -14,8 +14,36 @@ pub(crate) fn whole(i: i64) -> Dec
     Dec::new(i as i128, 0).unwrap()
 }
 
-// How two texts stand by the codes of their characters, the shorter one as if followed by blanks.
-fn text_order(a: &str, b: &str) -> Ordering
+// How characters stand to blanks.
+fn order_to_blanks(rest: &[u8]) -> Ordering
+    ensures { result ≡ padded_cmp rest.now [] }
+{
+    'characters: for c in rest {
+        let order = c.cmp(&b' ');
+        if order.is_ne() {
+            return order;
+        }
+    }
+    Ordering::Equal
+}
+
+// How two texts stand whose characters are bytes.
+fn byte_order(a: &[u8], b: &[u8]) -> Ordering
+    ensures { result ≡ padded_cmp a.now b.now }
+{
+    let common = a.len().min(b.len());
+    let order = a[..common].cmp(&b[..common]);
+    if order.is_ne() {
+        order
+    } else if common < a.len() {
+        order_to_blanks(&a[common..])
+    } else {
+        order_to_blanks(&b[common..]).reverse()
+    }
+}
+
+// How two texts stand, by their characters one after the other.
+fn character_order(a: &str, b: &str) -> Ordering
     ensures { result ≡ text_cmp a.now b.now }
 {
     let mut first = a.chars();
@@ -30,6 +58,17 @@ fn text_order(a: &str, b: &str) -> Ordering
         if order.is_ne() {
             return order;
         }
+    }
+}
+
+// How two texts stand by the codes of their characters, the shorter one as if followed by blanks.
+fn text_order(a: &str, b: &str) -> Ordering
+    ensures { result ≡ text_cmp a.now b.now }
+{
+    if a.is_ascii() && b.is_ascii() {
+        byte_order(a.as_bytes(), b.as_bytes())
+    } else {
+        character_order(a, b)
     }
 }
 

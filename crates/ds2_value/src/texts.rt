@@ -16,10 +16,13 @@ pub(crate) fn trimmed(s: &str) -> &str
     rest
 }
 
-// What follows the first n characters.
+// What follows the first n characters. In ASCII a character is a byte.
 pub(crate) fn after_characters(s: &str, n: usize) -> &str
     ensures { result.now ≡ after_characters n s.now }
 {
+    if s.is_ascii() {
+        return s.split_at(n.min(s.len())).1;
+    }
     let mut rest = s.chars();
     for i in 0..n {
         let _ = rest.next();

@@ -21,7 +21,7 @@ pub enum Value {
 }
 
 // A table holds many values, so one is small.
-const _: () = prove!(size_of::<Value>() <= 48);
+const _: () = prove!(size_of::<Value>() <= 32);
 
 /// The values of a row, one for each column.
 pub type Row = List<Value>;

@@ -1,4 +1,5 @@
-use Rattle.std.proofs.Common.{sym, inl, inr, ◌∙◌}
+use Rattle.std.proofs.Common.{sym, inl, inr, ◌∙◌, length}
+use Rattle.ds2_csv.proofs.ShortLemmas.{few-digits, size-short}
 use Rattle.ds2_csv.proofs.NumberLemmas.{no_size_start, size_stopped, size_passed, size_ended, size_large}
 use Rattle.ds2_csv.proofs.number.size.Goals as goal
 
@@ -18,3 +19,14 @@ returns-then-n-clause-size c =
 
 pub returns-else-n-clause-size : goal.returns-else-n-clause-size
 returns-else-n-clause-size c = size_large c.args.digits.now c.loop-rest.rest.now c.loop-rest.n c.loop-rest.invariant.number c.in_default.len_below c.if-n.false
+
+pub number_behind-requires : goal.number_behind-requires
+number_behind-requires c = few-digits (length c.args.digits.now) c.if-digits-le18.true
+
+pub returns-then-digits-le18-clause-size : goal.returns-then-digits-le18-clause-size
+returns-then-digits-le18-clause-size c =
+    (size-short c.args.digits.now c.number_behind.result (sym c.if-not-begins_well.ensures) c.if-digits-le18.true c.number_behind.ensures.value c.number_behind.ensures.room).0
+
+pub returns-then-digits-le18-clause-within : goal.returns-then-digits-le18-clause-within
+returns-then-digits-le18-clause-within c =
+    (size-short c.args.digits.now c.number_behind.result (sym c.if-not-begins_well.ensures) c.if-digits-le18.true c.number_behind.ensures.value c.number_behind.ensures.room).1

@@ -1,6 +1,6 @@
 use Rattle.std.proofs.Common.{ℕ, List}
 use Rattle.ds2_draft_source.specs.Source.{tree_of}
-use Rattle.ds2_draft_table.specs.Reads.{reads}
+use Rattle.ds2_csv.specs.Reads.{reads}
 use Rattle.ds2_outside.specs.Files.{Files}
 use Rattle.ds2_top.specs.Answer.{on_table, table_file, table_limit}
 use Rattle.ds2_top.proofs.Loads.{ended_left, found_left}

@@ -1,0 +1,179 @@
+//! The type of a column out of its cells, in one pass.
+ghost use Rattle.std.specs.Prelude.{◌≡◌, ◌&&◌, ◌||◌, false, ℕ, [], ◌∷◌, ◌++◌, max, is_some, List as Items};
+ghost use Rattle.ds2_base.specs.Characters.{char_count};
+ghost use Rattle.ds2_csv.specs.Cells.{is_missing};
+ghost use Rattle.ds2_csv.specs.Columns.{whole_part, digits_before, digits_after, text_size, given, decimals_of, type_of_cells};
+ghost use Rattle.ds2_csv.specs.Number.{integer_of};
+ghost use Rattle.ds2_decimal.specs.Text.{read};
+ghost use Rattle.ds2_csv.specs.Inferred.{IsInferred};
+
+use crate::cell::{decoded, is_missing};
+use crate::decimal::decimal;
+use crate::number::integer;
+use crate::part::cut;
+use ds2_base::char_count;
+use ds2_value::Ty;
+
+/// What is known of a column's cells.
+#[derive(Clone, Copy)]
+pub struct Inference {
+    /// Whether a cell is not null.
+    given: bool,
+    /// Whether each such cell is an integer.
+    integers: bool,
+    /// Whether each such cell is a decimal.
+    decimals: bool,
+    /// The most digits before the point, where each is a decimal.
+    before: usize,
+    /// The most digits after it.
+    after: usize,
+    /// The most characters.
+    longest: usize,
+}
+
+// The part of a number's text before its point, without its sign.
+fn whole_part(text: &[u8]) -> &[u8]
+    ensures { result.now ≡ whole_part text.now }
+{
+    match text {
+        [b'-', digits @ ..] => cut(digits, b'.').0,
+        _ => cut(text, b'.').0,
+    }
+}
+
+// How many digits stand before the point of a number's text, where `0` counts none.
+fn digits_before(text: &[u8]) -> usize
+    ensures { result ≡ digits_before text.now }
+{
+    match whole_part(text) {
+        [b'0', ..] => 0,
+        whole => whole.len(),
+    }
+}
+
+fn digits_after(text: &[u8]) -> usize
+    ensures { result ≡ digits_after text.now }
+{
+    cut(text, b'.').1.len()
+}
+
+// The greater of a number and the number of a text's characters. A text of at most so many bytes has no more characters.
+fn longer(longest: usize, text: &str) -> usize
+    ensures { result ≡ max (char_count text.now) longest }
+{
+    if text.len() <= longest {
+        return longest;
+    }
+    longest.max(char_count(text))
+}
+
+// The greater of a number and the number of characters of a cell's text.
+fn with_size(longest: usize, cell: &str) -> usize
+    ensures { result ≡ max (text_size cell.now) longest }
+{
+    match decoded(cell) {
+        Some(text) => longer(longest, text),
+        None => longest,
+    }
+}
+
+// Whether cells that are all integers, or not, are so with one more.
+fn are_integers(so_far: bool, cell: &[u8]) -> bool
+    ensures { result ≡ (so_far && is_some (integer_of cell.now)) }
+{
+    so_far && integer(cell).is_some()
+}
+
+// The same of decimals. Where all cells are integers, they are decimals too.
+fn are_decimals(integers: bool, so_far: bool, cell: &str) -> bool
+    ensures { result ≡ (integers || (so_far && is_some (read cell.now))) }
+{
+    integers || (so_far && decimal(cell).is_some())
+}
+
+impl Inference {
+    /// What is known of no cells.
+    pub fn new() -> Inference
+        ensures { IsInferred result [] }
+    {
+        Inference {
+            given: false,
+            integers: true,
+            decimals: true,
+            before: 0,
+            after: 0,
+            longest: 0,
+        }
+    }
+
+    // One more cell, which is not null in a number column; `longest` is known with it.
+    fn with_given(self, cell: &str, longest: usize) -> Inference
+        ensures { (cells : Items (Items ℕ)) → IsInferred self cells → is_missing cell.now ≡ false → longest ≡ max (text_size cell.now) self.longest
+            → IsInferred result (cells ++ cell.now ∷ []) }
+    {
+        let integers = are_integers(self.integers, cell.as_bytes());
+        if !are_decimals(integers, self.decimals, cell) {
+            return Inference {
+                given: true,
+                integers,
+                decimals: false,
+                before: 0,
+                after: 0,
+                longest,
+            };
+        }
+        Inference {
+            given: true,
+            integers,
+            decimals: true,
+            before: self.before.max(digits_before(cell.as_bytes())),
+            after: self.after.max(digits_after(cell.as_bytes())),
+            longest,
+        }
+    }
+
+    /// One more cell.
+    pub fn with_cell(self, cell: &str) -> Inference
+        ensures { (cells : Items (Items ℕ)) → IsInferred self cells → IsInferred result (cells ++ cell.now ∷ []) }
+    {
+        let longest = with_size(self.longest, cell);
+        if is_missing(cell.as_bytes()) {
+            Inference { longest, ..self }
+        } else {
+            self.with_given(cell, longest)
+        }
+    }
+
+    // The decimals that take the cells that are not null, where there is one and each is a decimal.
+    fn decimal_type(self) -> Option<Ty>
+        ensures { (cells : Items (Items ℕ)) → IsInferred self cells → result ≡ decimals_of (given cells) }
+    {
+        if !(self.given && self.decimals) {
+            return None;
+        }
+        let digits = self.before.saturating_add(self.after).max(1);
+        if digits <= 38 {
+            Some(Ty::Decimal {
+                p: digits as u8,
+                s: self.after as u8,
+            })
+        } else {
+            None
+        }
+    }
+
+    /// The type out of the cells.
+    pub fn ty(self) -> Ty
+        ensures { (cells : Items (Items ℕ)) → IsInferred self cells → result ≡ type_of_cells cells }
+    {
+        if self.given && self.integers {
+            return Ty::BigInt;
+        }
+        match self.decimal_type() {
+            Some(ty) => ty,
+            None => Ty::Varchar {
+                n: self.longest.min(1024).max(1) as u16,
+            },
+        }
+    }
+}
