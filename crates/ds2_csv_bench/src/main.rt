@@ -4,51 +4,64 @@
 //! how long the reading and the writing of its bytes took.
 #![tactic(auto)]
 
-use ds2_base::Text;
+use ds2_base::{Bytes, Text};
 use ds2_csv::{read_table, write_table};
 use ds2_outside::{FolderStore, Store};
+use ds2_table::Table;
+use std::alloc::Global;
 use std::time::Instant;
 use std::{env, io};
 
 /// The most bytes of a table.
 const MOST_BYTES: u64 = 67_108_864;
 
+// The bytes of the table, none where they can't be read.
+fn bytes<S: Store>(alloc: Global, store: &mut S) -> Option<Bytes> {
+    let name = Text::of(alloc, "t.csv").ok()?;
+    store.read(alloc, &name, MOST_BYTES).ok()
+}
+
+// The table of these bytes, where they are one.
+fn table(alloc: Global, bytes: &Bytes) -> Option<Table> {
+    read_table(alloc, bytes).ok()
+}
+
+// The bytes of a table, none for want of memory.
+fn text(alloc: Global, table: &Table) -> Option<Bytes> {
+    write_table(alloc, table).ok()
+}
+
+// Whether these bytes could be written to `copy.csv`.
+fn is_copied<S: Store>(alloc: Global, store: &mut S, text: &Bytes) -> bool {
+    match Text::of(alloc, "copy.csv") {
+        Ok(name) => store.write(alloc, &name, text).is_ok(),
+        Err(_) => false,
+    }
+}
+
 fn main(rt: HostRuntime) -> io::Result<()> {
     let alloc = rt.alloc();
-    let timed = env::args(&rt)?.count() > 1;
     let mut store = FolderStore::here(&rt);
-    let (Ok(name), Ok(copy)) = (Text::of(alloc, "t.csv"), Text::of(alloc, "copy.csv")) else {
-        println!(rt; "want of memory")?;
-        return Ok(());
-    };
-    let Ok(bytes) = store.read(alloc, &name, MOST_BYTES) else {
-        println!(rt; "t.csv can't be read")?;
-        return Ok(());
+    let Some(bytes) = bytes(alloc, &mut store) else {
+        return println!(rt; "t.csv can't be read");
     };
     let start = Instant::now(&rt)?;
-    let Ok(table) = read_table(alloc, &bytes) else {
-        println!(rt; "t.csv is no table")?;
-        return Ok(());
+    let Some(table) = table(alloc, &bytes) else {
+        return println!(rt; "t.csv is no table");
     };
     let middle = Instant::now(&rt)?;
-    let Ok(text) = write_table(alloc, &table) else {
-        println!(rt; "want of memory")?;
-        return Ok(());
+    let Some(text) = text(alloc, &table) else {
+        return println!(rt; "want of memory");
     };
     let end = Instant::now(&rt)?;
-    if !timed {
-        match str::from_utf8(text.as_slice()) {
-            Ok(text) => print!(rt; "{text}")?,
-            Err(_) => println!(rt; "the table is no text")?,
-        }
-        return Ok(());
+    if env::args(&rt)?.count() <= 1 {
+        let printed = str::from_utf8(text.as_slice()).unwrap_or("the table is no text\n");
+        return print!(rt; "{printed}");
     }
-    if store.write(alloc, &copy, &text).is_err() {
-        println!(rt; "copy.csv can't be written")?;
-        return Ok(());
+    if !is_copied(alloc, &mut store, &text) {
+        return println!(rt; "copy.csv can't be written");
     }
     let read = middle.duration_since(start).as_millis();
     let write = end.duration_since(middle).as_millis();
-    println!(rt; "read {read} ms, write {write} ms")?;
-    Ok(())
+    println!(rt; "read {read} ms, write {write} ms")
 }
