@@ -1,4 +1,5 @@
 pub mod formers
+pub mod Bytes
 pub mod Characters
 pub mod Name
 pub mod Place

@@ -1,7 +1,8 @@
 -- Places: which line and column of a text come next.
-use Rattle.std.specs.Prelude.{ℕ, ◌+◌, ◌-◌, ◌^◌, ◌==◌, min, List, take, if◌then◌else◌}
+use Rattle.std.specs.Prelude.{ℕ, ◌+◌, ◌-◌, ◌^◌, ◌==◌, min, take, if◌then◌else◌}
 use Rattle.std.specs.List.{fold}
 use Rattle.std.specs.Str.{chars}
+use Rattle.ds2_base.specs.Bytes.{Bytes, Chars}
 use Rattle.ds2_base.specs.declared.place.Place.{Place}
 
 -- the place of a text's first character
@@ -18,9 +19,9 @@ place_after p c =
     if c == 10 then record { line = next_count p.line; column = 1 } else record { line = p.line; column = next_count p.column }
 
 -- the place directly after these characters, which begin at a place
-abbrev pub place_past : Place → List ℕ → Place
+abbrev pub place_past : Place → Chars → Place
 place_past p cs = fold place_after p cs
 
 -- the place of the character with this number, counted from 0, of a text with these bytes; past the last one it is the end
-abbrev pub place_at : List ℕ → ℕ → Place
+abbrev pub place_at : Bytes → ℕ → Place
 place_at bytes n = place_past start_place (take n (chars bytes))

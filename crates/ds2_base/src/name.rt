@@ -1,7 +1,7 @@
 //! Names.
 ghost use Rattle.std.specs.Prelude.{◌≡◌, IfOk};
 ghost use Rattle.std.specs.List.{list_all};
-ghost use Rattle.std.specs.Str.{chars};
+ghost use Rattle.std.specs.Str.{chars, IsUtf8};
 ghost use Rattle.ds2_base.specs.Name.{IsOwnName, is_name_char, is_name, name_of};
 ghost use Rattle.ds2_base.specs.Says.{Says};
 
@@ -66,6 +66,7 @@ impl Name {
     pub fn as_str(&self) -> &str
         ensures bytes { result.now ≡ self.now }
         ensures own { IsOwnName self.now }
+        ensures utf8 { IsUtf8 self.now }
     {
         self.text.as_str()
     }

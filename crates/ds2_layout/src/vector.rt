@@ -10,16 +10,6 @@ use ds2_meaning::TypedData;
 use ds2_value::Column;
 use std::alloc::Global;
 
-// The same column once more.
-fn copy_of(alloc: Global, column: &Column) -> Result<Column, OutOfMemory>
-    ensures { IfOk result (λ copy. copy ≡ column.now) }
-{
-    Ok(Column {
-        name: column.name.copy(alloc)?,
-        ty: column.ty,
-    })
-}
-
 // Adds these columns.
 fn add_all(
     alloc: Global,
@@ -29,7 +19,7 @@ fn add_all(
     ensures { OnOk result (variables.new ≡ variables.old ++ columns.now) }
 {
     'columns: for column in columns {
-        variables.push(copy_of(alloc, column)?)?;
+        variables.push(column.copy(alloc)?)?;
     }
     Ok(())
 }
@@ -45,7 +35,7 @@ fn add_missing(
 {
     'columns: for column in columns {
         if !declared.has(&column.name) {
-            variables.push(copy_of(alloc, column)?)?;
+            variables.push(column.copy(alloc)?)?;
         }
     }
     Ok(())

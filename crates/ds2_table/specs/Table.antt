@@ -1,23 +1,27 @@
 -- Tables: columns and the rows that fit them.
-use Rattle.std.specs.Prelude.{Bool, List, [], ◌∷◌, ◌++◌}
+use Rattle.std.specs.Prelude.{Bool, List, [], ◌∷◌, ◌++◌, IsTrue}
 use Rattle.std.specs.List.{list_all}
-use Rattle.ds2_value.specs.Schema.{row_fits}
-use Rattle.ds2_value.specs.declared.schema.Column.{Column}
-use Rattle.ds2_value.specs.declared.value.Value.{Value}
+use Rattle.ds2_value.specs.Row.{Row, Columns}
+use Rattle.ds2_value.specs.Schema.{row_fits, IsSchema}
 
 -- a table
 pub record Contents : Type 0 where
-  pub columns : List Column
-  pub rows : List (List Value)
+  pub columns : Columns
+  pub rows : List Row
 
 -- every row fits the columns
-abbrev pub rows_fit : List (List Value) → List Column → Bool
+abbrev pub rows_fit : List Row → Columns → Bool
 rows_fit rows columns = list_all (λ row. row_fits row columns) rows
 
+-- what holds of every table that is held: its columns are those of a schema, and its rows fit them
+pub record IsTable (table : Contents) : Type 0 where
+  pub schema : IsSchema table.columns
+  pub rows : IsTrue (rows_fit table.rows table.columns)
+
 -- the table of these columns without rows
-abbrev pub empty_table : List Column → Contents
+abbrev pub empty_table : Columns → Contents
 empty_table columns = record { columns = columns; rows = [] }
 
 -- the table with one more row at its end
-abbrev pub with_row : Contents → List Value → Contents
+abbrev pub with_row : Contents → Row → Contents
 with_row table row = record { columns = table.columns; rows = table.rows ++ row ∷ [] }

@@ -1,7 +1,7 @@
 //! Tables.
 ghost use Rattle.std.specs.Prelude.{◌≡◌, IsTrue, OnOk, OnErr};
-ghost use Rattle.ds2_table.specs.Table.{rows_fit, empty_table, with_row};
-ghost use Rattle.ds2_value.specs.Schema.{row_fits, is_schema};
+ghost use Rattle.ds2_table.specs.Table.{rows_fit, IsTable, empty_table, with_row};
+ghost use Rattle.ds2_value.specs.Schema.{row_fits};
 
 use ds2_base::{List, OutOfMemory};
 use ds2_value::{Row, Schema};
@@ -59,5 +59,13 @@ impl Table {
         ensures fit { IsTrue (rows_fit self.now.rows self.now.columns) }
     {
         &self.rows
+    }
+
+    /// Nothing at run time: a contract learns here that the table's columns are those of a schema and that its rows fit them.
+    pub fn is_table(&self)
+        ensures { IsTable self.now }
+    {
+        let _columns = self.schema.columns();
+        let _rows = &self.rows;
     }
 }

@@ -4,7 +4,7 @@ ghost use Rattle.ds2_meaning.specs.Names.{AllKnown};
 ghost use Rattle.ds2_meaning.specs.View.{program_of};
 ghost use Rattle.ds2_top.specs.Words.{most_budget};
 
-use crate::program::{copy_columns, one_thread_end, program_over};
+use crate::program::{one_thread_end, program_over};
 use ds2_base::{List, OutOfMemory, Stop};
 use ds2_csv::{read_table, write_rows};
 use ds2_draft_source::{Source, read_source};
@@ -15,7 +15,7 @@ use ds2_meaning::TypedData;
 use ds2_reference::one_thread_answer;
 use ds2_table::Table;
 use ds2_unit::run_alone;
-use ds2_value::Row;
+use ds2_value::{Row, copy_columns};
 use std::alloc::Global;
 use std::test::Fail;
 

@@ -32,20 +32,6 @@ fn bigint_columns(alloc: Global, names: &[Name]) -> Result<List<Column>, OutOfMe
     Ok(columns)
 }
 
-/// The same columns once more.
-pub(crate) fn copy_columns(alloc: Global, columns: &[Column]) -> Result<List<Column>, OutOfMemory>
-    ensures { IfOk result (λ copy. copy ≡ columns.now) }
-{
-    let mut copy = List::new(alloc);
-    for column in columns {
-        copy.push(Column {
-            name: column.name.copy(alloc)?,
-            ty: column.ty,
-        })?;
-    }
-    Ok(copy)
-}
-
 /// The program of a source over the columns of its table.
 pub(crate) fn program_over(
     alloc: Global,

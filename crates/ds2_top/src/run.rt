@@ -16,7 +16,7 @@ use crate::built::is_built;
 use crate::lines::{SourceKind, say_refused, say_source_refused};
 use crate::load::{FileKind, Seen, load_one};
 use crate::outputs::{finish, table_file};
-use crate::program::{copy_columns, one_thread_end, program_over};
+use crate::program::{one_thread_end, program_over};
 use crate::words::{Command, read_words};
 use ds2_base::{Bytes, OutOfMemory, Place, Stop, Text};
 use ds2_csv::read_table;
@@ -25,7 +25,7 @@ use ds2_layout::first_unknown;
 use ds2_meaning::TypedData;
 use ds2_outside::Store;
 use ds2_table::Table;
-use ds2_value::Row;
+use ds2_value::{Row, copy_columns};
 use std::alloc::Global;
 
 const SOURCE_LIMIT: u64 = 262_144;

@@ -1,13 +1,13 @@
 -- Parts of texts, counted in characters.
 use Rattle.std.proofs.Common.{◌≡◌, ℕ, zero, suc, ◌+◌, ◌-◌, ◌≤◌, min, List, [], ◌∷◌, ◌++◌, length, take, drop, refl, sym, ap, ◌∙◌, arith, lit<, true, eq-eqb, le-leb}
-use Rattle.std.specs.Prelude.{replicate, IsTrue, ◌==◌, nat_le}
+use Rattle.std.specs.Prelude.{Bool, replicate, IsTrue, ◌==◌, ◌&&◌, nat_le}
 use Rattle.std.specs.Cmp.{first_so, second_so}
 use Rattle.std.specs.Prelude.{encode_utf8}
-use Rattle.std.specs.Str.{chars, IsUtf8, encode_utf8_all, IsCharBoundary}
+use Rattle.std.specs.Str.{chars, IsUtf8, is_utf8, encode_utf8_all, IsCharBoundary}
 use Rattle.std.proofs.Math.Utf8.{scalars, scalar}
 use Rattle.std.proofs.Math.Seq.{take-append_seam}
 use Rattle.std.proofs.lemmas.List.{take_all, take-append-drop, length-append, length-take, append_assoc, replicate-append-replicate, length-replicate}
-use Rattle.std.proofs.lemmas.Str.{encodes-append, encodes-chars, chars-append, scalars-chars, chars-encodes, encode_ascii, length-le-encodes, IsCharBoundary-at_seam}
+use Rattle.std.proofs.lemmas.Str.{encodes-append, encodes-chars, chars-append, scalars-chars, chars-encodes, encode_ascii, length-le-encodes, IsCharBoundary-at_seam, IsUtf8-append, is_utf8-from_IsUtf8}
 use Rattle.ds2_base.specs.Characters.{char_count}
 use Rattle.ds2_value.specs.Texts.{cut_to, after_characters, filled_to}
 
@@ -99,12 +99,12 @@ filled-is n bytes u =
     ∙ ap (λ (xs : List ℕ). cut_to n bytes ++ xs) (encodes-blanks (n - length (take n (chars bytes))))))
 
 -- filled texts have exactly n characters, and cut ones at most n
+scalars-blanks : (n : ℕ) → scalars (replicate n blank) ≡ true
+scalars-blanks zero = refl
+scalars-blanks (suc n) = scalars-blanks n
+
 pub chars-blanks : (n : ℕ) → chars (replicate n blank) ≡ replicate n blank
 chars-blanks n = ap chars (sym (encodes-blanks n)) ∙ chars-encodes (replicate n blank) (scalars-blanks n)
-  where
-    scalars-blanks : (n : ℕ) → scalars (replicate n blank) ≡ true
-    scalars-blanks zero = refl
-    scalars-blanks (suc n) = scalars-blanks n
 
 pub filled-count : (n : ℕ) (bytes : List ℕ) → IsUtf8 bytes → char_count (filled_to n bytes) ≡ n
 filled-count n bytes u =
@@ -117,8 +117,19 @@ filled-count n bytes u =
     ∙ ap (λ (m : ℕ). char_count (cut_to n bytes) + m) (length-replicate k blank)
     ∙ omega (arith, few)
 
-pub fits-filled : (n : ℕ) (bytes : List ℕ) → IsUtf8 bytes → IsTrue (char_count (filled_to n bytes) == n)
-fits-filled n bytes u = eq-eqb _ _ (filled-count n bytes u)
+blanks-utf8 : (n : ℕ) → IsUtf8 (replicate n blank)
+blanks-utf8 n = (replicate n blank, (scalars-blanks n, encodes-blanks n))
 
-pub fits-cut : (n : ℕ) (bytes : List ℕ) → IsUtf8 bytes → IsTrue (nat_le (char_count (cut_to n bytes)) n)
-fits-cut n bytes u = let few = cut-count n bytes u in le-leb _ _ (omega (arith, few))
+pub filled-utf8 : (n : ℕ) (bytes : List ℕ) → IsUtf8 bytes → IsUtf8 (filled_to n bytes)
+filled-utf8 n bytes u =
+    rw (← filled-is n bytes u) (IsUtf8-append (cut_to n bytes) (replicate (n - char_count (cut_to n bytes)) blank) (cut-utf8 n bytes u) (blanks-utf8 (n - char_count (cut_to n bytes))))
+
+-- a text of which a test on its characters holds
+both-hold : (bytes : List ℕ) (b : Bool) → IsUtf8 bytes → IsTrue b → IsTrue (is_utf8 bytes && b)
+both-hold bytes b u h = rw (is_utf8-from_IsUtf8 bytes u, h) refl
+
+pub fits-filled : (n : ℕ) (bytes : List ℕ) → IsUtf8 bytes → IsTrue (is_utf8 (filled_to n bytes) && (char_count (filled_to n bytes) == n))
+fits-filled n bytes u = both-hold (filled_to n bytes) _ (filled-utf8 n bytes u) (eq-eqb _ _ (filled-count n bytes u))
+
+pub fits-cut : (n : ℕ) (bytes : List ℕ) → IsUtf8 bytes → IsTrue (is_utf8 (cut_to n bytes) && nat_le (char_count (cut_to n bytes)) n)
+fits-cut n bytes u = let few = cut-count n bytes u in both-hold (cut_to n bytes) _ (cut-utf8 n bytes u) (le-leb _ _ (omega (arith, few)))

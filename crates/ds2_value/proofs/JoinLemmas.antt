@@ -3,7 +3,7 @@ use Rattle.std.proofs.Common.{◌≡◌, ℕ, ◌+◌, ◌-◌, ◌≤◌, max, 
 use Rattle.std.specs.Prelude.{IsTrue, nat_le, ◌&&◌, Bool, true, false, if◌then◌else◌}
 use Rattle.std.specs.Cmp.{first_so, second_so}
 use Rattle.std.proofs.lemmas.Bool.{leb-true, le-leb}
-use Rattle.ds2_value.specs.Types.{in_bounds, is_from_one, join_decimals, takes, JoinCommutes, JoinTakesBoth}
+use Rattle.ds2_value.specs.Types.{in_bounds, is_from_one, join_decimals, takes, JoinCommutes, JoinTakesBoth, TakesItself, TakesOnward}
 use Rattle.ds2_value.specs.declared.ty.Ty.{Ty}
 use Rattle.ds2_value.specs.declared.ty.Ty.TheVariants.{BigInt, Decimal, Char, Varchar}
 
@@ -124,3 +124,59 @@ takes-both (Varchar n) (Varchar m) c h k e =
     let a = from-one n 1024 h in
     let b = from-one m 1024 k in
     rw (← same _ _ e) (to-one (max n m) 1024 (omega (arith, a.0)) (omega (arith, a.1, b.1)), within n (max n m) (omega arith), within m (max n m) (omega arith))
+
+pub takes-itself : TakesItself
+takes-itself BigInt = refl
+takes-itself (Decimal p s) = all-so (nat_le s s) (nat_le (p + s) (p + s)) (within s s (omega arith)) (within (p + s) (p + s) (omega arith))
+takes-itself (Char n) = within n n (omega arith)
+takes-itself (Varchar n) = within n n (omega arith)
+
+-- the digits of decimals of which one takes the other
+takes-digits : (p s q t : ℕ) → IsTrue (takes (Decimal p s) (Decimal q t)) → (t ≤ s) × (q + s ≤ p + t)
+takes-digits p s q t h =
+    (leb-true t s (first_so (nat_le t s) (nat_le (q + s) (p + t)) h), leb-true (q + s) (p + t) (second_so (nat_le t s) (nat_le (q + s) (p + t)) h))
+
+shorter : (m n k : ℕ) → IsTrue (nat_le m n) → IsTrue (nat_le n k) → IsTrue (nat_le m k)
+shorter m n k h j =
+    let a = leb-true m n h in
+    let b = leb-true n k j in
+    within m k (omega (arith, a, b))
+
+pub takes-onward : TakesOnward
+takes-onward BigInt BigInt c h k = k
+takes-onward BigInt (Decimal q t) BigInt h k = cc
+takes-onward BigInt (Decimal q t) (Decimal p s) h k =
+    let a = leb-true (19 + t) q h in
+    let b = takes-digits p s q t k in
+    within (19 + s) p (omega (arith, a, b.0, b.1))
+takes-onward BigInt (Decimal q t) (Char n) h k = cc
+takes-onward BigInt (Decimal q t) (Varchar n) h k = cc
+takes-onward BigInt (Char m) c h k = cc
+takes-onward BigInt (Varchar m) c h k = cc
+takes-onward (Decimal r u) BigInt c h k = cc
+takes-onward (Decimal r u) (Decimal q t) BigInt h k = cc
+takes-onward (Decimal r u) (Decimal q t) (Decimal p s) h k =
+    let a = takes-digits q t r u h in
+    let b = takes-digits p s q t k in
+    all-so (nat_le u s) (nat_le (r + s) (p + u)) (within u s (omega (arith, a.0, b.0))) (within (r + s) (p + u) (omega (arith, a.1, b.1)))
+takes-onward (Decimal r u) (Decimal q t) (Char n) h k = cc
+takes-onward (Decimal r u) (Decimal q t) (Varchar n) h k = cc
+takes-onward (Decimal r u) (Char m) c h k = cc
+takes-onward (Decimal r u) (Varchar m) c h k = cc
+takes-onward (Char l) BigInt c h k = cc
+takes-onward (Char l) (Decimal q t) c h k = cc
+takes-onward (Char l) (Char m) BigInt h k = cc
+takes-onward (Char l) (Char m) (Decimal p s) h k = cc
+takes-onward (Char l) (Char m) (Char n) h k = shorter l m n h k
+takes-onward (Char l) (Char m) (Varchar n) h k = shorter l m n h k
+takes-onward (Char l) (Varchar m) BigInt h k = cc
+takes-onward (Char l) (Varchar m) (Decimal p s) h k = cc
+takes-onward (Char l) (Varchar m) (Char n) h k = cc
+takes-onward (Char l) (Varchar m) (Varchar n) h k = shorter l m n h k
+takes-onward (Varchar l) BigInt c h k = cc
+takes-onward (Varchar l) (Decimal q t) c h k = cc
+takes-onward (Varchar l) (Char m) c h k = cc
+takes-onward (Varchar l) (Varchar m) BigInt h k = cc
+takes-onward (Varchar l) (Varchar m) (Decimal p s) h k = cc
+takes-onward (Varchar l) (Varchar m) (Char n) h k = cc
+takes-onward (Varchar l) (Varchar m) (Varchar n) h k = shorter l m n h k

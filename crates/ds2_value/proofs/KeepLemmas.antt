@@ -1,31 +1,34 @@
 -- Assignment keeps the values of a type that the other type takes.
 use Rattle.std.proofs.Common.{◌≡◌, ℕ, ◌+◌, ◌-◌, ◌*◌, ◌^◌, ◌<◌, ◌≤◌, List, ◌++◌, length, ℤ, pos, negsuc, ◌*ℤ◌, unsigned_abs, refl, sym, ap, ◌∙◌, arith, true}
-use Rattle.std.specs.Prelude.{IsTrue, Ok, replicate, nat_le, ◌==◌}
+use Rattle.std.specs.Prelude.{IsTrue, Bool, false, ◌&&◌, if◌then◌else◌, Result, Ok, Err, replicate, nat_le, ◌==◌}
 use Rattle.std.specs.Cmp.{first_so, second_so, tied_itself}
 use Rattle.std.specs.Cmp.Lexicographic.{nat_list_cmp_total}
 use Rattle.std.specs.Ordering.{int_cmp, is_eq}
-use Rattle.std.specs.Str.{chars, IsUtf8, encode_utf8_all}
+use Rattle.std.specs.Str.{chars, IsUtf8, is_utf8, encode_utf8_all}
 use Rattle.std.specs.declared.cmp.Ordering.TheVariants.{Equal}
-use Rattle.std.proofs.lemmas.Bool.{leb-true, le-leb, ltb-true, lt-ltb, eqb-true}
+use Rattle.std.proofs.lemmas.Bool.{leb-true, le-leb, ltb-true, lt-ltb, eqb-true, eq-eqb}
 use Rattle.std.proofs.lemmas.Cmp.{int_cmp_total}
 use Rattle.std.proofs.lemmas.List.{take_all, append-nil, length-append, length-replicate}
-use Rattle.std.proofs.lemmas.Str.{encodes-chars, chars-append}
+use Rattle.std.proofs.lemmas.Str.{encodes-chars, chars-append, IsUtf8-from_is_utf8}
 use Rattle.std.proofs.lemmas.Nat.{pow-add}
 use Rattle.std.proofs.Math.Nat.{pow-le-pow_right, one-le-pow, mul-lt-mul_of_pos_right}
 use Rattle.ds2_base.specs.Characters.{char_count}
-use Rattle.ds2_decimal.specs.Arithmetic.{rescale}
+use Rattle.ds2_decimal.specs.Arithmetic.{rescale, within}
+use Rattle.ds2_decimal.specs.declared.dec.DecFault.TheVariants.{Overflow}
 use Rattle.ds2_decimal.specs.Decimal.{Decimal, value, units_at, is_within}
-use Rattle.ds2_value.specs.Keeping.{AssignKeeps}
+use Rattle.ds2_decimal.specs.Rounding.{round}
+use Rattle.ds2_value.specs.Keeping.{FittingIsHeld, AssignedFits, AssignKeeps}
 use Rattle.ds2_value.specs.Order.{value_eq}
 use Rattle.ds2_value.specs.Texts.{padded_cmp, text_cmp, cut_to, filled_to}
-use Rattle.ds2_value.specs.Types.{in_bounds, is_from_one, assign_of, decimal_value}
+use Rattle.ds2_value.specs.Types.{in_bounds, is_from_one, fits, takes, assign_of, decimal_value}
 use Rattle.ds2_value.specs.Value.{fits_bigint}
 use Rattle.ds2_value.specs.ValueLaws.{value_equiv}
+use Rattle.ds2_value.specs.declared.fault.Fault.{Fault}
 use Rattle.ds2_value.specs.declared.ty.Ty.{Ty}
 use Rattle.ds2_value.specs.declared.ty.Ty.TheVariants as ty
 use Rattle.ds2_value.specs.declared.value.Value.{Value}
 use Rattle.ds2_value.specs.declared.value.Value.TheVariants.{Null, Int, Dec, Txt}
-use Rattle.ds2_value.proofs.CutLemmas.{filled-is, chars-blanks}
+use Rattle.ds2_value.proofs.CutLemmas.{filled-is, chars-blanks, fits-filled, fits-cut}
 use Rattle.ds2_value.proofs.IntegerLemmas.{times_twice}
 use Rattle.ds2_value.proofs.LowestLemmas.{abs-times}
 use Rattle.ds2_value.proofs.OrderLemmas.{order-int-dec, order-decs, order-texts}
@@ -110,46 +113,127 @@ scale-few p s h =
     let below = leb-true s p (second_so (is_from_one p 38) (nat_le s p) h) in
     omega (arith, digits, below)
 
-pub keeps : AssignKeeps
-keeps Null a ty.BigInt h f b t = itself Null ty.BigInt refl
-keeps Null a (ty.Decimal p s) h f b t = itself Null (ty.Decimal p s) refl
-keeps Null a (ty.Char n) h f b t = itself Null (ty.Char n) refl
-keeps Null a (ty.Varchar n) h f b t = itself Null (ty.Varchar n) refl
-keeps (Int i) ty.BigInt ty.BigInt h f b t = itself (Int i) ty.BigInt refl
-keeps (Int i) ty.BigInt (ty.Decimal p s) h f b t = int-kept i p s (bigint-small i h) (leb-true (19 + s) p t) (scale-few p s b)
-keeps (Int i) ty.BigInt (ty.Char n) h f b t = cc
-keeps (Int i) ty.BigInt (ty.Varchar n) h f b t = cc
-keeps (Int i) (ty.Decimal q r) c h f b t = cc
-keeps (Int i) (ty.Char m) c h f b t = cc
-keeps (Int i) (ty.Varchar m) c h f b t = cc
-keeps (Dec d) ty.BigInt c h f b t = cc
-keeps (Dec d) (ty.Decimal q r) ty.BigInt h f b t = cc
-keeps (Dec d) (ty.Decimal q r) (ty.Decimal p s) h f b t =
+-- the parts of what a value of a type is
+text-held : (x : List ℕ) (b : Bool) → IsTrue (is_utf8 x && b) → IsUtf8 x
+text-held x b f = IsUtf8-from_is_utf8 x (first_so (is_utf8 x) b f)
+
+char-size : (x : List ℕ) (m : ℕ) → IsTrue (fits (Txt x) (ty.Char m)) → char_count x ≡ m
+char-size x m f = eqb-true (char_count x) m (second_so (is_utf8 x) (char_count x == m) f)
+
+varchar-size : (x : List ℕ) (m : ℕ) → IsTrue (fits (Txt x) (ty.Varchar m)) → char_count x ≤ m
+varchar-size x m f = leb-true (char_count x) m (second_so (is_utf8 x) (nat_le (char_count x) m) f)
+
+digits-few : (p s : ℕ) → IsTrue (in_bounds (ty.Decimal p s)) → p ≤ 38
+digits-few p s h = leb-true p 38 (second_so (nat_le 1 p) (nat_le p 38) (first_so (is_from_one p 38) (nat_le s p) h))
+
+pub fitting-held : FittingIsHeld
+fitting-held Null a b f = tt
+fitting-held (Int i) ty.BigInt b f = f
+fitting-held (Int i) (ty.Decimal q r) b f = cc
+fitting-held (Int i) (ty.Char m) b f = cc
+fitting-held (Int i) (ty.Varchar m) b f = cc
+fitting-held (Dec d) ty.BigInt b f = cc
+fitting-held (Dec d) (ty.Decimal q r) b f =
+    let scale : d.scale ≡ r = eqb-true d.scale r (first_so (d.scale == r) (is_within q d.units) f) in
+    let small : unsigned_abs d.units < 10 ^ q = ltb-true _ _ (second_so (d.scale == r) (is_within q d.units) f) in
+    let fewer : 10 ^ q ≤ 10 ^ 38 = pow-le-pow_right (omega arith) (digits-few q r b) in
+    let few = scale-few q r b in
+    record { digits = lt-ltb (unsigned_abs d.units) (10 ^ 38) (omega (arith, small, fewer)); scale_bound = omega (arith, scale, few) }
+fitting-held (Dec d) (ty.Char m) b f = cc
+fitting-held (Dec d) (ty.Varchar m) b f = cc
+fitting-held (Txt x) ty.BigInt b f = cc
+fitting-held (Txt x) (ty.Decimal q r) b f = cc
+fitting-held (Txt x) (ty.Char m) b f = text-held x (char_count x == m) f
+fitting-held (Txt x) (ty.Varchar m) b f = text-held x (nat_le (char_count x) m) f
+
+-- what a result holds
+out : Result Value Fault → Value
+out (Ok v) = v
+out (Err fault) = Null
+
+abbrev given : Value → Result Value Fault
+given v = Ok v
+
+is-value : (v w : Value) → given v ≡ Ok w → v ≡ w
+unfolding out
+is-value v w e = ap out e
+
+-- a decimal that was computed within p digits is of the type
+computed-fits : (p s : ℕ) (z : ℤ) (w : Value) → decimal_value (within p z s) ≡ Ok w → IsTrue (fits w (ty.Decimal p s))
+computed-fits p s z w e = by (is_within p z) refl e
+  where
+    by : (b : Bool) → is_within p z ≡ b → decimal_value (if b then Ok (record { units = z; scale = s }) else Err Overflow) ≡ Ok w → IsTrue (fits w (ty.Decimal p s))
+    by true h e = rw (← is-value _ _ e) (rw (h, eq-eqb s s refl) refl)
+    by false h e = cc
+
+-- the units to which `rescale` brings a decimal
+abbrev units-for : ℕ → Decimal → ℤ
+units-for s d = if nat_le d.scale s then units_at s d else round d.units (10 ^ (d.scale - s))
+
+pub assigned : AssignedFits
+assigned Null w ty.BigInt h b e = rw (← is-value _ _ e) refl
+assigned Null w (ty.Decimal p s) h b e = rw (← is-value _ _ e) refl
+assigned Null w (ty.Char n) h b e = rw (← is-value _ _ e) refl
+assigned Null w (ty.Varchar n) h b e = rw (← is-value _ _ e) refl
+assigned (Int i) w ty.BigInt h b e = rw (← is-value _ _ e) h
+assigned (Int i) w (ty.Decimal p s) h b e = computed-fits p s (units-for s (record { units = i; scale = 0 })) w e
+assigned (Int i) w (ty.Char n) h b e = rw (← is-value _ _ e) refl
+assigned (Int i) w (ty.Varchar n) h b e = rw (← is-value _ _ e) refl
+assigned (Dec d) w ty.BigInt h b e = rw (← is-value _ _ e) refl
+assigned (Dec d) w (ty.Decimal p s) h b e = computed-fits p s (units-for s d) w e
+assigned (Dec d) w (ty.Char n) h b e = rw (← is-value _ _ e) refl
+assigned (Dec d) w (ty.Varchar n) h b e = rw (← is-value _ _ e) refl
+assigned (Txt x) w ty.BigInt h b e = rw (← is-value _ _ e) refl
+assigned (Txt x) w (ty.Decimal p s) h b e = rw (← is-value _ _ e) refl
+assigned (Txt x) w (ty.Char n) h b e = rw (← is-value _ _ e) (fits-filled n x h)
+assigned (Txt x) w (ty.Varchar n) h b e = rw (← is-value _ _ e) (fits-cut n x h)
+
+-- an equal value: all but that it is of the type, which `assigned` tells
+equals : (v : Value) (a c : Ty) → IsTrue (in_bounds c) → IsTrue (takes c a) → IsTrue (fits v a) → Kept v c
+equals Null a ty.BigInt b t f = itself Null ty.BigInt refl
+equals Null a (ty.Decimal p s) b t f = itself Null (ty.Decimal p s) refl
+equals Null a (ty.Char n) b t f = itself Null (ty.Char n) refl
+equals Null a (ty.Varchar n) b t f = itself Null (ty.Varchar n) refl
+equals (Int i) ty.BigInt ty.BigInt b t f = itself (Int i) ty.BigInt refl
+equals (Int i) ty.BigInt (ty.Decimal p s) b t f = int-kept i p s (bigint-small i f) (leb-true (19 + s) p t) (scale-few p s b)
+equals (Int i) ty.BigInt (ty.Char n) b t f = cc
+equals (Int i) ty.BigInt (ty.Varchar n) b t f = cc
+equals (Int i) (ty.Decimal q r) c b t f = cc
+equals (Int i) (ty.Char m) c b t f = cc
+equals (Int i) (ty.Varchar m) c b t f = cc
+equals (Dec d) ty.BigInt c b t f = cc
+equals (Dec d) (ty.Decimal q r) ty.BigInt b t f = cc
+equals (Dec d) (ty.Decimal q r) (ty.Decimal p s) b t f =
     let scale : d.scale ≡ r = eqb-true d.scale r (first_so (d.scale == r) (is_within q d.units) f) in
     let small : unsigned_abs d.units < 10 ^ q = ltb-true _ _ (second_so (d.scale == r) (is_within q d.units) f) in
     let below = leb-true r s (first_so (nat_le r s) (nat_le (q + s) (p + r)) t) in
     let room = leb-true (q + s) (p + r) (second_so (nat_le r s) (nat_le (q + s) (p + r)) t) in
     dec-kept d q p s small (omega (arith, scale, below)) (omega (arith, scale, room)) (scale-few p s b)
-keeps (Dec d) (ty.Decimal q r) (ty.Char n) h f b t = cc
-keeps (Dec d) (ty.Decimal q r) (ty.Varchar n) h f b t = cc
-keeps (Dec d) (ty.Char m) c h f b t = cc
-keeps (Dec d) (ty.Varchar m) c h f b t = cc
-keeps (Txt x) ty.BigInt c h f b t = cc
-keeps (Txt x) (ty.Decimal q r) c h f b t = cc
-keeps (Txt x) (ty.Char m) ty.BigInt h f b t = cc
-keeps (Txt x) (ty.Char m) (ty.Decimal p s) h f b t = cc
-keeps (Txt x) (ty.Char m) (ty.Char n) h f b t =
-    let count = eqb-true (char_count x) m f in
+equals (Dec d) (ty.Decimal q r) (ty.Char n) b t f = cc
+equals (Dec d) (ty.Decimal q r) (ty.Varchar n) b t f = cc
+equals (Dec d) (ty.Char m) c b t f = cc
+equals (Dec d) (ty.Varchar m) c b t f = cc
+equals (Txt x) ty.BigInt c b t f = cc
+equals (Txt x) (ty.Decimal q r) c b t f = cc
+equals (Txt x) (ty.Char m) ty.BigInt b t f = cc
+equals (Txt x) (ty.Char m) (ty.Decimal p s) b t f = cc
+equals (Txt x) (ty.Char m) (ty.Char n) b t f =
+    let count = char-size x m f in
     let few = leb-true m n t in
-    char-kept n x h (omega (arith, count, few))
-keeps (Txt x) (ty.Char m) (ty.Varchar n) h f b t =
-    let count = eqb-true (char_count x) m f in
+    char-kept n x (text-held x (char_count x == m) f) (omega (arith, count, few))
+equals (Txt x) (ty.Char m) (ty.Varchar n) b t f =
+    let count = char-size x m f in
     let few = leb-true m n t in
-    varchar-kept n x h (omega (arith, count, few))
-keeps (Txt x) (ty.Varchar m) ty.BigInt h f b t = cc
-keeps (Txt x) (ty.Varchar m) (ty.Decimal p s) h f b t = cc
-keeps (Txt x) (ty.Varchar m) (ty.Char n) h f b t = cc
-keeps (Txt x) (ty.Varchar m) (ty.Varchar n) h f b t =
-    let count = leb-true (char_count x) m f in
+    varchar-kept n x (text-held x (char_count x == m) f) (omega (arith, count, few))
+equals (Txt x) (ty.Varchar m) ty.BigInt b t f = cc
+equals (Txt x) (ty.Varchar m) (ty.Decimal p s) b t f = cc
+equals (Txt x) (ty.Varchar m) (ty.Char n) b t f = cc
+equals (Txt x) (ty.Varchar m) (ty.Varchar n) b t f =
+    let count = varchar-size x m f in
     let few = leb-true m n t in
-    varchar-kept n x h (omega (arith, count, few))
+    varchar-kept n x (text-held x (nat_le (char_count x) m) f) (omega (arith, count, few))
+
+pub keeps : AssignKeeps
+keeps v a c i b t f =
+    let equal = equals v a c b t f in
+    (equal.0, equal.1, equal.2, assigned v equal.0 c (fitting-held v a i f) b equal.1)

@@ -16,7 +16,18 @@ IsHeld (Int i) = IsTrue (fits_bigint i)
 IsHeld (Dec d) = IsValid d
 IsHeld (Txt t) = IsUtf8 t
 
--- where a type takes the values of another one, each of these is assigned to it without fault, to an equal value
+-- the values of a type are held
+abbrev pub FittingIsHeld : Type 0
+FittingIsHeld = (v : Value) (a : Ty) → IsTrue (in_bounds a) → IsTrue (fits v a) → IsHeld v
+
+-- a value that was assigned to a type is of this type
+abbrev pub AssignedFits : Type 0
+AssignedFits = (v w : Value) (c : Ty) → IsHeld v → IsTrue (in_bounds c) → assign_of v c ≡ Ok w → IsTrue (fits w c)
+
+-- an assigned value keeps a value: it is equal to it, and of the type
+abbrev pub KeepsAs : Value → Ty → Type 0
+KeepsAs v c = (w : Value) × (assign_of v c ≡ Ok w) × IsTrue (value_eq v w) × IsTrue (fits w c)
+
+-- where a type takes the values of another one, each of these is assigned to it without fault, and kept
 abbrev pub AssignKeeps : Type 0
-AssignKeeps = (v : Value) (a c : Ty) → IsHeld v → IsTrue (fits v a) → IsTrue (in_bounds c) → IsTrue (takes c a)
-    → (w : Value) × (assign_of v c ≡ Ok w) × IsTrue (value_eq v w)
+AssignKeeps = (v : Value) (a c : Ty) → IsTrue (in_bounds a) → IsTrue (in_bounds c) → IsTrue (takes c a) → IsTrue (fits v a) → KeepsAs v c

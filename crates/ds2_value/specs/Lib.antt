@@ -3,6 +3,7 @@ pub mod Functions
 pub mod Hashing
 pub mod Keeping
 pub mod Order
+pub mod Row
 pub mod Run
 pub mod Schema
 pub mod TextLaws

@@ -1,11 +1,13 @@
 -- Types: their bounds, the values of a type, the join of two types, assignment to a type.
 use Rattle.std.specs.Prelude.{◌≡◌, IsTrue, ℕ, ◌+◌, ◌-◌, ◌==◌, max, nat_le, Bool, true, false, ◌&&◌, if◌then◌else◌, Option, Some, None, Result, Ok, Err}
+use Rattle.std.specs.Str.{is_utf8}
 use Rattle.ds2_base.specs.Characters.{char_count}
 use Rattle.ds2_decimal.specs.Arithmetic.{rescale}
 use Rattle.ds2_decimal.specs.Decimal.{Decimal, is_within}
 use Rattle.ds2_decimal.specs.declared.dec.DecFault.{DecFault}
 use Rattle.ds2_decimal.specs.declared.dec.DecFault.TheVariants as dec_fault
 use Rattle.ds2_value.specs.Texts.{cut_to, filled_to}
+use Rattle.ds2_value.specs.Value.{fits_bigint}
 use Rattle.ds2_value.specs.declared.fault.Fault.{Fault}
 use Rattle.ds2_value.specs.declared.fault.Fault.TheVariants.{Overflow, DivideByZero}
 use Rattle.ds2_value.specs.declared.ty.Ty.{Ty}
@@ -24,13 +26,14 @@ in_bounds (DecimalOf p s) = is_from_one p 38 && nat_le s p
 in_bounds (Char n) = is_from_one n 1024
 in_bounds (Varchar n) = is_from_one n 1024
 
--- a value is of a type; null is of every type
+-- a value is of a type: a number of 64 bits, a decimal of the type's scale and digits, a text in UTF-8 of the type's length;
+-- null is of every type
 abbrev pub fits : Value → Ty → Bool
 fits Null ty = true
-fits (Int i) BigInt = true
+fits (Int i) BigInt = fits_bigint i
 fits (Dec d) (DecimalOf p s) = (d.scale == s) && is_within p d.units
-fits (Txt t) (Char n) = char_count t == n
-fits (Txt t) (Varchar n) = nat_le (char_count t) n
+fits (Txt t) (Char n) = is_utf8 t && (char_count t == n)
+fits (Txt t) (Varchar n) = is_utf8 t && nat_le (char_count t) n
 fits _ _ = false
 
 -- the decimals that take both p digits, s of them after the point, and q digits, t after it; None where that is above 38 digits
@@ -91,3 +94,11 @@ JoinCommutes = (a b : Ty) → join_of a b ≡ join_of b a
 abbrev pub JoinTakesBoth : Type 0
 JoinTakesBoth = (a b c : Ty) → IsTrue (in_bounds a) → IsTrue (in_bounds b) → join_of a b ≡ Some c
     → IsTrue (in_bounds c) × IsTrue (takes c a) × IsTrue (takes c b)
+
+-- each type takes its own values
+abbrev pub TakesItself : Type 0
+TakesItself = (a : Ty) → IsTrue (takes a a)
+
+-- what takes the values of a type takes the values that this type takes, as where a column is joined over several tables
+abbrev pub TakesOnward : Type 0
+TakesOnward = (a b c : Ty) → IsTrue (takes b a) → IsTrue (takes c b) → IsTrue (takes c a)

@@ -1,11 +1,29 @@
 //! Whether values are of a type.
 ghost use Rattle.std.specs.Prelude.{◌≡◌, IsTrue};
-ghost use Rattle.ds2_value.specs.Schema.{row_fits, types_in_bounds, is_schema};
+ghost use Rattle.ds2_value.specs.Schema.{row_fits, types_in_bounds};
+ghost use Rattle.std.specs.Str.{is_utf8};
+ghost use Rattle.ds2_base.specs.Characters.{char_count};
 ghost use Rattle.ds2_value.specs.Types.{in_bounds, fits};
+ghost use Rattle.ds2_value.specs.Value.{fits_bigint};
 
 use crate::decimal_text::power_of_ten;
 use crate::{Column, Schema, Ty, Value};
-use ds2_base::char_count;
+use ds2_base::{Text, char_count};
+
+// A number that is held has 64 bits.
+fn is_bigint(i: i64) -> bool
+    ensures { result ≡ fits_bigint i }
+{
+    true
+}
+
+// The number of characters of a text, whose bytes are UTF-8.
+fn characters(t: &Text) -> usize
+    ensures count { result ≡ char_count t.now }
+    ensures utf8 { IsTrue (is_utf8 t.now) }
+{
+    char_count(t.as_str())
+}
 
 impl Value {
     /// Whether the value is of a type in bounds: a BIGINT of BIGINT, a number of scale s and at most p digits of DECIMAL(p,s), a
@@ -15,12 +33,13 @@ impl Value {
         ensures { result ≡ fits self.now ty }
     {
         match (self, ty) {
-            (Value::Null, _) | (Value::Int(_), Ty::BigInt) => true,
+            (Value::Null, _) => true,
+            (Value::Int(i), Ty::BigInt) => is_bigint(*i),
             (Value::Dec(d), Ty::Decimal { p, s }) => {
                 d.scale() == s && d.units().unsigned_abs() < power_of_ten(p)
             }
-            (Value::Txt(t), Ty::Char { n }) => char_count(t.as_str()) == n as usize,
-            (Value::Txt(t), Ty::Varchar { n }) => char_count(t.as_str()) <= n as usize,
+            (Value::Txt(t), Ty::Char { n }) => characters(t) == n as usize,
+            (Value::Txt(t), Ty::Varchar { n }) => characters(t) <= n as usize,
             _ => false,
         }
     }

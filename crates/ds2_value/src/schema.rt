@@ -1,34 +1,37 @@
 //! Columns and schemas.
-ghost use Rattle.std.specs.Prelude.{◌≡◌, IsTrue};
-ghost use Rattle.ds2_value.specs.Schema.{has_name, distinct_names, types_in_bounds, is_schema, schema_of, row_fits};
+ghost use Rattle.std.specs.Prelude.{◌≡◌, IfOk, IsTrue};
+ghost use Rattle.std.specs.List.{AllByRecursion};
+ghost use Rattle.ds2_value.specs.Schema.{has_name, distinct_names, types_in_bounds, schema_of, IsNamedColumn, IsSchema};
 
-use crate::{Row, Ty, Value};
-use ds2_base::{List, Name};
+use crate::Ty;
+use ds2_base::{List, Name, OutOfMemory};
+use std::alloc::Global;
 use std::marker::Model;
 
 /// A column of a table: its name and the type of its values.
-#[derive(Debug, Drop)]
+#[derive(Debug, Drop, PartialEq, Eq)]
 pub struct Column {
     pub name: Name,
     pub ty: Ty,
 }
 
 /// The columns of a table, with distinct names and types in bounds. A contract sees the list of them.
-#[derive(Debug, Drop)]
+#[derive(Debug, Drop, PartialEq, Eq)]
 pub struct Schema {
     columns: List<Column>,
 }
 
 impl Model for Schema {
-    ghost use Rattle.std.specs.Prelude.{List, IsTrue};
-    ghost use Rattle.ds2_value.specs.declared.schema.Column.{Column};
-    ghost use Rattle.ds2_value.specs.Schema.{is_schema};
+    ghost use Rattle.ds2_value.specs.Row.{Columns};
+    ghost use Rattle.ds2_value.specs.Schema.{IsSchema};
 
-    ghost Value = { List Column };
+    ghost Value = { Columns };
 
     ghost view = { λ s. s.columns };
 
-    ghost invariant = { λ s. IsTrue (is_schema s.columns) };
+    ghost invariant = { λ s. IsSchema s.columns };
+
+    ghost inverse = { λ columns. record { columns = columns } };
 }
 
 // Whether a column of this name is among these.
@@ -52,12 +55,47 @@ fn distinct_names(columns: &[Column]) -> bool
     true
 }
 
+// Reads each name, which is a name.
+fn read_names(columns: &[Column])
+    ensures { AllByRecursion IsNamedColumn columns.now }
+{
+    let mut rest = columns;
+    'columns: while let [first, after @ ..] = rest {
+        let _name = first.name.as_str();
+        rest = after;
+    }
+}
+
+impl Column {
+    /// The same column once more.
+    pub fn copy(&self, alloc: Global) -> Result<Column, OutOfMemory>
+        ensures { IfOk result (λ column. column ≡ self.now) }
+    {
+        Ok(Column {
+            name: self.name.copy(alloc)?,
+            ty: self.ty,
+        })
+    }
+}
+
+/// The same columns once more.
+pub fn copy_columns(alloc: Global, columns: &[Column]) -> Result<List<Column>, OutOfMemory>
+    ensures { IfOk result (λ copy. copy ≡ columns.now) }
+{
+    let mut copy = List::new(alloc);
+    'columns: for column in columns {
+        copy.push(column.copy(alloc)?)?;
+    }
+    Ok(copy)
+}
+
 impl Schema {
     /// The schema of these columns, whose types are in bounds; None exactly where two columns have one name.
     pub fn new(columns: List<Column>) -> Option<Schema>
         requires { IsTrue (types_in_bounds columns) }
         ensures { result ≡ schema_of columns }
     {
+        read_names(columns.as_slice());
         if distinct_names(columns.as_slice()) {
             Some(Schema { columns })
         } else {
@@ -68,8 +106,17 @@ impl Schema {
     /// The columns, in their order.
     pub fn columns(&self) -> &List<Column>
         ensures value { result.now ≡ self.now }
-        ensures schema { IsTrue (is_schema self.now) }
+        ensures schema { IsSchema self.now }
     {
         &self.columns
+    }
+
+    /// The same schema once more.
+    pub fn copy(&self, alloc: Global) -> Result<Schema, OutOfMemory>
+        ensures { IfOk result (λ schema. schema ≡ self.now) }
+    {
+        Ok(Schema {
+            columns: copy_columns(alloc, self.columns.as_slice())?,
+        })
     }
 }

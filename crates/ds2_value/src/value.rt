@@ -26,6 +26,17 @@ const _: () = prove!(size_of::<Value>() <= 32);
 /// The values of a row, one for each column.
 pub type Row = List<Value>;
 
+/// The same values once more.
+pub fn copy_row(alloc: Global, row: &[Value]) -> Result<Row, OutOfMemory>
+    ensures { IfOk result (λ copy. copy ≡ row.now) }
+{
+    let mut copy = List::new(alloc);
+    'values: for value in row {
+        copy.push(value.copy(alloc)?)?;
+    }
+    Ok(copy)
+}
+
 impl Value {
     /// Whether this is null.
     pub fn is_null(&self) -> bool
