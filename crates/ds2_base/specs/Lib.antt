@@ -3,7 +3,6 @@ pub mod Bytes
 pub mod Characters
 pub mod Name
 pub mod Place
-pub mod Room
 pub mod Says
 pub mod Stop
 pub mod Text

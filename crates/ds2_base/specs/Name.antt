@@ -6,6 +6,7 @@ use Rattle.std.specs.Char.{to_ascii_lowercase}
 use Rattle.ds2_base.specs.Bytes.{Bytes}
 use Rattle.ds2_base.specs.Characters.{char_count}
 use Rattle.ds2_base.specs.declared.name.BadName.{BadName}
+use Rattle.ds2_base.specs.declared.name.TheConstants.{NAME_CHARACTERS}
 
 -- no control character below U+0020, no delete and no byte order mark
 abbrev pub is_name_char : ℕ → Bool
@@ -14,7 +15,7 @@ is_name_char c = nat_le 32 c && not (c == 127) && not (c == 65279)
 -- 1 to 64 characters that may stand in a name, with no blank at an end; a blank is one byte, so the end bytes tell
 abbrev pub is_name : Bytes → Bool
 is_name bytes =
-    nat_lt 0 (length bytes) && nat_le (char_count bytes) 64 && list_all is_name_char (chars bytes)
+    nat_lt 0 (length bytes) && nat_le (char_count bytes) NAME_CHARACTERS && list_all is_name_char (chars bytes)
     && not (slice_index bytes 0 == 32) && not (slice_index bytes (length bytes - 1) == 32)
 
 -- the name of a text, its ASCII letters in lower case, or that it is none

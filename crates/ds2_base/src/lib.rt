@@ -9,7 +9,6 @@ mod list;
 mod name;
 mod name_compare;
 mod place;
-mod roomy;
 mod stop;
 #[cfg(test)]
 mod tests;
@@ -18,8 +17,7 @@ mod text_compare;
 
 pub use characters::char_count;
 pub use list::{Bytes, List};
-pub use name::{BadName, Name};
+pub use name::{BadName, NAME_CHARACTERS, Name};
 pub use place::{Place, Refusal};
-pub use roomy::Roomy;
-pub use stop::{OutOfMemory, Stop};
+pub use stop::{OutOfMemory, Stop, refusing};
 pub use text::Text;

@@ -6,7 +6,7 @@ use std::alloc::Global;
 use std::marker::Model;
 use std::mem;
 
-/// A list. A contract sees its items, and nothing of the places that are reserved for more ([`crate::Roomy`] shows those).
+/// A list. A contract sees its items, and nothing of the places that are reserved for more.
 #[derive(Debug, Drop)]
 pub struct List<T> {
     items: Vec<T>,

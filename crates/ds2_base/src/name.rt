@@ -14,6 +14,9 @@ use std::marker::Model;
 #[derive(Clone, Copy, Debug, PartialEq, Eq)]
 pub struct BadName;
 
+/// The most characters of a name.
+pub const NAME_CHARACTERS: usize = 64;
+
 /// A name of a program, a table, a column or a variable, its ASCII letters in lower case. A contract sees its UTF-8 bytes.
 #[derive(Debug, Drop)]
 pub struct Name {
@@ -45,7 +48,7 @@ fn is_name(s: &str) -> bool
     match s.as_bytes() {
         [] => false,
         [first, ..] if *first == b' ' => false,
-        [.., last] => *last != b' ' && char_count(s) <= 64 && has_name_chars(s),
+        [.., last] => *last != b' ' && char_count(s) <= NAME_CHARACTERS && has_name_chars(s),
     }
 }
 

@@ -1,4 +1,6 @@
 //! What a call answers in place of a value.
+ghost use Rattle.ds2_base.specs.Says.{Says};
+
 use std::alloc::{AllocError, AllocFailed};
 
 /// There was no memory. What the call was given by reference is as it was, unless the call says otherwise.
@@ -12,6 +14,16 @@ pub enum Stop<R> {
     Refused(R),
     /// There was no memory.
     OutOfMemory,
+}
+
+/// The same answer, where there is no want of memory.
+pub fn refusing<T, R>(answer: Result<T, R>) -> Result<T, Stop<R>>
+    ensures { Says result answer }
+{
+    match answer {
+        Ok(value) => Ok(value),
+        Err(refusal) => Err(Stop::Refused(refusal)),
+    }
 }
 
 impl From<AllocError> for OutOfMemory {

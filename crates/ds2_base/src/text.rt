@@ -1,6 +1,6 @@
 //! Texts.
-ghost use Rattle.std.specs.Prelude.{◌≡◌, ◌^◌, ◌<◌, IfOk, length, string_bytes};
-ghost use Rattle.std.specs.Str.{IsUtf8};
+ghost use Rattle.std.specs.Prelude.{◌≡◌, ◌^◌, ◌<◌, IfOk, IsTrue, length, string_bytes};
+ghost use Rattle.std.specs.Str.{IsUtf8, is_utf8};
 ghost use Rattle.ds2_base.specs.Text.{text_of};
 
 use crate::{Bytes, List, OutOfMemory};
@@ -24,16 +24,16 @@ impl Model for Text {
 impl Text {
     /// The text with the characters of `s`.
     pub fn of(alloc: Global, s: &str) -> Result<Text, OutOfMemory>
-        ensures { IfOk result (λ text. text ≡ s.now) }
+        ensures text { IfOk result (λ text. text ≡ s.now) }
+        ensures utf8 { IfOk result (λ text. IsTrue (is_utf8 text)) }
     {
-        Ok(Text {
-            text: String::from_str(alloc, s)?,
-        })
+        Ok(Text::from_string(String::from_str(alloc, s)?))
     }
 
     /// The text of a string. Takes no memory.
     pub fn from_string(text: String) -> Text
-        ensures { result ≡ string_bytes text }
+        ensures text { result ≡ string_bytes text }
+        ensures utf8 { IsTrue (is_utf8 result) }
     {
         Text { text }
     }

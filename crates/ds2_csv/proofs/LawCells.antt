@@ -4,7 +4,7 @@ use Rattle.std.specs.Prelude.{◌==◌, nat_lt, nat_le, replicate, codes, ℤ, p
 use Rattle.std.specs.Char.{is_ascii_digit}
 use Rattle.std.specs.Fmt.{decimal, signed_decimal}
 use Rattle.std.specs.Result.{result_ok}
-use Rattle.std.specs.Str.{all_ascii_digits}
+use Rattle.std.specs.Str.{all_ascii_digits, is_utf8}
 use Rattle.std.proofs.Math.IntN.{*ℤ-one, one}
 use Rattle.std.proofs.Math.Nat.{pow-zero}
 use Rattle.std.proofs.lemmas.Bool.{and_parts, eqb-true, le-leb, ltb-true}
@@ -19,7 +19,6 @@ use Rattle.ds2_decimal.specs.Laws.{ReadsWritten as ReadsDecimal}
 use Rattle.ds2_decimal.specs.Text.{read, written}
 use Rattle.ds2_decimal.specs.declared.dec.DecFault.{DecFault}
 use Rattle.ds2_decimal.specs.declared.dec.DecFault.TheVariants.{Overflow}
-use Rattle.ds2_value.specs.DecimalText.{dec_text}
 use Rattle.ds2_value.specs.Keeping.{IsHeld}
 use Rattle.ds2_value.specs.Types.{fits}
 use Rattle.ds2_value.specs.Value.{fits_bigint}
@@ -30,7 +29,7 @@ use Rattle.ds2_value.specs.declared.value.Value.TheVariants.{Null, Int, Dec, Txt
 use Rattle.ds2_csv.specs.Cells.{is_missing, decoded, decimal_in, filled, char_value, varchar_value, value_of}
 use Rattle.ds2_csv.specs.Number.{size_of, below_zero, not_below_zero, integer_of}
 use Rattle.ds2_csv.specs.Text.{null_text, escaped, cell_text}
-use Rattle.ds2_csv.proofs.LawDecimals.{text-written, written-ascii}
+use Rattle.ds2_csv.proofs.LawDecimals.{written-ascii}
 use Rattle.ds2_csv.proofs.LawNumbers.{Spells, spells, ascii-digits}
 use Rattle.ds2_csv.proofs.LawUtf8.{one-text, ascii-text}
 use Rattle.ds2_csv.proofs.NumberLemmas.{size_is}
@@ -140,11 +139,11 @@ in-own-scale p d e =
     ∙ ap (λ (u : ℤ). option_map (λ x. Dec x) (result_ok (within p u d.scale))) (units-same d)
     ∙ ap (λ b. option_map (λ x. Dec x) (result_ok (if b then kept else Err Overflow))) e
 
-decimal-read : (law : ReadsDecimal) (p s : ℕ) (d : Decimal) → IsValid d → (d.scale == s) ≡ true → is_within p d.units ≡ true → value_of (DecimalOf p s) (dec_text d) ≡ Some (Dec d)
+decimal-read : (law : ReadsDecimal) (p s : ℕ) (d : Decimal) → IsValid d → (d.scale == s) ≡ true → is_within p d.units ≡ true → value_of (DecimalOf p s) (written d) ≡ Some (Dec d)
 unfolding value_of
 decimal-read law p s d valid e f =
-    let spelt : read (dec_text d) ≡ Some d = ap read (text-written d valid) ∙ law d valid in
-    ap (λ b. if b then Some Null else option_and_then (decimal_in p s) (read (dec_text d))) (given (dec_text d) d spelt)
+    let spelt : read (written d) ≡ Some d = law d valid in
+    ap (λ b. if b then Some Null else option_and_then (decimal_in p s) (read (written d))) (given (written d) d spelt)
     ∙ ap (λ (o : Option Decimal). option_and_then (decimal_in p s) o) spelt
     ∙ ap (λ (k : ℕ). decimal_in p k d) (sym (eqb-true d.scale s e))
     ∙ in-own-scale p d f
@@ -167,8 +166,8 @@ value-read law (Char n) (Dec d) fit held = cc fit
 value-read law (Varchar n) (Dec d) fit held = cc fit
 value-read law BigInt (Txt t) fit held = cc fit
 value-read law (DecimalOf p s) (Txt t) fit held = cc fit
-value-read law (Char n) (Txt t) fit held = ap (char_value n) (text-back t) ∙ char-read n t fit
-value-read law (Varchar n) (Txt t) fit held = ap (varchar_value n) (text-back t) ∙ varchar-read n t fit
+value-read law (Char n) (Txt t) fit held = ap (char_value n) (text-back t) ∙ char-read n t (and_parts (is_utf8 t) (char_count t == n) fit).1
+value-read law (Varchar n) (Txt t) fit held = ap (varchar_value n) (text-back t) ∙ varchar-read n t (and_parts (is_utf8 t) (nat_le (char_count t) n) fit).1
 
 -- ---- cells are texts
 
@@ -198,5 +197,5 @@ pub cell-text : (ty : Ty) (v : Value) → IsHeld v → IsUtf8 (cell_text ty v)
 unfolding cell_text
 cell-text ty Null held = null-text ty
 cell-text ty (Int i) held = signed-text i held
-cell-text ty (Dec d) held = subst IsUtf8 (sym (text-written d held)) (ascii-text (written d) (written-ascii d held))
+cell-text ty (Dec d) held = ascii-text (written d) (written-ascii d held)
 cell-text ty (Txt t) held = escaped-text t held

@@ -2,6 +2,7 @@
 ghost use Rattle.ds2_csv.specs.Added.{IsAdded};
 ghost use Rattle.std.specs.Prelude.{◌≡◌, ◌≤◌, IfOk, IfSome, IsTrue, nat_le, option_map};
 ghost use Rattle.ds2_csv.specs.Cells.{is_null_mark, is_missing, unescaped, decoded, decimal_in, filled, char_value, varchar_value, value_of};
+ghost use Rattle.std.specs.Str.{is_utf8};
 ghost use Rattle.ds2_base.specs.Characters.{char_count};
 ghost use Rattle.ds2_value.specs.Types.{in_bounds, fits};
 
@@ -38,6 +39,7 @@ fn filled(alloc: Global, text: &str, n: usize, count: usize) -> Result<Text, Out
     requires short { count ≤ n }
     ensures value { IfOk result (λ t. t ≡ filled n text.now) }
     ensures full { IfOk result (λ t. char_count t ≡ n) }
+    ensures utf8 { IfOk result (λ t. IsTrue (is_utf8 t)) }
 {
     let mut filled = String::from_str(alloc, text)?;
     'blanks: for i in count..n {

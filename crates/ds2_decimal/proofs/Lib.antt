@@ -1,3 +1,4 @@
+pub mod CountLemmas
 pub mod TenPowers
 pub mod UnitsLemmas
 pub mod IntegerLemmas

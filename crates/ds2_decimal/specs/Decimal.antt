@@ -1,5 +1,6 @@
 -- What a decimal number is: a whole number of units, each 10 ^ -scale.
-use Rattle.std.specs.Prelude.{ℕ, ◌-◌, ◌^◌, ◌≤◌, Bool, nat_lt, ℤ, pos, ◌*ℤ◌, unsigned_abs, IsTrue}
+use Rattle.std.specs.Prelude.{ℕ, ◌-◌, ◌^◌, ◌≤◌, Bool, nat_lt, ℤ, pos, ◌*ℤ◌, unsigned_abs, length, IsTrue}
+use Rattle.std.specs.Fmt.{decimal}
 
 -- the number units / 10 ^ scale
 pub record Decimal : Type 0 where
@@ -9,6 +10,10 @@ pub record Decimal : Type 0 where
 -- z has at most p digits
 abbrev pub is_within : ℕ → ℤ → Bool
 is_within p z = nat_lt (unsigned_abs z) (10 ^ p)
+
+-- how many digits the units are written with, at least 1
+abbrev pub digit_count : Decimal → ℕ
+digit_count d = length (decimal (unsigned_abs d.units))
 
 -- a decimal that a `Dec` holds: at most 38 digits, at most 38 of them after the point
 pub record IsValid (d : Decimal) : Type 0 where

@@ -1,7 +1,8 @@
 //! The type of decimals and its operations.
-ghost use Rattle.std.specs.Prelude.{◌≡◌, ◌+◌, ◌^◌, ◌<◌, ◌≤◌, pos, ◌*ℤ◌, ◌+ℤ◌, unsigned_abs, int_rem, IsTrue};
+ghost use Rattle.std.specs.Prelude.{◌≡◌, ◌+◌, ◌^◌, ◌<◌, ◌≤◌, pos, ◌*ℤ◌, ◌+ℤ◌, unsigned_abs, int_rem, length, IsTrue};
 ghost use Rattle.std.specs.Ordering.{int_cmp};
-ghost use Rattle.ds2_decimal.specs.Decimal.{is_within, IsValid};
+ghost use Rattle.std.specs.Fmt.{decimal};
+ghost use Rattle.ds2_decimal.specs.Decimal.{is_within, digit_count, IsValid};
 ghost use Rattle.ds2_decimal.specs.Arithmetic as spec;
 ghost use Rattle.ds2_decimal.specs.Text as text;
 
@@ -89,6 +90,15 @@ impl Dec {
         ensures bound { result ≤ 38 }
     {
         self.scale
+    }
+
+    /// How many digits the number without its point is written with, at least 1: 2 for 0.12 and for 12, 1 for 0.
+    pub fn digits(self) -> u8
+        ensures value { result ≡ digit_count self }
+        ensures some { 1 ≤ result }
+        ensures bound { result ≤ 38 }
+    {
+        digit_count(self.units.get().unsigned_abs())
     }
 
     /// The number with the other sign.
@@ -227,6 +237,22 @@ impl Dec {
             None => Err(DecFault::Overflow),
         }
     }
+}
+
+/// How many digits a number of at most 38 digits is written with.
+fn digit_count(magnitude: u128) -> u8
+    requires { magnitude < 10 ^ 38 }
+    ensures value { result ≡ length (decimal magnitude) }
+    ensures some { 1 ≤ result }
+    ensures bound { result ≤ 38 }
+{
+    let mut digits = 1u8;
+    let mut rest = magnitude;
+    'tens: while rest >= 10 {
+        rest /= 10;
+        digits += 1;
+    }
+    digits
 }
 
 /// units / 10 ^ scale, or `Overflow` where that has more than `precision` digits.

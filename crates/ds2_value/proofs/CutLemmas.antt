@@ -63,6 +63,13 @@ cut-length n bytes u = let e = lengths n bytes u in omega (arith, e)
 pub after-le : (n : ℕ) (bytes : List ℕ) → IsUtf8 bytes → length (after_characters n bytes) ≤ length bytes
 after-le n bytes u = let e = lengths n bytes u in omega (arith, e)
 
+-- the first characters are the front of the bytes
+pub cut-front : (n : ℕ) (bytes : List ℕ) → IsUtf8 bytes → take (length (cut_to n bytes)) bytes ≡ cut_to n bytes
+cut-front n bytes u = ap (take (length (cut_to n bytes))) (seam n bytes u) ∙ take-append_seam (cut_to n bytes) (after_characters n bytes)
+
+pub cut-seam : (n : ℕ) (bytes : List ℕ) → IsUtf8 bytes → IsCharBoundary bytes (length (cut_to n bytes))
+cut-seam n bytes u = IsCharBoundary-at_seam bytes (cut_to n bytes) (after_characters n bytes) (seam n bytes u) (after-utf8 n bytes u)
+
 pub cut-boundary : (n : ℕ) (bytes : List ℕ) → IsUtf8 bytes → IsCharBoundary bytes (length bytes - length (after_characters n bytes))
 cut-boundary n bytes u =
     rw (cut-length n bytes u) (IsCharBoundary-at_seam bytes (cut_to n bytes) (after_characters n bytes) (seam n bytes u) (after-utf8 n bytes u))

@@ -1,6 +1,7 @@
 pub mod ByteLemmas
 pub mod ChoiceLemmas
 pub mod CutLemmas
+pub mod DecimalLemmas
 pub mod IntegerLemmas
 pub mod JoinLemmas
 pub mod KeepLemmas

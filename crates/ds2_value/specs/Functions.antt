@@ -8,10 +8,13 @@ use Rattle.ds2_base.specs.Characters.{char_count}
 use Rattle.ds2_decimal.specs.Arithmetic.{rescale}
 use Rattle.ds2_value.specs.Order.{key_order}
 use Rattle.ds2_value.specs.Texts.{cut_to, after_characters, trimmed, without_blanks}
-use Rattle.ds2_value.specs.Types.{decimal_value}
+use Rattle.ds2_value.specs.Types.{whole_decimal, decimal_value}
 use Rattle.ds2_value.specs.Value.{is_null}
+use Rattle.ds2_value.specs.declared.choice.Choice.{Choice}
+use Rattle.ds2_value.specs.declared.choice.Choice.TheVariants.{First, Least, Greatest}
 use Rattle.ds2_value.specs.declared.fault.Fault.{Fault}
 use Rattle.ds2_value.specs.declared.fault.Fault.TheVariants.{Range}
+use Rattle.ds2_value.specs.declared.ty.TheConstants.{TEXT_CHARACTERS}
 use Rattle.ds2_value.specs.declared.value.Value.{Value}
 use Rattle.ds2_value.specs.declared.value.Value.TheVariants.{Null, Int, Dec, Txt}
 
@@ -36,9 +39,9 @@ joined_texts [] = Some []
 joined_texts (Txt t ∷ vs) = option_map (λ more. t ++ more) (joined_texts vs)
 joined_texts (_ ∷ vs) = None
 
--- texts one after the other, cut to 1,024 characters
+-- texts one after the other, cut to as many characters as a type may have
 abbrev pub concat_of : List Value → Value
-concat_of vs = option_map_or (λ bytes. Txt (cut_to 1024 bytes)) (joined_texts vs) Null
+concat_of vs = option_map_or (λ bytes. Txt (cut_to TEXT_CHARACTERS bytes)) (joined_texts vs) Null
 
 -- at most k characters of a text from character i on, which counts from 1; Range where i is below 1 or above the number of
 -- characters and one, and where k is below 0
@@ -58,11 +61,11 @@ greatest_scale [] = None
 greatest_scale (Dec d ∷ vs) = Some (max d.scale (unwrap_or (greatest_scale vs) 0))
 greatest_scale (_ ∷ vs) = greatest_scale vs
 
--- a number as a decimal of 38 digits and a scale; other values as they are
+-- a number as a decimal of 38 digits and a scale; null for other values, which are never met beside decimals but for null
 abbrev pub at_scale : ℕ → Value → Result Value Fault
-at_scale s (Int i) = decimal_value (rescale 38 s (record { units = i; scale = 0 }))
+at_scale s (Int i) = decimal_value (rescale 38 s (whole_decimal i))
 at_scale s (Dec d) = decimal_value (rescale 38 s d)
-at_scale s v = Ok v
+at_scale s _ = Ok Null
 
 -- a value beside decimals of a greatest scale, or beside none
 abbrev pub beside : Option ℕ → Value → Result Value Fault
@@ -98,12 +101,18 @@ lesser_of a b = if is_null a then b else if is_null b then a else if is_lt (key_
 abbrev pub greater_of : Value → Value → Value
 greater_of a b = if is_null a then b else if is_null b then a else if is_gt (key_order b a) then b else a
 
+-- the choice of each of the three functions
+abbrev pub chosen_of : Choice → Value → Value → Value
+chosen_of First a b = first_of a b
+chosen_of Least a b = lesser_of a b
+chosen_of Greatest a b = greater_of a b
+
 -- the first value that is not null, and the least and the greatest one without the nulls; null where all are null
 abbrev pub coalesce_of : List Value → Result Value Fault
-coalesce_of vs = choice_of first_of (alike_of vs)
+coalesce_of vs = choice_of (chosen_of First) (alike_of vs)
 
 abbrev pub least_of : List Value → Result Value Fault
-least_of vs = choice_of lesser_of (alike_of vs)
+least_of vs = choice_of (chosen_of Least) (alike_of vs)
 
 abbrev pub greatest_of : List Value → Result Value Fault
-greatest_of vs = choice_of greater_of (alike_of vs)
+greatest_of vs = choice_of (chosen_of Greatest) (alike_of vs)

@@ -1,5 +1,5 @@
 -- Types: their bounds, the values of a type, the join of two types, assignment to a type.
-use Rattle.std.specs.Prelude.{◌≡◌, IsTrue, ℕ, ◌+◌, ◌-◌, ◌==◌, max, nat_le, Bool, true, false, ◌&&◌, if◌then◌else◌, Option, Some, None, Result, Ok, Err}
+use Rattle.std.specs.Prelude.{◌≡◌, IsTrue, ℕ, ℤ, ◌+◌, ◌-◌, ◌==◌, max, nat_le, Bool, true, false, ◌&&◌, if◌then◌else◌, Option, Some, None, Result, Ok, Err}
 use Rattle.std.specs.Str.{is_utf8}
 use Rattle.ds2_base.specs.Characters.{char_count}
 use Rattle.ds2_decimal.specs.Arithmetic.{rescale}
@@ -10,6 +10,7 @@ use Rattle.ds2_value.specs.Texts.{cut_to, filled_to}
 use Rattle.ds2_value.specs.Value.{fits_bigint}
 use Rattle.ds2_value.specs.declared.fault.Fault.{Fault}
 use Rattle.ds2_value.specs.declared.fault.Fault.TheVariants.{Overflow, DivideByZero}
+use Rattle.ds2_value.specs.declared.ty.TheConstants.{TEXT_CHARACTERS}
 use Rattle.ds2_value.specs.declared.ty.Ty.{Ty}
 use Rattle.ds2_value.specs.declared.ty.Ty.TheVariants.{BigInt, Decimal as DecimalOf, Char, Varchar}
 use Rattle.ds2_value.specs.declared.value.Value.{Value}
@@ -23,8 +24,8 @@ is_from_one n limit = nat_le 1 n && nat_le n limit
 abbrev pub in_bounds : Ty → Bool
 in_bounds BigInt = true
 in_bounds (DecimalOf p s) = is_from_one p 38 && nat_le s p
-in_bounds (Char n) = is_from_one n 1024
-in_bounds (Varchar n) = is_from_one n 1024
+in_bounds (Char n) = is_from_one n TEXT_CHARACTERS
+in_bounds (Varchar n) = is_from_one n TEXT_CHARACTERS
 
 -- a value is of a type: a number of 64 bits, a decimal of the type's scale and digits, a text in UTF-8 of the type's length;
 -- null is of every type
@@ -56,6 +57,10 @@ join_of (Varchar n) (Char m) = Some (Varchar (max n m))
 join_of (Varchar n) (Varchar m) = Some (Varchar (max n m))
 join_of _ _ = None
 
+-- a BIGINT as a decimal
+abbrev pub whole_decimal : ℤ → Decimal
+whole_decimal i = record { units = i; scale = 0 }
+
 -- what a fault of decimals is in a run
 abbrev pub fault_of : DecFault → Fault
 fault_of dec_fault.Overflow = Overflow
@@ -70,7 +75,7 @@ decimal_value (Err fault) = Err (fault_of fault)
 -- the type; a text cut to n characters, and for CHAR filled with blanks to n. Other types are never met, and give null
 abbrev pub assign_of : Value → Ty → Result Value Fault
 assign_of (Int i) BigInt = Ok (Int i)
-assign_of (Int i) (DecimalOf p s) = decimal_value (rescale p s (record { units = i; scale = 0 }))
+assign_of (Int i) (DecimalOf p s) = decimal_value (rescale p s (whole_decimal i))
 assign_of (Dec d) (DecimalOf p s) = decimal_value (rescale p s d)
 assign_of (Txt t) (Char n) = Ok (Txt (filled_to n t))
 assign_of (Txt t) (Varchar n) = Ok (Txt (cut_to n t))

@@ -1,12 +1,13 @@
 -- What operators and conditions make of values.
-use Rattle.std.specs.Prelude.{zero, ◌^◌, ◌||◌, Bool, true, false, Option, Some, None, Result, Ok, Err, ℤ, pos, negsuc, ◌+ℤ◌, ◌-ℤ◌, nat_lt, if◌then◌else◌}
+use Rattle.std.specs.Prelude.{zero, ◌^◌, ◌||◌, Bool, true, false, Option, Some, None, Result, Ok, Err, ℤ, pos, negsuc, ◌+ℤ◌, ◌-ℤ◌, ◌*ℤ◌, neg_ℤ, unsigned_abs, int_rem, nat_lt, if◌then◌else◌}
 use Rattle.std.specs.Ordering.{is_eq, is_ne, is_lt, is_le, is_gt, is_ge}
 use Rattle.std.specs.declared.cmp.Ordering.{Ordering}
+use Rattle.ds2_decimal.specs.Rounding.{is_zero}
 use Rattle.ds2_value.specs.Order.{key_order}
 use Rattle.ds2_value.specs.declared.comparison.Comparison.{Comparison}
 use Rattle.ds2_value.specs.declared.comparison.Comparison.TheVariants as cmp
 use Rattle.ds2_value.specs.declared.fault.Fault.{Fault}
-use Rattle.ds2_value.specs.declared.fault.Fault.TheVariants.{Overflow}
+use Rattle.ds2_value.specs.declared.fault.Fault.TheVariants.{Overflow, DivideByZero}
 use Rattle.ds2_value.specs.declared.truth.Truth.{Truth}
 use Rattle.ds2_value.specs.declared.truth.Truth.TheVariants.{Yes, No, Unknown}
 use Rattle.ds2_value.specs.declared.value.Value.{Value}
@@ -30,6 +31,26 @@ sum_of _ _ = Ok Null
 unfoldable pub difference_of : Value → Value → Result Value Fault
 difference_of (Int x) (Int y) = bigint_of (x -ℤ y)
 difference_of _ _ = Ok Null
+
+-- the product of two BIGINT values; null where one is null
+unfoldable pub product_of : Value → Value → Result Value Fault
+product_of (Int x) (Int y) = bigint_of (x *ℤ y)
+product_of _ _ = Ok Null
+
+-- a BIGINT value with the other sign; null for null
+unfoldable pub negative_of : Value → Result Value Fault
+negative_of (Int x) = bigint_of (neg_ℤ x)
+negative_of _ = Ok Null
+
+-- a BIGINT value without its sign; null for null
+unfoldable pub absolute_of : Value → Result Value Fault
+absolute_of (Int x) = bigint_of (pos (unsigned_abs x))
+absolute_of _ = Ok Null
+
+-- what whole multiples of a BIGINT value leave of another one, with the sign of this one; null where one is null
+unfoldable pub remainder_of : Value → Value → Result Value Fault
+remainder_of (Int x) (Int y) = if is_zero y then Err DivideByZero else Ok (Int (int_rem x y))
+remainder_of _ _ = Ok Null
 
 -- null
 abbrev pub is_null : Value → Bool

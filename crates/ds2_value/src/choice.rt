@@ -1,13 +1,33 @@
 //! Functions of the language that choose one of their arguments.
-ghost use Rattle.std.specs.Prelude.{◌≡◌, ◌≤◌, IfSome};
+ghost use Rattle.std.specs.Prelude.{◌≡◌, ◌≤◌, IfOk, IfSome, Some, fold, if◌then◌else◌};
 ghost use Rattle.ds2_base.specs.Says.{Says};
-ghost use Rattle.ds2_value.specs.Functions.{greatest_scale, at_scale, beside, alike_of, first_of, lesser_of, greater_of, coalesce_of, least_of, greatest_of};
+ghost use Rattle.ds2_value.specs.Functions.{greatest_scale, at_scale, all_beside, alike_of, chosen_of, choice_of, coalesce_of, least_of, greatest_of};
+ghost use Rattle.ds2_value.specs.declared.value.Value.TheVariants.{Null};
 
-use crate::assignment::decimal_value;
-use crate::order::whole;
-use crate::{Fault, Value, key_compare};
-use ds2_base::{List, Stop};
+use crate::{Fault, Value, decimal_value, key_compare, whole_decimal};
+use ds2_base::{OutOfMemory, Stop, refusing};
 use std::alloc::Global;
+
+// Which of its arguments a function chooses.
+#[derive(Clone, Copy)]
+enum Choice {
+    First,
+    Least,
+    Greatest,
+}
+
+impl Choice {
+    // Whether the second value is chosen; null is never chosen before another value.
+    fn is_second(self, a: &Value, b: &Value) -> bool
+        ensures { (if result then b.now else a.now) ≡ chosen_of self a.now b.now }
+    {
+        match self {
+            Choice::First => a.is_null(),
+            Choice::Least => a.is_null() || (!b.is_null() && key_compare(b, a).is_lt()),
+            Choice::Greatest => a.is_null() || (!b.is_null() && key_compare(b, a).is_gt()),
+        }
+    }
+}
 
 // The greatest scale of the decimals; None where there is none.
 fn greatest_scale(args: &[Value]) -> Option<u8>
@@ -26,72 +46,55 @@ fn greatest_scale(args: &[Value]) -> Option<u8>
     greatest
 }
 
-// A number as a decimal of 38 digits and this scale; other values as they are.
-fn at_scale(alloc: Global, v: &Value, scale: u8) -> Result<Value, Stop<Fault>>
+// A number as a decimal of 38 digits and this scale.
+fn at_scale(v: &Value, scale: u8) -> Result<Value, Fault>
     requires { scale ≤ 38 }
-    ensures { Says result (at_scale scale v.now) }
+    ensures { result ≡ at_scale scale v.now }
 {
     match v {
-        Value::Int(i) => decimal_value(whole(*i).rescale(38, scale)),
+        Value::Int(i) => decimal_value(whole_decimal(*i).rescale(38, scale)),
         Value::Dec(d) => decimal_value(d.rescale(38, scale)),
-        Value::Null | Value::Txt(_) => Ok(v.copy(alloc)?),
+        Value::Null | Value::Txt(_) => Ok(Value::Null),
     }
 }
 
-// A value as it is where no scale is given, and else at the scale.
-fn beside(alloc: Global, v: &Value, scale: Option<u8>) -> Result<Value, Stop<Fault>>
-    requires { IfSome scale (λ s. s ≤ 38) }
-    ensures { Says result (beside scale v.now) }
+// The choice among decimals of this scale.
+fn choose_scaled(choice: Choice, args: &[Value], scale: u8) -> Result<Value, Fault>
+    requires { scale ≤ 38 }
+    ensures { result ≡ choice_of (chosen_of choice) (all_beside (Some scale) args.now) }
 {
-    match scale {
-        None => Ok(v.copy(alloc)?),
-        Some(s) => at_scale(alloc, v, s),
-    }
-}
-
-// The values in one type: numbers as decimals of the greatest scale, where there is a decimal among them.
-fn alike(alloc: Global, args: &[Value]) -> Result<List<Value>, Stop<Fault>>
-    ensures { Says result (alike_of args.now) }
-{
-    let scale = greatest_scale(args);
-    let mut values = List::new(alloc);
+    let mut best = Value::Null;
     'values: for v in args {
-        values.push(beside(alloc, v, scale)?)?;
+        let next = at_scale(v, scale)?;
+        if choice.is_second(&best, &next) {
+            best = next;
+        }
     }
-    Ok(values)
+    Ok(best)
 }
 
-fn first_of(a: Value, b: Value) -> Value
-    ensures { result ≡ first_of a b }
+// The choice among values as they are, which alone is copied.
+fn choose_kept(alloc: Global, choice: Choice, args: &[Value]) -> Result<Value, OutOfMemory>
+    ensures { IfOk result (λ v. v ≡ fold (chosen_of choice) Null args.now) }
 {
-    if a.is_null() { b } else { a }
-}
-
-fn lesser_of(a: Value, b: Value) -> Value
-    ensures { result ≡ lesser_of a b }
-{
-    if a.is_null() {
-        b
-    } else if b.is_null() {
-        a
-    } else if key_compare(&b, &a).is_lt() {
-        b
-    } else {
-        a
+    let none = Value::Null;
+    let mut best = &none;
+    'values: for v in args {
+        if choice.is_second(best, v) {
+            best = v;
+        }
     }
+    best.copy(alloc)
 }
 
-fn greater_of(a: Value, b: Value) -> Value
-    ensures { result ≡ greater_of a b }
+// The choice among values in one type: numbers as decimals of the greatest scale, where there is a decimal among them.
+#[tactic(auto, using(crate::proofs::ChoiceLemmas::as_they_are))]
+fn choose(alloc: Global, choice: Choice, args: &[Value]) -> Result<Value, Stop<Fault>>
+    ensures { Says result (choice_of (chosen_of choice) (alike_of args.now)) }
 {
-    if a.is_null() {
-        b
-    } else if b.is_null() {
-        a
-    } else if key_compare(&b, &a).is_gt() {
-        b
-    } else {
-        a
+    match greatest_scale(args) {
+        None => Ok(choose_kept(alloc, choice, args)?),
+        Some(scale) => refusing(choose_scaled(choice, args, scale)),
     }
 }
 
@@ -100,26 +103,19 @@ fn greater_of(a: Value, b: Value) -> Value
 pub fn coalesce(alloc: Global, args: &[Value]) -> Result<Value, Stop<Fault>>
     ensures { Says result (coalesce_of args.now) }
 {
-    let values = alike(alloc, args)?.into_vec();
-    Ok(values.into_iter().fold(Value::Null, |a, b| first_of(a, b)))
+    choose(alloc, Choice::First, args)
 }
 
 /// `min(a, ..)`: the least number without the nulls; null where all are. Numbers are brought to one type as in [`coalesce`].
 pub fn least(alloc: Global, args: &[Value]) -> Result<Value, Stop<Fault>>
     ensures { Says result (least_of args.now) }
 {
-    let values = alike(alloc, args)?.into_vec();
-    Ok(values.into_iter().fold(Value::Null, |a, b| lesser_of(a, b)))
+    choose(alloc, Choice::Least, args)
 }
 
 /// `max(a, ..)`: the greatest number without the nulls; null where all are. Numbers are brought to one type as in [`coalesce`].
 pub fn greatest(alloc: Global, args: &[Value]) -> Result<Value, Stop<Fault>>
     ensures { Says result (greatest_of args.now) }
 {
-    let values = alike(alloc, args)?.into_vec();
-    Ok(
-        values
-            .into_iter()
-            .fold(Value::Null, |a, b| greater_of(a, b)),
-    )
+    choose(alloc, Choice::Greatest, args)
 }

@@ -1,7 +1,8 @@
 //! The text of a decimal.
 ghost use Rattle.std.specs.Prelude.{◌≡◌, ◌^◌, ◌<◌, ◌≤◌, ◌++◌, ◌∷◌, IfOk, string_bytes};
 ghost use Rattle.std.specs.Fmt.{decimal};
-ghost use Rattle.ds2_value.specs.DecimalText.{dec_text, wide};
+ghost use Rattle.ds2_decimal.specs.Text.{written};
+ghost use Rattle.ds2_value.specs.DecimalText.{wide};
 
 use ds2_base::{OutOfMemory, Text};
 use ds2_decimal::Dec;
@@ -32,10 +33,10 @@ fn pointed(
     format!(in alloc; "{sign}{whole}.{rest:0width$}")
 }
 
-/// The text of a decimal: `-` below 0, at least one digit before the point, and a point with as many digits after it as the scale
+/// The text of a decimal, which [`Dec::read`] gives back: `-` below 0, at least one digit before the point, and a point with as many digits after it as the scale
 /// has, where that is above 0.
 pub fn write_dec(alloc: Global, d: Dec) -> Result<Text, OutOfMemory>
-    ensures { IfOk result (λ text. text ≡ dec_text d) }
+    ensures { IfOk result (λ text. text ≡ written d) }
 {
     let units = d.units();
     let scale = d.scale();

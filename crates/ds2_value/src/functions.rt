@@ -5,8 +5,8 @@ ghost use Rattle.ds2_base.specs.Says.{Says};
 ghost use Rattle.ds2_value.specs.Texts.{without_blanks};
 ghost use Rattle.ds2_value.specs.Functions.{is_null_of, length_of, trim_of, joined_texts, concat_of, part_of, substr_of};
 
-use crate::texts::{after_characters, cut_to, trimmed};
-use crate::{Fault, Value};
+use crate::texts::{after_characters, cut_to, shortened_to, trimmed};
+use crate::{Fault, TEXT_CHARACTERS, Value};
 use ds2_base::{OutOfMemory, Stop, Text, char_count};
 use std::alloc::Global;
 
@@ -96,9 +96,9 @@ pub fn concat(alloc: Global, args: &[Value]) -> Result<Value, Stop<Fault>>
 {
     match joined_texts(alloc, args)? {
         None => Ok(Value::Null),
-        Some(joined) => {
-            let kept = cut_to(joined.as_str(), 1024);
-            Ok(Value::Txt(Text::of(alloc, kept)?))
-        }
+        Some(joined) => Ok(Value::Txt(shortened_to(
+            Text::from_string(joined),
+            TEXT_CHARACTERS as usize,
+        ))),
     }
 }

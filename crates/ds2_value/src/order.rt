@@ -3,16 +3,8 @@ ghost use Rattle.std.specs.Prelude.{◌≡◌, []};
 ghost use Rattle.ds2_value.specs.Order.{key_order};
 ghost use Rattle.ds2_value.specs.Texts.{padded_cmp, text_cmp};
 
-use crate::Value;
-use ds2_decimal::Dec;
+use crate::{Value, whole_decimal};
 use std::cmp::Ordering;
-
-// The number as a decimal without digits after the point.
-pub(crate) fn whole(i: i64) -> Dec
-    ensures { result ≡ record { units = i; scale = 0 } }
-{
-    Dec::new(i as i128, 0).unwrap()
-}
 
 // How characters stand to blanks.
 fn order_to_blanks(rest: &[u8]) -> Ordering
@@ -86,12 +78,12 @@ pub fn key_compare(a: &Value, b: &Value) -> Ordering
         Value::Int(x) => match b {
             Value::Null => Ordering::Greater,
             Value::Int(y) => x.cmp(y),
-            Value::Dec(y) => whole(*x).compare(*y),
+            Value::Dec(y) => whole_decimal(*x).compare(*y),
             Value::Txt(_) => Ordering::Less,
         },
         Value::Dec(x) => match b {
             Value::Null => Ordering::Greater,
-            Value::Int(y) => x.compare(whole(*y)),
+            Value::Int(y) => x.compare(whole_decimal(*y)),
             Value::Dec(y) => x.compare(*y),
             Value::Txt(_) => Ordering::Less,
         },

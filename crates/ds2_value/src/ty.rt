@@ -2,7 +2,10 @@
 ghost use Rattle.std.specs.Prelude.{◌≡◌};
 ghost use Rattle.ds2_value.specs.Types.{in_bounds, join_decimals, join_of};
 
-/// A type of variables and columns. It is in bounds where 1 <= p <= 38, s <= p and 1 <= n <= 1024.
+/// The most characters of a text in a type, and of texts that are put one after the other.
+pub const TEXT_CHARACTERS: u16 = 1024;
+
+/// A type of variables and columns. It is in bounds where 1 <= p <= 38, s <= p and 1 <= n <= [`TEXT_CHARACTERS`].
 #[derive(Clone, Copy, Debug, PartialEq, Eq)]
 pub enum Ty {
     /// Whole numbers of 64 bits.
@@ -23,7 +26,7 @@ impl Ty {
         match self {
             Ty::BigInt => true,
             Ty::Decimal { p, s } => 1 <= p && p <= 38 && s <= p,
-            Ty::Char { n } | Ty::Varchar { n } => 1 <= n && n <= 1024,
+            Ty::Char { n } | Ty::Varchar { n } => 1 <= n && n <= TEXT_CHARACTERS,
         }
     }
 }

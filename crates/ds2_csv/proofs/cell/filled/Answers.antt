@@ -17,6 +17,7 @@ returns c =
     let same : c.blanks.i - c.args.count ≡ c.args.n - c.args.count = omega (arith, end, c.blanks-test.false) in
     let last : c.blanks.i ≡ c.args.n = omega (arith, end, c.blanks-test.false) in
     record {
-      value = c.from_string.ensures ∙ blanks-done _ c.args.text.now c.args.n c.args.count c.blanks.i c.requires.characters same c.blanks.invariant.text;
-      full = ap (λ (t : List ℕ). char_count t) c.from_string.ensures ∙ c.blanks.invariant.count ∙ last;
+      value = c.from_string.ensures.text ∙ blanks-done _ c.args.text.now c.args.n c.args.count c.blanks.i c.requires.characters same c.blanks.invariant.text;
+      full = ap (λ (t : List ℕ). char_count t) c.from_string.ensures.text ∙ c.blanks.invariant.count ∙ last;
+      utf8 = c.from_string.ensures.utf8;
     }

@@ -7,4 +7,4 @@ returns-in_ok-filled_to-in-Txt-Char-clause-of_type c =
 
 pub returns-in_ok-of-in-Txt-Varchar-clause-of_type : goal.returns-in_ok-of-in-Txt-Varchar-clause-of_type
 returns-in_ok-of-in-Txt-Varchar-clause-of_type c =
-    rw (c.in-Txt-Varchar.is-1, c.in_ok-of-in-Txt-Varchar.ensures, c.cut_to.ensures) (fits-cut c.in-Txt-Varchar.n c.as_str-in-Txt-Varchar.result.now c.as_str-in-Txt-Varchar.utf8)
+    rw (c.in-Txt-Varchar.is-1, c.in_ok-of-in-Txt-Varchar.ensures.text, c.cut_to.ensures) (fits-cut c.in-Txt-Varchar.n c.as_str-in-Txt-Varchar.result.now c.as_str-in-Txt-Varchar.utf8)
