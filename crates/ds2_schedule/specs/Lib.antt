@@ -1,0 +1,5 @@
+pub mod Schedule
+pub mod Groups
+pub mod Bags
+pub mod Numbers
+pub mod Histories
