@@ -1,5 +1,5 @@
 -- What a number gives, and the groups of its run.
-use Rattle.std.proofs.Common.{◌≡◌, ℕ, ◌+◌, ◌-◌, ◌*◌, ◌<◌, ◌≤◌, List, [], Bool, refl, sym, ap, ◌∙◌, arith, inl, inr}
+use Rattle.std.proofs.Common.{◌≡◌, ℕ, ◌+◌, ◌-◌, ◌*◌, ◌<◌, ◌≤◌, List, [], Bool, false, refl, sym, ap, subst, ◌∙◌, arith, inl, inr}
 use Rattle.std.specs.Prelude.{min, if◌then◌else◌, nat_lt}
 use Rattle.std.proofs.lemmas.Bool.{cases_lt}
 use Rattle.std.proofs.Math.Nat.{mul-le-mul_right}
@@ -7,7 +7,7 @@ use Rattle.ds2_dealer.specs.declared.tickets.Tickets.{Tickets}
 use Rattle.ds2_dealer.specs.declared.tickets.Draw.{Draw}
 use Rattle.ds2_dealer.specs.declared.tickets.Draw.TheVariants.{Run, NoMore}
 use Rattle.ds2_dealer.specs.Runs.{numbers_from, run_count, run_groups}
-use Rattle.ds2_dealer.specs.Seats.{draw_of, groups_drawn}
+use Rattle.ds2_dealer.specs.Seats.{draw_of, groups_drawn, IsRun}
 use Rattle.ds2_dealer.proofs.Counts.{lt_true, lt_false}
 use Rattle.ds2_dealer.proofs.Runs.{enough}
 
@@ -32,4 +32,16 @@ unfolding answered
 gives_groups t d one is = elim (cases_lt d t.runs) [
   | inl low ↦ ap {B = List ℕ} (λ (b : Bool). groups_drawn (answered t d b)) (lt_true d t.runs low)
   | inr high ↦ ap {B = List ℕ} (λ (b : Bool). groups_drawn (answered t d b)) (lt_false d t.runs high) ∙ no_groups t.groups t.length d one (omega (arith, high, is))
+]
+
+no_run : (t : Tickets) (d : ℕ) → IsRun (answered t d false) → ⊥
+unfolding answered
+no_run t d h = h
+
+-- only a number below the last run gives one
+pub run_is_low : (t : Tickets) (d : ℕ) (answer : Draw) → answer ≡ draw_of t d → IsRun answer → d < t.runs
+unfolding answered
+run_is_low t d answer e is = elim (cases_lt d t.runs) [
+  | inl low ↦ low
+  | inr high ↦ absurd (no_run t d (subst IsRun (e ∙ ap {B = Draw} (answered t d) (lt_false d t.runs high)) is))
 ]

@@ -218,3 +218,27 @@ shows_all q word views id (First split joined drawn) k at = λ e x.
     let live = over_plus one_if_first one_if_other views in
     let one : over_seats (λ u. one_if_first u + one_if_other u) views ≡ 1 = omega (arith, live, k.first, k.unspent, split_is, joined_is, e) in
     sym (over_one (λ u. times x (shown u)) (λ u. one_if_first u + one_if_other u) views id v (unseen_numbers x) one at (omega arith)) ∙ k.each_once x
+
+-- what a draw and a join leave of the bound on numbers past the last run
+pub few_after_draw : (q d : ℕ) (v w : SeatView) → MayDraw q v → w ≡ with_number d v → past q (shown w) ≤ most_past w
+few_after_draw q d v w may e = subst (λ (z : SeatView). past q (shown z) ≤ most_past z) (sym e) (draw_is q d v may).room
+
+pub few_after_join : (q : ℕ) (v w x : SeatView) → MayJoin v w → past q (shown v) ≤ most_past v → past q (shown w) ≤ most_past w → x ≡ with_joined v w → past q (shown x) ≤ most_past x
+few_after_join q (First split joined drawn) (Other theirs) x may few theirs_few e =
+    subst (λ (z : SeatView). past q (shown z) ≤ most_past z) (sym e) (omega (arith, few, theirs_few, past-append q drawn theirs))
+few_after_join q (First split joined drawn) (First a b c) x may few theirs_few e = absurd may
+few_after_join q (First split joined drawn) Spent x may few theirs_few e = absurd may
+few_after_join q (Other drawn) w x may few theirs_few e = absurd may
+few_after_join q Spent w x may few theirs_few e = absurd may
+
+not_past : (q d : ℕ) → d < q → past q (d ∷ []) ≡ 0
+not_past q d low = grind (arith, nat_tests)
+
+again : (q d : ℕ) (v : SeatView) → MayDraw q v → d < q → MayDraw q (with_number d v)
+again q d (First split joined drawn) may low = omega (arith, may, past-append q drawn (d ∷ []), not_past q d low)
+again q d (Other drawn) may low = omega (arith, may, past-append q drawn (d ∷ []), not_past q d low)
+again q d Spent may low = may
+
+-- a number below the last run leaves the seat free to draw again
+pub may_again : (q d : ℕ) (v w : SeatView) → MayDraw q v → d < q → w ≡ with_number d v → MayDraw q w
+may_again q d v w may low e = subst (MayDraw q) (sym e) (again q d v may low)

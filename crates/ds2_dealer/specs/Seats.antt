@@ -1,20 +1,26 @@
 -- What the calls on tickets and their seats give.
-use Rattle.std.specs.Prelude.{◌≡◌, ℕ, ◌+◌, ◌-◌, ◌*◌, List, [], min, if◌then◌else◌, nat_lt}
+use Rattle.std.specs.Prelude.{◌≡◌, ℕ, ◌+◌, ◌-◌, ◌*◌, ◌≤◌, List, [], min, if◌then◌else◌, nat_lt}
 use Rattle.ds2_dealer.specs.declared.rule.SeatView.{SeatView}
 use Rattle.ds2_dealer.specs.declared.tickets.Tickets.{Tickets}
 use Rattle.ds2_dealer.specs.declared.tickets.TicketSeat.{TicketSeat}
 use Rattle.ds2_dealer.specs.declared.tickets.Draw.{Draw}
 use Rattle.ds2_dealer.specs.declared.tickets.Draw.TheVariants.{Run, NoMore}
 use Rattle.ds2_dealer.specs.Runs.{numbers_from, run_groups}
-use Rattle.ds2_dealer.specs.Rule.{with_number, IsAbove, ShowsAll}
+use Rattle.ds2_dealer.specs.Rule.{shown, past, most_past, with_number, IsAbove, ShowsAll}
 
 -- What a seat shows.
 abbrev pub view_of : TicketSeat → SeatView
 view_of s = s.seat.me.0
 
--- The seat is one of these tickets.
-abbrev pub IsSeatOf : Tickets → TicketSeat → Type 0
-IsSeatOf t s = s.seat.table_id ≡ t.table.shared.table_id
+-- The seat is one of these tickets, and shows no more numbers past the last run than a seat may.
+pub record IsSeatOf (t : Tickets) (s : TicketSeat) : Type 0 where
+  pub table : s.seat.table_id ≡ t.table.shared.table_id
+  pub few_past : past t.runs (shown (view_of s)) ≤ most_past (view_of s)
+
+-- The draw gave a run.
+abbrev pub IsRun : Draw → Type 0
+IsRun (Run from to) = Unit {0}
+IsRun (NoMore d) = ⊥
 
 -- What number d gives: the groups of run d, or no more where d is past the last run.
 abbrev pub draw_of : Tickets → ℕ → Draw

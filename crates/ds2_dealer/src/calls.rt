@@ -2,7 +2,7 @@
 ghost use Rattle.std.specs.Prelude.{◌≡◌, ℕ, ◌<◌, ◌≤◌, [], IfOk};
 ghost use Rattle.ds2_dealer.specs.Runs.{run_length, run_count};
 ghost use Rattle.ds2_dealer.specs.Rule.{MayDraw, MaySplit, MayJoin, ShowsAll, with_split, with_joined};
-ghost use Rattle.ds2_dealer.specs.Seats.{view_of, IsSeatOf, draw_of, HasDrawn};
+ghost use Rattle.ds2_dealer.specs.Seats.{view_of, IsSeatOf, IsRun, draw_of, HasDrawn};
 ghost use Rattle.ds2_dealer.specs.declared.rule.SeatView.TheVariants.{First, Other};
 
 use crate::cutting::{length_of_runs, number_of_runs};
@@ -55,12 +55,13 @@ impl Tickets {
         }
     }
 
-    /// Draws the next number, which the seat then shows, and gives the groups of its run. Takes no memory and waits for nobody.
+    /// Draws the next number, which the seat then shows, and gives the groups of its run; where that is a run, the seat may draw again. One atomic step: it takes no memory and waits for nobody.
     pub fn draw(&self, seat: &mut TicketSeat) -> Draw
         requires of { IsSeatOf self.now seat.old }
         requires may { MayDraw self.now.runs (view_of seat.old) }
         ensures of { IsSeatOf self.now seat.new }
         ensures drawn { HasDrawn self.now (view_of seat.old) (view_of seat.new) result }
+        ensures again { IsRun result → MayDraw self.now.runs (view_of seat.new) }
     {
         let number = self.table.shared.fetch_add::<Drawn>(&mut seat.seat, 0, 1);
         self.run(number)

@@ -19,6 +19,8 @@ mod calls;
 mod cutting;
 pub mod laws;
 mod rule;
+#[cfg(test)]
+mod tests;
 mod tickets;
 
 pub use book::{Book, Totals};

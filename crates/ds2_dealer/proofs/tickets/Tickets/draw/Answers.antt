@@ -4,8 +4,8 @@ use Rattle.atomic_table.specs.Table.{keeps, Me}
 use Rattle.ds2_dealer.specs.declared.rule.SeatView.{SeatView}
 use Rattle.ds2_dealer.specs.Rule.{TicketRule, with_number, MayDraw, IsAbove, ShowsAll}
 use Rattle.ds2_dealer.specs.Seats.{groups_drawn}
-use Rattle.ds2_dealer.proofs.Ticket.{draws, is_above, shows_all}
-use Rattle.ds2_dealer.proofs.Answered.{gives_groups}
+use Rattle.ds2_dealer.proofs.Ticket.{draws, is_above, shows_all, few_after_draw, may_again}
+use Rattle.ds2_dealer.proofs.Answered.{gives_groups, run_is_low}
 use Rattle.ds2_dealer.proofs.tickets.Tickets.draw.Goals as goal
 
 pub fetch_add-number-requires : goal.fetch_add-number-requires
@@ -16,7 +16,7 @@ fetch_add-number-requires c =
     let q = t.table.shared.key in
     let may : MayDraw q v = subst (λ (r : ℕ). MayDraw r v) (sym t.key) c.requires.may in
     let few : q ≤ 2 ^ 58 = omega (arith, t.key, t.few) in (
-      c.requires.of,
+      c.requires.of.table,
       omega (arith, t.one),
       λ s kept count at small.
           let word = kept.0 in
@@ -51,3 +51,13 @@ returns-clause-drawn c =
       gives = c.run.ensures;
       groups = ap groups_drawn c.run.ensures ∙ gives_groups t d t.long t.all;
     }
+
+pub returns-clause-of : goal.returns-clause-of
+returns-clause-of c = record {
+  table = c.fetch_add-number.ensures.0 ∙ c.requires.of.table;
+  few_past = few_after_draw c.args.self.now.runs c.fetch_add-number.result c.args.seat.now.seat.me.0 c.fetch_add-number.new.seat.me.0 c.requires.may (ap (λ (m : Me ℕ SeatView). m.0) c.fetch_add-number.ensures.2.0);
+}
+
+pub returns-clause-again : goal.returns-clause-again
+returns-clause-again c = λ is. may_again c.args.self.now.runs c.fetch_add-number.result c.args.seat.now.seat.me.0 c.fetch_add-number.new.seat.me.0 c.requires.may
+    (run_is_low c.args.self.now c.fetch_add-number.result c.run.result c.run.ensures is) (ap (λ (m : Me ℕ SeatView). m.0) c.fetch_add-number.ensures.2.0)
