@@ -1,6 +1,7 @@
 -- Each kind of step keeps the ticket's rule.
 use Rattle.std.proofs.Common.{◌≡◌, ℕ, zero, suc, ◌+◌, ◌-◌, ◌%◌, ◌^◌, ◌<◌, ◌≤◌, List, [], ◌∷◌, ◌++◌, Bool, true, false, refl, sym, ap, ◌∙◌, subst, arith, inl, inr}
 use Rattle.std.specs.Prelude.{◌⊎◌, min, if◌then◌else◌, ◌==◌, nat_le, slice_set}
+use Rattle.std.proofs.lemmas.Bool.{cases_lt, eq-eqb}
 use Rattle.std.proofs.lemmas.Bool.Decides.{nat_tests}
 use mathlib.Core.Option.{some, some-injective, some-ne-none}
 use lib.ListN.{get_elem?}
@@ -57,11 +58,43 @@ one_at_most : (b : Bool) → (if b then 1 else 0) ≤ 1
 one_at_most true = omega arith
 one_at_most false = omega arith
 
-past_more : (q n t : ℕ) → t + min q n ≡ n → (t + (if nat_le q n then 1 else 0)) + min q (n + 1) ≡ n + 1
-past_more q n t h = grind (arith, nat_tests)
-
 none_past : (x n : ℕ) → n ≤ x → once_below x n ≡ 0
 none_past x n h = grind (arith, nat_tests)
+
+-- a number past the last of q runs is q, or past the last of one more
+past_split : (q : ℕ) (zs : List ℕ) → past q zs ≡ times q zs + past (q + 1) zs
+past_split q [] = refl
+past_split q (z ∷ zs) = let e = past_split q zs in grind (arith, nat_tests, e)
+
+over_split : (q : ℕ) (views : List SeatView) → over_seats (λ v. past q (shown v)) views ≡ over_seats (λ v. times q (shown v)) views + over_seats (λ v. past (q + 1) (shown v)) views
+over_split q [] = refl
+over_split q (v ∷ views) = omega (arith, past_split q (shown v), over_split q views)
+
+no_past : (q : ℕ) (zs : List ℕ) → ((x : ℕ) → q ≤ x → times x zs ≡ 0) → past q zs ≡ 0
+no_past q [] h = refl
+no_past q (z ∷ zs) h =
+    let rest = no_past q zs (λ x high. omega (arith, h x high)) in
+    let low : z < q = elim (cases_lt z q) [
+      | inl t ↦ t
+      | inr high ↦ absurd (omega (arith, h z high, ap {B = ℕ} (λ (b : Bool). if b then 1 else 0) (eq-eqb z z refl)))
+    ] in grind (arith, nat_tests, rest, low)
+
+over_no_past : (q : ℕ) (views : List SeatView) → ((x : ℕ) → q ≤ x → over_seats (λ v. times x (shown v)) views ≡ 0) → over_seats (λ v. past q (shown v)) views ≡ 0
+over_no_past q [] h = refl
+over_no_past q (v ∷ views) h = omega (arith, no_past q (shown v) (λ x high. omega (arith, h x high)), over_no_past q views (λ x high. omega (arith, h x high)))
+
+-- where the numbers shown are those below the next one, each once, those past the last run are those from q up to the next one
+past_up_to : (k q word : ℕ) (views : List SeatView) → ((x : ℕ) → over_seats (λ v. times x (shown v)) views ≡ once_below x word) → q + k ≡ word → over_seats (λ v. past q (shown v)) views ≡ k
+past_up_to zero q word views once is = over_no_past q views (λ x high. omega (arith, once x, none_past x word (omega (arith, is, high))))
+past_up_to (suc k) q word views once is =
+    let here : once_below q word ≡ 1 = grind (arith, nat_tests, is) in
+    omega (arith, over_split q views, once q, here, past_up_to k (q + 1) word views once (omega (arith, is)))
+
+beyond : (q word : ℕ) (views : List SeatView) → ((x : ℕ) → over_seats (λ v. times x (shown v)) views ≡ once_below x word) → word ≤ q + over_seats (λ v. past q (shown v)) views
+beyond q word views once = elim (cases_lt word q) [
+  | inl low ↦ omega (arith, low)
+  | inr high ↦ (let e : q + (word - q) ≡ word = omega (arith, high) in omega (arith, e, past_up_to (word - q) q word views once e))
+]
 
 -- the seats may show no more numbers past the last run than seats were split, and one
 most_is : (v : SeatView) → most_past v ≡ joined_in v + one_if_first v + one_if_other v
@@ -105,7 +138,7 @@ draws q word views id v few k at may =
     let w = with_number word v in
     let p = draw_is q word v may in
     let below = over_le (λ u. past q (shown u)) most_past views k.few_past in
-    let fits : word + 1 < 2 ^ 64 = omega (arith, few, k.first, k.few_split, k.unspent, k.beyond, below, over_most views) in (
+    let fits : word + 1 < 2 ^ 64 = omega (arith, few, k.first, k.few_split, k.unspent, beyond q word views k.each_once, below, over_most views) in (
       omega (arith, fits),
       record {
         each_once = λ x. omega (arith, k.each_once x, over_set (λ u. times x (shown u)) views id v w at, p.numbers x, once_more x word);
@@ -116,7 +149,6 @@ draws q word views id v few k at may =
           | inl e ↦ subst (λ (z : SeatView). past q (shown z) ≤ most_past z) e.1 p.room
           | inr e ↦ k.few_past j u e.1
         ];
-        beyond = let m = past_more q word (over_seats (λ u. past q (shown u)) views) k.beyond in omega (arith, m, over_set (λ u. past q (shown u)) views id v w at, p.pasts);
       },
     )
 
@@ -148,7 +180,6 @@ splits q word views id (First split joined drawn) k at may =
         ]
         | inr e ↦ subst (λ (z : SeatView). past q (shown z) ≤ most_past z) e (omega arith)
       ];
-      beyond = omega (arith, k.beyond, over_set (λ u. past q (shown u)) views id v w at, over_push (λ u. past q (shown u)) now new);
     }
 
 -- a seat joined into the first one
@@ -176,7 +207,6 @@ joins q word views id (First split joined drawn) other (Other theirs) k at apart
           | inr f ↦ k.few_past j u f.1
         ]
       ];
-      beyond = omega (arith, k.beyond, over_set (λ u. past q (shown u)) views id v both at, over_set (λ u. past q (shown u)) now other w Spent there, past-append q drawn theirs);
     }
 
 at_start : (q id : ℕ) (v : SeatView) → get_elem? (First 0 0 [] ∷ []) id ≡ some v → past q (shown v) ≤ most_past v
@@ -191,7 +221,6 @@ opens q = record {
   few_split = omega arith;
   unspent = refl;
   few_past = at_start q;
-  beyond = omega arith;
 }
 
 -- a look changes no view

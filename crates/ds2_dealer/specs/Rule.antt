@@ -1,5 +1,5 @@
 -- What the ticket's one word, the next number, and the views of its seats keep.
-use Rattle.std.specs.Prelude.{◌≡◌, ℕ, ◌+◌, ◌*◌, ◌<◌, ◌≤◌, List, [], ◌∷◌, ◌++◌, min, if◌then◌else◌, nat_le}
+use Rattle.std.specs.Prelude.{◌≡◌, ℕ, ◌+◌, ◌<◌, ◌≤◌, List, [], ◌∷◌, ◌++◌, if◌then◌else◌, nat_le}
 use mathlib.Core.Option.{some}
 use lib.ListN.{get_elem?}
 use Rattle.atomic_table.specs.Table.{State}
@@ -62,8 +62,6 @@ pub record TicketRule (q word : ℕ) (views : List SeatView) : Type 0 where
   pub unspent : over_seats one_if_other views + over_seats joined_in views ≡ over_seats split_off views
   -- No seat shows more numbers past the last run than it may.
   pub few_past : (id : ℕ) (v : SeatView) → get_elem? views id ≡ some v → past q (shown v) ≤ most_past v
-  -- The numbers past the last run are those from q up to the next number. This follows from the first part, and bounds the next number.
-  pub beyond : over_seats (λ v. past q (shown v)) views + min q word ≡ word
 
 -- A table that keeps the rule has one word, the next number.
 abbrev pub IsTicket : ℕ → State ℕ SeatView → Type 0
