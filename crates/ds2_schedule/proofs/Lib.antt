@@ -5,3 +5,4 @@ pub mod Carried
 pub mod Numbers
 pub mod Groups
 pub mod Histories
+pub mod Sample

@@ -3,3 +3,4 @@ pub mod Groups
 pub mod Bags
 pub mod Numbers
 pub mod Histories
+pub mod Sample

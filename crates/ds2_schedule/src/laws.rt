@@ -3,6 +3,7 @@ ghost use Rattle.ds2_schedule.specs.Bags.{EndedIsComplete, EndedIsCarried, Ended
 ghost use Rattle.ds2_schedule.specs.Groups.{EveryStage};
 ghost use Rattle.ds2_schedule.specs.Histories.{HistoriesReplay};
 ghost use Rattle.ds2_schedule.specs.Numbers.{DrawsTheNext, StillAscends};
+ghost use Rattle.ds2_schedule.specs.Sample.{SampleMeetsPremises};
 ghost use Rattle.ds2_schedule.specs.Schedule.{EverySchedule, OneThreadAgrees};
 
 /// Where groups are independent, the results of every legal and complete history, put in order, are those of one thread.
@@ -53,4 +54,9 @@ pub fn still_ascends()
 /// Some histories, with faults early and late, one and many workers, none and many groups, and histories that are not legal.
 pub fn histories_replay()
     ensures { HistoriesReplay }
+{}
+
+/// The premises of the law on stages hold of a small stage with a fault.
+pub fn sample_meets_premises()
+    ensures { SampleMeetsPremises }
 {}
