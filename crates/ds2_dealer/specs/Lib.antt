@@ -1,0 +1,5 @@
+pub mod Runs
+pub mod Stage
+pub mod Rule
+pub mod Seats
+pub mod Sums

@@ -1,0 +1,41 @@
+-- What the calls on tickets and their seats give.
+use Rattle.std.specs.Prelude.{◌≡◌, ℕ, ◌+◌, ◌-◌, ◌*◌, ◌≤◌, List, [], min, if◌then◌else◌, nat_lt}
+use Rattle.ds2_dealer.specs.declared.rule.SeatView.{SeatView}
+use Rattle.ds2_dealer.specs.declared.tickets.Tickets.{Tickets}
+use Rattle.ds2_dealer.specs.declared.tickets.TicketSeat.{TicketSeat}
+use Rattle.ds2_dealer.specs.declared.tickets.Draw.{Draw}
+use Rattle.ds2_dealer.specs.declared.tickets.Draw.TheVariants.{Run, NoMore}
+use Rattle.ds2_dealer.specs.Runs.{numbers_from, run_groups}
+use Rattle.ds2_dealer.specs.Rule.{shown, past, most_past, with_number, IsAbove, ShowsAll}
+
+-- What a seat shows.
+abbrev pub view_of : TicketSeat → SeatView
+view_of s = s.seat.me.0
+
+-- The seat is one of these tickets, and shows no more numbers past the last run than a seat may.
+pub record IsSeatOf (t : Tickets) (s : TicketSeat) : Type 0 where
+  pub table : s.seat.table_id ≡ t.table.shared.table_id
+  pub few_past : past t.runs (shown (view_of s)) ≤ most_past (view_of s)
+
+-- The draw gave a run.
+abbrev pub IsRun : Draw → Type 0
+IsRun (Run from to) = Unit {0}
+IsRun (NoMore d) = ⊥
+
+-- What number d gives: the groups of run d, or no more where d is past the last run.
+abbrev pub draw_of : Tickets → ℕ → Draw
+draw_of t d = if nat_lt d t.runs then Run (d * t.length) (min t.groups ((d + 1) * t.length)) else NoMore d
+
+-- The groups that a draw gives.
+abbrev pub groups_drawn : Draw → List ℕ
+groups_drawn (Run from to) = numbers_from from (to - from)
+groups_drawn (NoMore d) = []
+
+-- One draw: a number above all that the seat showed, which is the next one where the seat shows all; the answer is what that number gives, the groups of its run.
+pub record HasDrawn (t : Tickets) (before after : SeatView) (answer : Draw) : Type 0 where
+  pub number : ℕ
+  pub shows : after ≡ with_number number before
+  pub above : IsAbove number before
+  pub all : ShowsAll number before
+  pub gives : answer ≡ draw_of t number
+  pub groups : groups_drawn answer ≡ run_groups t.groups t.length number

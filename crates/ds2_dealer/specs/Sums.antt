@@ -1,0 +1,28 @@
+-- The sums over the hand-ins of a stage, and its least fault.
+use Rattle.std.specs.Prelude.{◌≡◌, ℕ, ◌+◌, ◌≤◌, List, [], ◌∷◌, Bool, true, Option, Some, None, ◌&&◌, if◌then◌else◌, ◌==◌, nat_lt}
+use Rattle.std.specs.List.{list_any}
+use Rattle.ds2_dealer.specs.Stage.{HandIn, some_fault}
+
+-- The least faulting group after one more hand-in: its own group where it faulted and there was none or a greater one.
+abbrev pub lesser_fault : Option ℕ → ℕ → Bool → Option ℕ
+lesser_fault None g faulted = if faulted then Some g else None
+lesser_fault (Some f) g faulted = if faulted && nat_lt g f then Some g else Some f
+
+-- The least faulting group after several hand-ins, in the order in which they came.
+abbrev pub least_fault : Option ℕ → List HandIn → Option ℕ
+least_fault before [] = before
+least_fault before (e ∷ es) = least_fault (lesser_fault before e.group e.faulted) es
+
+-- No group that faulted is below f.
+abbrev pub NoFaultBelow : ℕ → List HandIn → Type 0
+NoFaultBelow f [] = Unit {0}
+NoFaultBelow f (e ∷ es) = (e.faulted ≡ true → f ≤ e.group) × NoFaultBelow f es
+
+-- Whether group g was handed in with a fault.
+abbrev pub has_fault_at : ℕ → List HandIn → Bool
+has_fault_at g handed = list_any (λ (e : HandIn). e.faulted && e.group == g) handed
+
+-- Whatever the order of the hand-ins, the answer is a group that faulted and none below it did; it is None only where none did.
+abbrev pub FaultIsLeast : Type 0
+FaultIsLeast = (es : List HandIn) →
+    ((f : ℕ) → least_fault None es ≡ Some f → NoFaultBelow f es × (has_fault_at f es ≡ true)) × (least_fault None es ≡ None → some_fault es ≡ true → ⊥)
