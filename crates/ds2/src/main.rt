@@ -1,45 +1,9 @@
 //! The command `ds2`: the top call over the files of the current folder and standard output.
 #![tactic(auto)]
 
-use ds2_base::{OutOfMemory, Text};
-use ds2_outside::{FolderStore, NoGate, StdSink};
-use ds2_top::{Status, ds2};
-use std::env;
-use std::io::ErrorKind;
+use ds2_main::run;
 use std::process::ExitCode;
-use std::rt::Env;
-
-// The words after the program's name. Words that can't be read as text are a faulty command line,
-// and none is handed on.
-fn words(rt: &(impl Env + AllocGlobal)) -> Result<Vec<Text>, OutOfMemory> {
-    let alloc = rt.alloc();
-    let mut words = Vec::new(alloc);
-    let all = match env::args(rt) {
-        Ok(all) => all,
-        Err(error) if error.kind() == ErrorKind::OutOfMemory => return Err(OutOfMemory),
-        Err(_) => return Ok(words),
-    };
-    for word in all.skip(1) {
-        words.push(Text::from_string(word))?;
-    }
-    Ok(words)
-}
 
 fn main(rt: HostRuntime) -> ExitCode {
-    let status = match words(&rt) {
-        Err(OutOfMemory) => Status::Memory,
-        Ok(words) => {
-            let mut store = FolderStore::here(&rt);
-            let mut log = StdSink::new(&rt);
-            ds2(
-                &rt,
-                rt.alloc(),
-                words.as_slice(),
-                &mut store,
-                &mut log,
-                &NoGate,
-            )
-        }
-    };
-    ExitCode::from(status.code())
+    ExitCode::from(run(&rt).code())
 }

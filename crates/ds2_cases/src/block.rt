@@ -1,0 +1,179 @@
+//! A block of a file of cases: a case, or what is given for the cases that follow.
+
+use crate::contents::{CaseFile, Piece};
+use crate::escape::unescape_text;
+use crate::mistake::Mistake;
+use ds2_base::{Stop, Text};
+use std::alloc::Global;
+
+/// The command, the files and the calls that fail.
+#[derive(Drop)]
+pub(crate) struct Setting {
+    /// The words after the program's name, where a line tells them.
+    pub(crate) words: Option<Vec<Text>>,
+    pub(crate) files: Vec<CaseFile>,
+    /// The names of given files that are not there.
+    pub(crate) without: Vec<Text>,
+    /// The calls of the store and of the log that fail, counted from 1.
+    pub(crate) failing: Vec<u64>,
+    pub(crate) failing_logs: Vec<u64>,
+    /// Whether the answer tells the calls of the store.
+    pub(crate) shows_calls: bool,
+    /// Whether the command runs by the call without threads alone.
+    pub(crate) is_alone: bool,
+}
+
+/// A case with its title, or what is given for the cases that follow, where there is no title.
+#[derive(Drop)]
+pub(crate) struct Block {
+    pub(crate) title: Option<Text>,
+    pub(crate) setting: Setting,
+}
+
+// The words of a line, one blank between them.
+fn words_of(alloc: Global, line: &str) -> Result<Vec<Text>, Stop<Mistake>> {
+    let mut words = Vec::new(alloc);
+    if line.is_empty() {
+        return Ok(words);
+    }
+    for word in line.split(' ') {
+        if word.is_empty() {
+            return Err(Stop::Refused(Mistake::EmptyWord));
+        }
+        words.push(unescape_text(alloc, word)?)?;
+    }
+    Ok(words)
+}
+
+// The name that a line tells.
+fn name_of(alloc: Global, line: &str) -> Result<Text, Stop<Mistake>> {
+    if line.is_empty() {
+        return Err(Stop::Refused(Mistake::Missing));
+    }
+    unescape_text(alloc, line)
+}
+
+// The numbers of calls that a line tells.
+fn calls_of(alloc: Global, line: &str) -> Result<Vec<u64>, Stop<Mistake>> {
+    let mut calls = Vec::new(alloc);
+    for word in line.split(' ') {
+        match word.parse::<u64>() {
+            Ok(call) if call > 0 => calls.push(call)?,
+            Ok(_) => return Err(Stop::Refused(Mistake::BadFail)),
+            Err(_) => return Err(Stop::Refused(Mistake::BadFail)),
+        }
+    }
+    Ok(calls)
+}
+
+// A text and how often it is repeated.
+fn repeat_of(alloc: Global, line: &str) -> Result<Piece, Stop<Mistake>> {
+    let Some((times, text)) = line.split_once(' ') else {
+        return Err(Stop::Refused(Mistake::BadRepeat));
+    };
+    match times.parse::<u64>() {
+        Ok(times) => Piece::repeated(alloc, times, text),
+        Err(_) => Err(Stop::Refused(Mistake::BadRepeat)),
+    }
+}
+
+impl Setting {
+    fn new(alloc: Global) -> Setting {
+        Setting {
+            words: None,
+            files: Vec::new(alloc),
+            without: Vec::new(alloc),
+            failing: Vec::new(alloc),
+            failing_logs: Vec::new(alloc),
+            shows_calls: false,
+            is_alone: false,
+        }
+    }
+
+    fn add_file(&mut self, alloc: Global, line: &str) -> Result<(), Stop<Mistake>> {
+        let name = name_of(alloc, line)?;
+        let pieces = Vec::new(alloc);
+        self.files.push(CaseFile { name, pieces })?;
+        Ok(())
+    }
+
+    // Adds a piece to the file that was named last.
+    fn add_piece(&mut self, piece: Piece) -> Result<(), Stop<Mistake>> {
+        match self.files.last_mut() {
+            Some(file) => {
+                file.pieces.push(piece)?;
+                Ok(())
+            }
+            None => Err(Stop::Refused(Mistake::NoFile)),
+        }
+    }
+
+    fn set_failing(&mut self, alloc: Global, line: &str) -> Result<(), Stop<Mistake>> {
+        let Some((which, numbers)) = line.split_once(' ') else {
+            return Err(Stop::Refused(Mistake::BadFail));
+        };
+        let calls = calls_of(alloc, numbers)?;
+        match which {
+            "store" => self.failing = calls,
+            "log" => self.failing_logs = calls,
+            _ => return Err(Stop::Refused(Mistake::BadFail)),
+        }
+        Ok(())
+    }
+
+    fn set_shown(&mut self, line: &str) -> Result<(), Stop<Mistake>> {
+        if line != "calls" {
+            return Err(Stop::Refused(Mistake::BadShow));
+        }
+        self.shows_calls = true;
+        Ok(())
+    }
+
+    // Adds a line on a file's contents.
+    fn add_contents(&mut self, alloc: Global, word: &str, rest: &str) -> Result<(), Stop<Mistake>> {
+        let piece = match word {
+            "|" => Piece::line(alloc, rest)?,
+            "+" => Piece::repeated(alloc, 1, rest)?,
+            "repeat" => repeat_of(alloc, rest)?,
+            _ => return Err(Stop::Refused(Mistake::UnknownWord)),
+        };
+        self.add_piece(piece)
+    }
+
+    /// Takes a line: its first word, and what stands behind the blank after it.
+    pub(crate) fn add_line(
+        &mut self,
+        alloc: Global,
+        word: &str,
+        rest: &str,
+    ) -> Result<(), Stop<Mistake>> {
+        match word {
+            "words" => self.words = Some(words_of(alloc, rest)?),
+            "file" => self.add_file(alloc, rest)?,
+            "without" => self.without.push(name_of(alloc, rest)?)?,
+            "fail" => self.set_failing(alloc, rest)?,
+            "show" => self.set_shown(rest)?,
+            "alone" => self.is_alone = true,
+            _ => self.add_contents(alloc, word, rest)?,
+        }
+        Ok(())
+    }
+}
+
+impl Block {
+    /// What is given, so far nothing.
+    pub(crate) fn given(alloc: Global) -> Block {
+        Block {
+            title: None,
+            setting: Setting::new(alloc),
+        }
+    }
+
+    /// A case with this title.
+    pub(crate) fn case(alloc: Global, title: &str) -> Result<Block, Stop<Mistake>> {
+        Ok(Block {
+            title: Some(name_of(alloc, title)?),
+            setting: Setting::new(alloc),
+        })
+    }
+}

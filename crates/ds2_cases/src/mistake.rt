@@ -1,0 +1,48 @@
+//! What can be wrong with a file of cases.
+
+use ds2_base::Stop;
+use thiserror::Error;
+
+/// Why a line of cases can't be read.
+#[derive(Clone, Copy, Debug, PartialEq, Eq, Error)]
+pub enum Mistake {
+    #[error("a line begins with case, given, words, file, without, fail, show, alone, |, +, repeat or #")]
+    UnknownWord,
+    #[error("a title, a name or a word is missing")]
+    Missing,
+    #[error("one blank stands between words, and `\\e` for a word without a character")]
+    EmptyWord,
+    #[error("text belongs to a file: a line `file NAME` stands before it")]
+    NoFile,
+    #[error("behind `\\` stands one of `\\ n r t s e i`, or `x` and two hexadecimal digits")]
+    BadEscape,
+    #[error("`repeat` is followed by how often, in digits, and the text")]
+    BadRepeat,
+    #[error("`fail` is followed by `store` or `log` and the numbers of the calls that fail, from 1")]
+    BadFail,
+    #[error("`calls` is all that can be shown beside the answer")]
+    BadShow,
+    #[error("a title, a name and a word are UTF-8")]
+    NotUtf8,
+}
+
+/// Why cases can't be read or run.
+#[derive(Debug, Drop, Error)]
+pub enum CaseError {
+    #[error("line {line} of the cases: {mistake}")]
+    Line { line: usize, mistake: Mistake },
+    #[error("a text that is repeated: {0}")]
+    Repeated(Mistake),
+    #[error("there was no memory")]
+    OutOfMemory,
+}
+
+impl CaseError {
+    /// The error of a line.
+    pub fn of_line(line: usize, stop: Stop<Mistake>) -> CaseError {
+        match stop {
+            Stop::Refused(mistake) => CaseError::Line { line, mistake },
+            Stop::OutOfMemory => CaseError::OutOfMemory,
+        }
+    }
+}

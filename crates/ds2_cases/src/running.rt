@@ -1,0 +1,270 @@
+//! A case run by the top call, and its answer.
+
+use crate::block::Setting;
+use crate::contents::{CaseFile, contents};
+use crate::mistake::{CaseError, Mistake};
+use crate::telling::{add_contents, add_named};
+use crate::watched::{Asked, Call, Watched};
+use ds2_base::{Bytes, List, OutOfMemory, Stop, Text};
+use ds2_outside::{MemSink, MemStore, NoGate};
+use ds2_top::{Status, ds2, ds2_alone};
+use std::alloc::{AllocError, Global};
+use std::sync::Wait;
+use std::thread::Threads;
+
+/// A case: what is given, and what is its own.
+#[derive(Clone, Copy)]
+pub(crate) struct Case<'a> {
+    pub(crate) given: &'a Setting,
+    pub(crate) own: &'a Setting,
+}
+
+fn words_of<'a>(case: Case<'a>) -> &'a [Text] {
+    if let Some(words) = &case.own.words {
+        return words.as_slice();
+    }
+    match &case.given.words {
+        Some(words) => words.as_slice(),
+        None => &[],
+    }
+}
+
+// The case's own numbers, or the given ones where it has none.
+fn own_or_given(alloc: Global, own: &[u64], given: &[u64]) -> Result<List<u64>, OutOfMemory> {
+    if own.is_empty() {
+        return List::from_slice(alloc, given);
+    }
+    List::from_slice(alloc, own)
+}
+
+fn is_named(names: &[Text], name: &Text) -> bool {
+    names.iter().any(|other| *other == *name)
+}
+
+// Puts files into a store, but for those of these names.
+fn put_files(
+    alloc: Global,
+    files: &[CaseFile],
+    without: &[Text],
+    store: &mut MemStore,
+) -> Result<(), Stop<Mistake>> {
+    for file in files {
+        if !is_named(without, &file.name) {
+            let bytes = contents(alloc, file.pieces.as_slice())?;
+            store.put(alloc, &file.name, bytes)?;
+        }
+    }
+    Ok(())
+}
+
+// The store of a case.
+fn store_of(alloc: Global, case: Case) -> Result<MemStore, Stop<Mistake>> {
+    let mut store = MemStore::new(alloc);
+    put_files(
+        alloc,
+        case.given.files.as_slice(),
+        case.own.without.as_slice(),
+        &mut store,
+    )?;
+    put_files(alloc, case.own.files.as_slice(), &[], &mut store)?;
+    store.fail_at(own_or_given(
+        alloc,
+        case.own.failing.as_slice(),
+        case.given.failing.as_slice(),
+    )?);
+    Ok(store)
+}
+
+fn log_of(alloc: Global, case: Case) -> Result<MemSink, OutOfMemory> {
+    let mut log = MemSink::new(alloc);
+    log.fail_at(own_or_given(
+        alloc,
+        case.own.failing_logs.as_slice(),
+        case.given.failing_logs.as_slice(),
+    )?);
+    Ok(log)
+}
+
+// Whether two stores have the same file of a name, or both none.
+fn is_unchanged(before: &MemStore, after: &MemStore, name: &Text) -> bool {
+    match (before.file(name), after.file(name)) {
+        (None, None) => true,
+        (Some(before), Some(after)) => before.as_slice() == after.as_slice(),
+        _ => false,
+    }
+}
+
+// Whether one of these calls is a write of this file.
+fn is_written(calls: &[Call], name: &Text) -> bool {
+    calls
+        .iter()
+        .any(|call| call.asked == Asked::Write && call.name == *name)
+}
+
+// Adds a file that the command has made or changed.
+fn add_file(
+    alloc: Global,
+    name: &Text,
+    before: &MemStore,
+    after: &MemStore,
+    out: &mut String,
+) -> Result<(), AllocError> {
+    if is_unchanged(before, after, name) {
+        return Ok(());
+    }
+    add_named(alloc, "file", name.as_str(), out)?;
+    match after.file(name) {
+        Some(bytes) => add_contents(alloc, bytes.as_slice(), out),
+        None => out.push_str("is gone\n"),
+    }
+}
+
+// Adds the files that writes have made or changed, in the order of their first writes.
+fn add_written(
+    alloc: Global,
+    calls: &[Call],
+    before: &MemStore,
+    after: &MemStore,
+    out: &mut String,
+) -> Result<(), AllocError> {
+    for (index, call) in calls.iter().enumerate() {
+        if call.asked == Asked::Write && !is_written(&calls[..index], &call.name) {
+            add_file(alloc, &call.name, before, after, out)?;
+        }
+    }
+    Ok(())
+}
+
+// Adds those of these files that were changed without a write.
+fn add_others(
+    alloc: Global,
+    files: &[CaseFile],
+    calls: &[Call],
+    before: &MemStore,
+    after: &MemStore,
+    out: &mut String,
+) -> Result<(), AllocError> {
+    for file in files {
+        if !is_written(calls, &file.name) {
+            add_file(alloc, &file.name, before, after, out)?;
+        }
+    }
+    Ok(())
+}
+
+fn asked_text(asked: Asked) -> &'static str {
+    match asked {
+        Asked::Read => "read",
+        Asked::Has => "has",
+        Asked::Write => "write",
+    }
+}
+
+// Adds the calls of the store, each on a line.
+fn add_calls(alloc: Global, calls: &[Call], out: &mut String) -> Result<(), AllocError> {
+    for call in calls {
+        out.push_str("call ")?;
+        add_named(alloc, asked_text(call.asked), call.name.as_str(), out)?;
+    }
+    Ok(())
+}
+
+// What a command has left.
+#[derive(Drop)]
+struct Left {
+    status: Status,
+    store: Watched<MemStore>,
+    log: MemSink,
+}
+
+// The text of what a command has left of a case.
+fn told(alloc: Global, case: Case, left: &Left) -> Result<String, Stop<Mistake>> {
+    let mut out = String::new(alloc);
+    let code = left.status.code();
+    writeln!(out, "status {code}")?;
+    let calls = left.store.calls.as_slice();
+    if case.own.shows_calls || case.given.shows_calls {
+        add_calls(alloc, calls, &mut out)?;
+    }
+    if !left.log.written().is_empty() {
+        out.push_str("log\n")?;
+        add_contents(alloc, left.log.written().as_slice(), &mut out)?;
+    }
+    let before = store_of(alloc, case)?;
+    let after = &left.store.store;
+    add_written(alloc, calls, &before, after, &mut out)?;
+    add_others(
+        alloc,
+        case.given.files.as_slice(),
+        calls,
+        &before,
+        after,
+        &mut out,
+    )?;
+    add_others(
+        alloc,
+        case.own.files.as_slice(),
+        calls,
+        &before,
+        after,
+        &mut out,
+    )?;
+    Ok(out)
+}
+
+fn run_alone(alloc: Global, case: Case) -> Result<Left, Stop<Mistake>> {
+    let mut store = Watched::new(alloc, store_of(alloc, case)?);
+    let mut log = log_of(alloc, case)?;
+    let status = ds2_alone(alloc, words_of(case), &mut store, &mut log);
+    Ok(Left { status, store, log })
+}
+
+fn run_threaded(
+    rt: &(impl Threads + Wait + Sync),
+    alloc: Global,
+    case: Case,
+) -> Result<Left, Stop<Mistake>> {
+    let mut store = Watched::new(alloc, store_of(alloc, case)?);
+    let mut log = log_of(alloc, case)?;
+    let status = ds2(rt, alloc, words_of(case), &mut store, &mut log, &NoGate);
+    Ok(Left { status, store, log })
+}
+
+// The text of what a command has left, where all its calls were noted.
+fn answer_of(alloc: Global, case: Case, left: Left) -> Result<String, Stop<Mistake>> {
+    if left.store.lacks_calls {
+        return Err(Stop::OutOfMemory);
+    }
+    told(alloc, case, &left)
+}
+
+// The answer by the call without threads, and the other one where it differs.
+fn both_answers(
+    rt: &(impl Threads + Wait + Sync),
+    alloc: Global,
+    case: Case,
+) -> Result<String, Stop<Mistake>> {
+    let mut answer = answer_of(alloc, case, run_alone(alloc, case)?)?;
+    if case.own.is_alone || case.given.is_alone {
+        return Ok(answer);
+    }
+    let other = answer_of(alloc, case, run_threaded(rt, alloc, case)?)?;
+    if answer.as_str() != other.as_str() {
+        answer.push_str("and by the call with threads\n")?;
+        answer.push_str(other.as_str())?;
+    }
+    Ok(answer)
+}
+
+/// The answer to a case: status, calls where they are to be shown, log, and the files that were made or changed.
+pub(crate) fn answer(
+    rt: &(impl Threads + Wait + Sync),
+    alloc: Global,
+    case: Case,
+) -> Result<String, CaseError> {
+    match both_answers(rt, alloc, case) {
+        Ok(answer) => Ok(answer),
+        Err(Stop::Refused(mistake)) => Err(CaseError::Repeated(mistake)),
+        Err(Stop::OutOfMemory) => Err(CaseError::OutOfMemory),
+    }
+}
