@@ -10,13 +10,13 @@ abbrev pub start_place : Place
 start_place = record { line = 1; column = 1 }
 
 -- one more, as far as a count goes
-abbrev pub next_count : ℕ → ℕ
-next_count n = min (n + 1) (2 ^ 32 - 1)
+abbrev pub next_number : ℕ → ℕ
+next_number n = min (n + 1) (2 ^ 32 - 1)
 
 -- the place directly after a character: a line feed ends the line
 abbrev pub place_after : Place → ℕ → Place
 place_after p c =
-    if c == 10 then record { line = next_count p.line; column = 1 } else record { line = p.line; column = next_count p.column }
+    if c == 10 then record { line = next_number p.line; column = 1 } else record { line = p.line; column = next_number p.column }
 
 -- the place directly after these characters, which begin at a place
 abbrev pub place_past : Place → Chars → Place

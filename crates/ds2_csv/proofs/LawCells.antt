@@ -13,10 +13,10 @@ use Rattle.std.proofs.lemmas.List.{append-nil}
 use Rattle.std.proofs.lemmas.Str.{IsUtf8-append, IsUtf8-nil}
 use Rattle.ds2_base.specs.Characters.{char_count}
 use Rattle.ds2_decimal.specs.Arithmetic.{rescale, within}
-use Rattle.ds2_decimal.specs.Decimal.{Decimal, IsValid, is_within, units_at}
+use Rattle.ds2_decimal.specs.Decimal.{Decimal, IsDecimal, is_within, units_at}
 use Rattle.ds2_decimal.specs.Rounding.{round}
 use Rattle.ds2_decimal.specs.Laws.{ReadsWritten as ReadsDecimal}
-use Rattle.ds2_decimal.specs.Text.{read, written}
+use Rattle.ds2_decimal.specs.Text.{read, decimal_text}
 use Rattle.ds2_decimal.specs.declared.dec.DecFault.{DecFault}
 use Rattle.ds2_decimal.specs.declared.dec.DecFault.TheVariants.{Overflow}
 use Rattle.ds2_value.specs.Keeping.{IsHeld}
@@ -139,11 +139,11 @@ in-own-scale p d e =
     ∙ ap (λ (u : ℤ). option_map (λ x. Dec x) (result_ok (within p u d.scale))) (units-same d)
     ∙ ap (λ b. option_map (λ x. Dec x) (result_ok (if b then kept else Err Overflow))) e
 
-decimal-read : (law : ReadsDecimal) (p s : ℕ) (d : Decimal) → IsValid d → (d.scale == s) ≡ true → is_within p d.units ≡ true → value_of (DecimalOf p s) (written d) ≡ Some (Dec d)
+decimal-read : (law : ReadsDecimal) (p s : ℕ) (d : Decimal) → IsDecimal d → (d.scale == s) ≡ true → is_within p d.units ≡ true → value_of (DecimalOf p s) (decimal_text d) ≡ Some (Dec d)
 unfolding value_of
 decimal-read law p s d valid e f =
-    let spelt : read (written d) ≡ Some d = law d valid in
-    ap (λ b. if b then Some Null else option_and_then (decimal_in p s) (read (written d))) (given (written d) d spelt)
+    let spelt : read (decimal_text d) ≡ Some d = law d valid in
+    ap (λ b. if b then Some Null else option_and_then (decimal_in p s) (read (decimal_text d))) (given (decimal_text d) d spelt)
     ∙ ap (λ (o : Option Decimal). option_and_then (decimal_in p s) o) spelt
     ∙ ap (λ (k : ℕ). decimal_in p k d) (sym (eqb-true d.scale s e))
     ∙ in-own-scale p d f
@@ -197,5 +197,5 @@ pub cell-text : (ty : Ty) (v : Value) → IsHeld v → IsUtf8 (cell_text ty v)
 unfolding cell_text
 cell-text ty Null held = null-text ty
 cell-text ty (Int i) held = signed-text i held
-cell-text ty (Dec d) held = ascii-text (written d) (written-ascii d held)
+cell-text ty (Dec d) held = ascii-text (decimal_text d) (written-ascii d held)
 cell-text ty (Txt t) held = escaped-text t held

@@ -11,11 +11,11 @@ use Rattle.std.proofs.lemmas.Fmt.{decimal_digit, decimal_step_wide}
 use Rattle.std.proofs.lemmas.List.{replicate-append-replicate}
 use Rattle.std.proofs.lemmas.List.Folds.{list_all-append}
 use Rattle.std.proofs.lemmas.Nat.{div-add-mod', div-mul-add, mod-mul-add, mod_below}
-use Rattle.ds2_decimal.specs.Decimal.{Decimal, IsValid}
-use Rattle.ds2_decimal.specs.Text.{last_digits, written, written_magnitude}
+use Rattle.ds2_decimal.specs.Decimal.{Decimal, IsDecimal}
+use Rattle.ds2_decimal.specs.Text.{last_digits, decimal_text, written_magnitude}
 use Rattle.ds2_csv.proofs.LawNumbers.{spells, ascii-digits}
 
-small-units : (d : Decimal) → IsValid d → unsigned_abs d.units < 10 ^ 64
+small-units : (d : Decimal) → IsDecimal d → unsigned_abs d.units < 10 ^ 64
 small-units d valid = let h = ltb-true (unsigned_abs d.units) (10 ^ 38) valid.digits in omega arith
 
 -- it is ASCII
@@ -41,7 +41,7 @@ magnitude-ascii m s small = by (s == 0)
         list_all-append (λ c. nat_lt c 128) (decimal (m / 10 ^ s)) (46 ∷ last_digits s m)
         ∙ and_from (list_all (λ c. nat_lt c 128) (decimal (m / 10 ^ s))) (list_all (λ c. nat_lt c 128) (46 ∷ last_digits s m)) (whole (m / 10 ^ s) (omega arith)) (last-ascii s m)
 
-pub written-ascii : (d : Decimal) → IsValid d → list_all (λ c. nat_lt c 128) (written d) ≡ true
+pub written-ascii : (d : Decimal) → IsDecimal d → list_all (λ c. nat_lt c 128) (decimal_text d) ≡ true
 written-ascii d valid = by (int_lt d.units (pos 0))
   where
     by : (b : Bool) → list_all (λ c. nat_lt c 128) ((if b then 45 ∷ [] else []) ++ written_magnitude (unsigned_abs d.units) d.scale) ≡ true

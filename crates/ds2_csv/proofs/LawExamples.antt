@@ -29,7 +29,7 @@ texts = record {
 }
 
 texts-writable : IsWritable texts
-unfolding texts text text_of_rows type_text cell_text cells_text digits escaped fields_text is_blank chars encode
+unfolding texts text text_of_rows type_text cell_text cells_text digits escaped fields_text is_blank chars encode is_utf8
 texts-writable = record {
   names = ((refl, (codes "a bigint", (refl, refl))), tt);
   schema = refl;

@@ -7,7 +7,7 @@ use Rattle.std.proofs.lemmas.Bool.{and_parts, and_from, or_from, or_parts, not-t
 use Rattle.std.proofs.lemmas.Cmp.{nat_list_eq_equiv}
 use Rattle.std.proofs.lemmas.List.{append-nil}
 use Rattle.std.proofs.lemmas.List.Folds.{list_any-append}
-use Rattle.ds2_value.specs.Schema.{has_name, distinct_names, types_in_bounds}
+use Rattle.ds2_value.specs.Schema.{has_column, distinct_names, types_in_bounds}
 use Rattle.ds2_value.specs.Types.{in_bounds}
 use Rattle.ds2_value.specs.declared.schema.Column.{Column}
 use Rattle.ds2_csv.specs.Columns.{columns_from}
@@ -30,11 +30,11 @@ heading c = record { name = c.name; ty = Some c.ty }
 abbrev are_free : List Heading → List Column → Bool
 are_free before columns = list_all (λ c. not (is_taken c.name before)) columns
 
-free-more : (before : List Heading) (c : Column) (cs : List Column) → are_free before cs ≡ true → has_name c.name cs ≡ false → are_free (before ++ (heading c ∷ [])) cs ≡ true
+free-more : (before : List Heading) (c : Column) (cs : List Column) → are_free before cs ≡ true → has_column c.name cs ≡ false → are_free (before ++ (heading c ∷ [])) cs ≡ true
 free-more before c [] free apart = refl
 free-more before c (d ∷ ds) free apart =
     let f = and_parts (not (is_taken d.name before)) (are_free before ds) free in
-    let a = or_parts (pointwise nat_eq d.name c.name) (has_name c.name ds) apart in
+    let a = or_parts (pointwise nat_eq d.name c.name) (has_column c.name ds) apart in
     let other : pointwise nat_eq c.name d.name ≡ false = nat_list_eq_equiv.symm c.name d.name ∙ a.0 in
     let new : is_taken d.name (before ++ (heading c ∷ [])) ≡ false =
     list_any-append (λ h. pointwise nat_eq h.name d.name) before (heading c ∷ [])
@@ -47,12 +47,12 @@ unfolding headings_after
 headings-more before [] named bounds apart free = ap (λ (t : List Heading). Ok t) (sym (append-nil before))
 headings-more before (c ∷ cs) named bounds apart free =
     let b = and_parts (in_bounds c.ty) (types_in_bounds cs) bounds in
-    let a = and_parts (not (has_name c.name cs)) (distinct_names cs) apart in
+    let a = and_parts (not (has_column c.name cs)) (distinct_names cs) apart in
     let f = and_parts (not (is_taken c.name before)) (are_free before cs) free in
     let rest : List Heading → Result (List Heading) CsvRefusal = λ more. headings_after more (map heading_text cs) in
     ap (λ (r : Result Heading CsvKind). and_headings rest before (distinct_heading before (length before + 1) r)) (heading-read c named.0 b.0)
     ∙ ap (λ t. and_headings rest before (if t then Err (of_column DuplicateColumn (length before + 1)) else Ok (heading c))) (not-true (is_taken c.name before) f.0)
-    ∙ headings-more (before ++ (heading c ∷ [])) cs named.1 b.1 a.1 (free-more before c cs f.1 (not-true (has_name c.name cs) a.0))
+    ∙ headings-more (before ++ (heading c ∷ [])) cs named.1 b.1 a.1 (free-more before c cs f.1 (not-true (has_column c.name cs) a.0))
     ∙ ap (λ (t : List Heading). Ok t) (append_assoc before (heading c ∷ []) (map heading cs))
 
 all-free : (cs : List Column) → are_free [] cs ≡ true

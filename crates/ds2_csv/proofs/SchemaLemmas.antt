@@ -10,7 +10,7 @@ use Rattle.std.proofs.lemmas.List.Folds.{list_all-append}
 use Rattle.ds2_base.specs.Name.{name_of}
 use Rattle.ds2_base.specs.declared.name.BadName.{BadName}
 use Rattle.ds2_decimal.specs.Text.{read}
-use Rattle.ds2_value.specs.Schema.{has_name, distinct_names, types_in_bounds, is_schema}
+use Rattle.ds2_value.specs.Schema.{has_column, distinct_names, types_in_bounds, is_schema}
 use Rattle.ds2_value.specs.Types.{in_bounds, is_from_one}
 use Rattle.ds2_value.specs.declared.schema.Column.{Column}
 use Rattle.ds2_value.specs.declared.ty.Ty.{Ty}
@@ -85,7 +85,7 @@ distinct : List Heading → Bool
 distinct [] = true
 distinct (h ∷ hs) = not (is_taken h.name hs) && distinct hs
 
-columns-name : (name : List ℕ) (column : ℕ) (hs : List Heading) (rows : Rows) → has_name name (columns_from column hs rows) ≡ is_taken name hs
+columns-name : (name : List ℕ) (column : ℕ) (hs : List Heading) (rows : Rows) → has_column name (columns_from column hs rows) ≡ is_taken name hs
 unfolding columns_from
 columns-name name column [] rows = refl
 columns-name name column (h ∷ hs) rows = ap (λ b. pointwise nat_eq h.name name || b) (columns-name name (column + 1) hs rows)

@@ -1,7 +1,7 @@
 -- Text: the bytes of a table.
 use Rattle.std.specs.Prelude.{ℕ, ◌==◌, List, [], ◌∷◌, ◌++◌, map, codes, if◌then◌else◌}
 use Rattle.std.specs.Fmt.{decimal, signed_decimal}
-use Rattle.ds2_decimal.specs.Text.{written}
+use Rattle.ds2_decimal.specs.Text.{decimal_text}
 use Rattle.ds2_table.specs.Table.{Contents}
 use Rattle.ds2_value.specs.declared.schema.Column.{Column}
 use Rattle.ds2_value.specs.declared.ty.Ty.{Ty}
@@ -37,7 +37,7 @@ escaped (c ∷ cs) = if c == 92 then 92 ∷ c ∷ cs else c ∷ cs
 unfoldable pub cell_text : Ty → Value → List ℕ
 cell_text ty Null = null_text ty
 cell_text ty (Int i) = signed_decimal i
-cell_text ty (Dec d) = written d
+cell_text ty (Dec d) = decimal_text d
 cell_text ty (Txt t) = escaped t
 
 -- the cells of a row under its columns

@@ -15,7 +15,7 @@ use Rattle.std.proofs.lemmas.List.Folds.{list_all-append}
 use Rattle.std.proofs.lemmas.Fmt.{decimal_by_steps_wide, decimal_is_IsNumeral_wide}
 use Rattle.ds2_decimal.specs.Decimal.{Decimal}
 use Rattle.ds2_decimal.specs.Arithmetic.{new, neg}
-use Rattle.ds2_decimal.specs.Text.{is_point, are_digits, is_whole, of_digits, of_parts, read_unsigned, read, last_digits, written_magnitude, written}
+use Rattle.ds2_decimal.specs.Text.{is_point, are_digits, is_whole, of_digits, of_parts, read_unsigned, read, last_digits, written_magnitude, decimal_text}
 use Rattle.ds2_decimal.specs.Laws.{ReadsWritten}
 use Rattle.ds2_decimal.proofs.TenPowers.{pow-ten_pos}
 use Rattle.ds2_decimal.proofs.QuotientLemmas.{rest_from}
@@ -235,7 +235,7 @@ read_magnitude n (suc k) small scale =
       behind = ap read_unsigned shown ∙ parts;
     }
 
-read_signed : (z : ℤ) (s : ℕ) → unsigned_abs z < 10 ^ 38 → s ≤ 38 → read (written (record { units = z; scale = s })) ≡ Some (record { units = z; scale = s })
+read_signed : (z : ℤ) (s : ℕ) → unsigned_abs z < 10 ^ 38 → s ≤ 38 → read (decimal_text (record { units = z; scale = s })) ≡ Some (record { units = z; scale = s })
 read_signed (pos n) s small scale =
     let no : ltb n 0 ≡ false = grind (arith, nat_tests) in
     let is = read_magnitude n s small scale in

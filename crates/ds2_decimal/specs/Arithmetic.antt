@@ -62,17 +62,19 @@ modulo a b = if is_zero b.units then Err DivideByZero else on_aligned int_rem a 
 abbrev pub rescale : ℕ → ℕ → Decimal → Result Decimal DecFault
 rescale p s d = within p (if nat_le d.scale s then units_at s d else round d.units (10 ^ (d.scale - s))) s
 
--- -d, |d|
+-- d with the other sign
 abbrev pub neg : Decimal → Decimal
 neg d = record { units = neg_ℤ d.units; scale = d.scale }
 
+-- d without its sign
 abbrev pub abs : Decimal → Decimal
 abs d = record { units = pos (unsigned_abs d.units); scale = d.scale }
 
--- d rounded down, and up, to a whole number
+-- d rounded down to a whole number
 abbrev pub floor : Decimal → Decimal
 floor d = record { units = round_down d.units (10 ^ d.scale); scale = 0 }
 
+-- d rounded up to a whole number
 abbrev pub ceil : Decimal → Decimal
 ceil d = record { units = round_up d.units (10 ^ d.scale); scale = 0 }
 

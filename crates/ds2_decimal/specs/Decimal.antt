@@ -16,7 +16,7 @@ abbrev pub digit_count : Decimal → ℕ
 digit_count d = length (decimal (unsigned_abs d.units))
 
 -- a decimal that a `Dec` holds: at most 38 digits, at most 38 of them after the point
-pub record IsValid (d : Decimal) : Type 0 where
+pub record IsDecimal (d : Decimal) : Type 0 where
   pub digits : IsTrue (is_within 38 d.units)
   pub scale_bound : d.scale ≤ 38
 

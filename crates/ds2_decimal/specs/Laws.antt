@@ -3,22 +3,24 @@ use Rattle.std.specs.Prelude.{◌≡◌, ℕ, ◌+◌, ◌*◌, ◌^◌, ◌<◌
 use Rattle.std.specs.Prelude.{Some, Ok}
 use Rattle.std.specs.declared.cmp.Ordering.TheVariants.{Less, Equal}
 use Rattle.std.specs.Cmp.{IsTotalOrder}
-use Rattle.ds2_decimal.specs.Decimal.{Decimal, IsValid, units_at}
+use Rattle.ds2_decimal.specs.Decimal.{Decimal, IsDecimal, units_at}
 use Rattle.ds2_decimal.specs.Rounding.{round}
 use Rattle.ds2_decimal.specs.Arithmetic.{mul, div, rescale, floor, ceil, compare}
-use Rattle.ds2_decimal.specs.Text.{read, written}
+use Rattle.ds2_decimal.specs.Text.{read, decimal_text}
 
 -- the order is total
 abbrev pub CompareIsTotal : Type 0
 CompareIsTotal = IsTotalOrder compare
 
--- a and b are one number, or a is the lesser: each brought to the other's scale beside its own
+-- a and b are one number: each brought to the other's scale beside its own
 abbrev pub IsSameNumber : Decimal → Decimal → Type 0
 IsSameNumber a b = a.units *ℤ pos (10 ^ b.scale) ≡ b.units *ℤ pos (10 ^ a.scale)
 
+-- a is the lesser number
 abbrev pub IsBelow : Decimal → Decimal → Type 0
 IsBelow a b = (a.units *ℤ pos (10 ^ b.scale)) <ℤ (b.units *ℤ pos (10 ^ a.scale))
 
+-- how two decimals stand is how their numbers stand
 pub record OrdersNumbers (a b : Decimal) : Type 0 where
   pub same : (compare a b ≡ Equal) ↔ IsSameNumber a b
   pub below : (compare a b ≡ Less) ↔ IsBelow a b
@@ -46,6 +48,7 @@ pub record IsFloor (d f : Decimal) : Type 0 where
   pub reached : (f.units *ℤ pos (10 ^ d.scale)) ≤ℤ d.units
   pub next : d.units <ℤ ((f.units +ℤ pos 1) *ℤ pos (10 ^ d.scale))
 
+-- rounding down gives the greatest whole number that is not above
 abbrev pub FloorIsGreatest : Type 0
 FloorIsGreatest = (d : Decimal) → IsFloor d (floor d)
 
@@ -55,6 +58,7 @@ pub record IsCeil (d c : Decimal) : Type 0 where
   pub reached : d.units ≤ℤ (c.units *ℤ pos (10 ^ d.scale))
   pub previous : ((c.units -ℤ pos 1) *ℤ pos (10 ^ d.scale)) <ℤ d.units
 
+-- rounding up gives the least whole number that is not below
 abbrev pub CeilIsLeast : Type 0
 CeilIsLeast = (d : Decimal) → IsCeil d (ceil d)
 
@@ -67,9 +71,10 @@ pub record IsNearQuotient (a b q : Decimal) : Type 0 where
   pub exact : 2 * unsigned_abs (units_at (q.scale + b.scale) a -ℤ q.units *ℤ b.units) ≤ unsigned_abs b.units
   pub product : (m : Decimal) → mul q b ≡ Ok m → 2 * unsigned_abs (units_at m.scale a -ℤ m.units) ≤ unsigned_abs b.units
 
+-- each quotient is near the exact one
 abbrev pub QuotientIsNear : Type 0
 QuotientIsNear = (a b q : Decimal) → div a b ≡ Ok q → IsNearQuotient a b q
 
 -- what is written is read back
 abbrev pub ReadsWritten : Type 0
-ReadsWritten = (d : Decimal) → IsValid d → read (written d) ≡ Some d
+ReadsWritten = (d : Decimal) → IsDecimal d → read (decimal_text d) ≡ Some d

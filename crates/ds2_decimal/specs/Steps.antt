@@ -6,9 +6,9 @@ use Rattle.ds2_decimal.specs.Rounding.{moved_sign, rounded_half_up, round}
 use Rattle.ds2_decimal.specs.Text.{are_digits}
 
 -- the number of magnitude n below 0, or not
-abbrev pub signed : Bool → ℕ → ℤ
-signed true n = neg_ℤ (pos n)
-signed false n = pos n
+abbrev pub signed_number : Bool → ℕ → ℤ
+signed_number true n = neg_ℤ (pos n)
+signed_number false n = pos n
 
 -- z * 10 ^ k, or none where that has more than 38 digits
 abbrev pub raised : ℤ → ℕ → Option ℤ
@@ -27,5 +27,5 @@ abbrev pub signed_quotient : ℤ → ℕ → ℤ → Option ℤ
 signed_quotient a k b = let q = round (moved_sign b a *ℤ pos (10 ^ k)) (unsigned_abs b) in if is_within 38 q then Some q else None
 
 -- the number that digits write behind those of n, or none where there is another character or that has more than 38 digits
-abbrev pub digits_after : ℕ → List ℕ → Option ℕ
-digits_after n ds = if are_digits ds && nat_lt (digits_value_after 10 n ds) (10 ^ 38) then Some (digits_value_after 10 n ds) else None
+abbrev pub digits_behind : ℕ → List ℕ → Option ℕ
+digits_behind n ds = if are_digits ds && nat_lt (digits_value_after 10 n ds) (10 ^ 38) then Some (digits_value_after 10 n ds) else None

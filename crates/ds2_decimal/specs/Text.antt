@@ -50,5 +50,5 @@ abbrev pub written_magnitude : ℕ → ℕ → List ℕ
 written_magnitude n s = if s == 0 then decimal n else decimal (n / 10 ^ s) ++ 46 ∷ last_digits s n
 
 -- the text of a decimal: '-' below 0, then its magnitude
-abbrev pub written : Decimal → List ℕ
-written d = (if int_lt d.units (pos 0) then 45 ∷ [] else []) ++ written_magnitude (unsigned_abs d.units) d.scale
+abbrev pub decimal_text : Decimal → List ℕ
+decimal_text d = (if int_lt d.units (pos 0) then 45 ∷ [] else []) ++ written_magnitude (unsigned_abs d.units) d.scale

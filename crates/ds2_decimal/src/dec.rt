@@ -2,7 +2,7 @@
 ghost use Rattle.std.specs.Prelude.{◌≡◌, ◌+◌, ◌^◌, ◌<◌, ◌≤◌, pos, ◌*ℤ◌, ◌+ℤ◌, unsigned_abs, int_rem, length, IsTrue};
 ghost use Rattle.std.specs.Ordering.{int_cmp};
 ghost use Rattle.std.specs.Fmt.{decimal};
-ghost use Rattle.ds2_decimal.specs.Decimal.{is_within, digit_count, IsValid};
+ghost use Rattle.ds2_decimal.specs.Decimal.{is_within, digit_count, IsDecimal};
 ghost use Rattle.ds2_decimal.specs.Arithmetic as spec;
 ghost use Rattle.ds2_decimal.specs.Text as text;
 

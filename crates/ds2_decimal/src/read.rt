@@ -1,7 +1,7 @@
 //! Decimals from text.
 ghost use Rattle.std.specs.Prelude.{◌≡◌, ◌^◌, ◌<◌, ◌++◌, length, IfSome};
 ghost use Rattle.std.specs.List.{position};
-ghost use Rattle.ds2_decimal.specs.Steps.{digits_after};
+ghost use Rattle.ds2_decimal.specs.Steps.{digits_behind};
 ghost use Rattle.ds2_decimal.specs.Text as spec;
 
 use crate::dec::Dec;
@@ -54,7 +54,7 @@ fn of_digits(whole: &[u8], fraction: &[u8]) -> Option<Dec>
 /// The number that both texts together write, or `None` where there is a byte that is no digit or that has more than 38
 /// digits.
 fn number(whole: &[u8], fraction: &[u8]) -> Option<u128>
-    ensures value { result ≡ digits_after 0 (whole.now ++ fraction.now) }
+    ensures value { result ≡ digits_behind 0 (whole.now ++ fraction.now) }
     ensures digits { IfSome result (λ units. units < 10 ^ 38) }
 {
     match more_digits(0, whole) {
@@ -85,7 +85,7 @@ fn are_digits(text: &[u8]) -> bool
 /// digits.
 fn more_digits(number: u128, digits: &[u8]) -> Option<u128>
     requires { number < 10 ^ 38 }
-    ensures value { result ≡ digits_after number digits.now }
+    ensures value { result ≡ digits_behind number digits.now }
     ensures digits { IfSome result (λ units. units < 10 ^ 38) }
 {
     let mut value = number;

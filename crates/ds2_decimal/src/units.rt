@@ -1,7 +1,7 @@
 //! Units as signed numbers of at most 38 digits: zeros behind, rounded division.
 ghost use Rattle.std.specs.Prelude.{◌≡◌, ◌/◌, ◌%◌, ◌^◌, ◌<◌, ◌≤◌, unsigned_abs, int_rem};
 ghost use Rattle.ds2_decimal.specs.Rounding.{rounded_half_up, round, round_down};
-ghost use Rattle.ds2_decimal.specs.Steps.{raised, signed};
+ghost use Rattle.ds2_decimal.specs.Steps.{raised, signed_number};
 
 use crate::powers::power_of_ten;
 
@@ -23,7 +23,7 @@ pub(crate) fn raise(units: i128, zeros: u8) -> Option<i128>
 #[inline]
 pub(crate) fn with_sign(negative: bool, magnitude: u128) -> i128
     requires { magnitude < 2 ^ 127 }
-    ensures { result ≡ signed negative magnitude }
+    ensures { result ≡ signed_number negative magnitude }
 {
     let units = magnitude as i128;
     if negative { -units } else { units }

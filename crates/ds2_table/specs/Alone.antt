@@ -1,9 +1,9 @@
 -- The one-thread answer of a program: its units one after the other, whatever the units run on.
-use Rattle.std.specs.Prelude.{◌≡◌, ℕ, ◌+◌, List, [], ◌∷◌, ◌++◌, map}
-use Rattle.ds2_value.specs.declared.value.Value.{Value}
+use Rattle.std.specs.Prelude.{◌≡◌, ℕ, ◌+◌, List, [], ◌∷◌, ◌++◌}
 use Rattle.ds2_value.specs.declared.fault.Fault.{Fault}
 use Rattle.ds2_value.specs.declared.fault.Ending.{Ending}
 use Rattle.ds2_value.specs.declared.fault.Ending.TheVariants.{Normal, Faulted}
+use Rattle.ds2_value.specs.Row.{Row}
 use Rattle.ds2_value.specs.Run.{Rest, Outcome, Done, Stopped, Written}
 
 -- what a program leaves: the rows that it wrote, how it ended, and what each of its units left of the budget
@@ -30,18 +30,18 @@ after_unit (Done variables rest) go = then_end rest (go variables)
 after_unit (Stopped fault rest) go = then_end rest (faulted fault rest)
 
 -- units, given as a function, on these rows
-abbrev pub alone : {C : Type 0} → (List Value → C → Outcome C) → List (List Value) → C → ProgramEnd
+abbrev pub alone : {C : Type 0} → (Row → C → Outcome C) → List Row → C → ProgramEnd
 alone unit [] variables = ended
 alone unit (row ∷ rows) variables = after_unit (unit row variables) (alone unit rows)
 
 -- what comes of a unit that made n instructions, and of the units after it
-abbrev pub IsAfter : {C : Type 0} → (C → ℕ → ProgramEnd → Type 0) → ℕ → ℕ → ProgramEnd → Outcome C → Type 0
-IsAfter goes n executed end (Done variables rest) =
+abbrev pub IsAfterUnit : {C : Type 0} → (C → ℕ → ProgramEnd → Type 0) → ℕ → ℕ → ProgramEnd → Outcome C → Type 0
+IsAfterUnit goes n executed end (Done variables rest) =
     (m : ℕ) × (after : ProgramEnd) × goes variables m after × (executed ≡ n + m) × (end ≡ then_end rest after)
-IsAfter goes n executed end (Stopped fault rest) = (executed ≡ n) × (end ≡ then_end rest (faulted fault rest))
+IsAfterUnit goes n executed end (Stopped fault rest) = (executed ≡ n) × (end ≡ then_end rest (faulted fault rest))
 
 -- units, given as a relation that counts, on these rows: the program leaves this after so many instructions
-abbrev pub IsAlone : {C : Type 0} → (List Value → C → ℕ → Outcome C → Type 0) → List (List Value) → C → ℕ → ProgramEnd → Type 0
+abbrev pub IsAlone : {C : Type 0} → (Row → C → ℕ → Outcome C → Type 0) → List Row → C → ℕ → ProgramEnd → Type 0
 IsAlone unit [] variables executed end = (executed ≡ 0) × (end ≡ ended)
 IsAlone unit (row ∷ rows) variables executed end =
-    (n : ℕ) × (outcome : Outcome _) × unit row variables n outcome × IsAfter (IsAlone unit rows) n executed end outcome
+    (n : ℕ) × (outcome : Outcome _) × unit row variables n outcome × IsAfterUnit (IsAlone unit rows) n executed end outcome

@@ -8,8 +8,8 @@ use Rattle.std.proofs.lemmas.Bool.{cases_lt, ltb-true}
 use Rattle.std.proofs.lemmas.Fmt.{decimal_digit, decimal_step_wide}
 use Rattle.std.proofs.lemmas.List.{replicate-append-replicate}
 use Rattle.std.proofs.lemmas.Nat.{div-add-mod', div-mul-add, mod-mul-add, mod_below}
-use Rattle.ds2_decimal.specs.Decimal.{Decimal, IsValid}
-use Rattle.ds2_decimal.specs.Text.{last_digits, written, written_magnitude}
+use Rattle.ds2_decimal.specs.Decimal.{Decimal, IsDecimal}
+use Rattle.ds2_decimal.specs.Text.{last_digits, decimal_text, written_magnitude}
 use Rattle.ds2_value.specs.DecimalText.{wide}
 
 -- m / 10 ^ s with s digits after a point, and no point for s = 0
@@ -100,8 +100,8 @@ magnitude m (suc k) small =
     let rest : m % p < p = mod_below m p (ten-some (suc k)) in
     ap (λ (t : List ℕ). if suc k == 0 then decimal m else decimal (m / p) ++ (46 ∷ t)) (wide-last k (m % p) rest (omega arith) ∙ last-rest (suc k) m)
 
-small-units : (d : Decimal) → IsValid d → unsigned_abs d.units < 10 ^ 64
+small-units : (d : Decimal) → IsDecimal d → unsigned_abs d.units < 10 ^ 64
 small-units d valid = let h = ltb-true (unsigned_abs d.units) (10 ^ 38) valid.digits in omega arith
 
-pub text-written : (d : Decimal) → IsValid d → dec_text d ≡ written d
+pub text-written : (d : Decimal) → IsDecimal d → dec_text d ≡ decimal_text d
 text-written d valid = ap (λ (t : List ℕ). (if is_negative d.units then 45 ∷ [] else []) ++ t) (magnitude (unsigned_abs d.units) d.scale (small-units d valid))

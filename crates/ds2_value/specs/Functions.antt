@@ -4,6 +4,7 @@ use Rattle.std.specs.Prelude.{ℕ, suc, ◌++◌, max, nat_le, List, [], ◌∷�
 use Rattle.std.specs.Option.{option_map, option_map_or}
 use Rattle.std.specs.Ordering.{is_lt, is_gt}
 use Rattle.std.specs.Str.{chars}
+use Rattle.ds2_base.specs.Bytes.{Bytes}
 use Rattle.ds2_base.specs.Characters.{char_count}
 use Rattle.ds2_decimal.specs.Arithmetic.{rescale}
 use Rattle.ds2_value.specs.Order.{key_order}
@@ -34,7 +35,7 @@ trim_of (Txt t ∷ []) = Txt (trimmed t)
 trim_of _ = Null
 
 -- the bytes of texts one after the other; None where one is no text
-abbrev pub joined_texts : List Value → Option (List ℕ)
+abbrev pub joined_texts : List Value → Option Bytes
 joined_texts [] = Some []
 joined_texts (Txt t ∷ vs) = option_map (λ more. t ++ more) (joined_texts vs)
 joined_texts (_ ∷ vs) = None
@@ -45,7 +46,7 @@ concat_of vs = option_map_or (λ bytes. Txt (cut_to TEXT_CHARACTERS bytes)) (joi
 
 -- at most k characters of a text from character i on, which counts from 1; Range where i is below 1 or above the number of
 -- characters and one, and where k is below 0
-abbrev pub part_of : List ℕ → ℤ → ℤ → Result Value Fault
+abbrev pub part_of : Bytes → ℤ → ℤ → Result Value Fault
 part_of t (pos (suc i)) (pos k) = if nat_le i (char_count t) then Ok (Txt (cut_to k (after_characters i t))) else Err Range
 part_of t _ _ = Err Range
 
@@ -78,6 +79,7 @@ before (Ok v) (Ok vs) = Ok (v ∷ vs)
 before (Ok v) (Err fault) = Err fault
 before (Err fault) _ = Err fault
 
+-- each value beside decimals of a greatest scale, or beside none
 abbrev pub all_beside : Option ℕ → List Value → Result (List Value) Fault
 all_beside s [] = Ok []
 all_beside s (v ∷ vs) = before (beside s v) (all_beside s vs)
@@ -91,13 +93,15 @@ abbrev pub choice_of : (Value → Value → Value) → Result (List Value) Fault
 choice_of choose (Ok vs) = Ok (fold choose Null vs)
 choice_of choose (Err fault) = Err fault
 
--- the other one where one is null, and else one by their order
+-- the second of two values where the first is null, else the first
 abbrev pub first_of : Value → Value → Value
 first_of a b = if is_null a then b else a
 
+-- the lesser of two values, the other one where one is null
 abbrev pub lesser_of : Value → Value → Value
 lesser_of a b = if is_null a then b else if is_null b then a else if is_lt (key_order b a) then b else a
 
+-- the greater of two values, the other one where one is null
 abbrev pub greater_of : Value → Value → Value
 greater_of a b = if is_null a then b else if is_null b then a else if is_gt (key_order b a) then b else a
 
@@ -107,12 +111,14 @@ chosen_of First a b = first_of a b
 chosen_of Least a b = lesser_of a b
 chosen_of Greatest a b = greater_of a b
 
--- the first value that is not null, and the least and the greatest one without the nulls; null where all are null
+-- the first value that is not null; null where all are null
 abbrev pub coalesce_of : List Value → Result Value Fault
 coalesce_of vs = choice_of (chosen_of First) (alike_of vs)
 
+-- the least value without the nulls; null where all are null
 abbrev pub least_of : List Value → Result Value Fault
 least_of vs = choice_of (chosen_of Least) (alike_of vs)
 
+-- the greatest value without the nulls; null where all are null
 abbrev pub greatest_of : List Value → Result Value Fault
 greatest_of vs = choice_of (chosen_of Greatest) (alike_of vs)

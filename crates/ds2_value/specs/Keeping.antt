@@ -1,7 +1,7 @@
 -- What assignment does to the values of a type that another type takes.
 use Rattle.std.specs.Prelude.{◌≡◌, IsTrue, Ok}
 use Rattle.std.specs.Str.{IsUtf8}
-use Rattle.ds2_decimal.specs.Decimal.{IsValid}
+use Rattle.ds2_decimal.specs.Decimal.{IsDecimal}
 use Rattle.ds2_value.specs.Order.{value_eq}
 use Rattle.ds2_value.specs.Types.{in_bounds, fits, takes, assign_of}
 use Rattle.ds2_value.specs.Value.{fits_bigint}
@@ -13,7 +13,7 @@ use Rattle.ds2_value.specs.declared.value.Value.TheVariants.{Null, Int, Dec, Txt
 abbrev pub IsHeld : Value → Type 0
 IsHeld Null = Unit {0}
 IsHeld (Int i) = IsTrue (fits_bigint i)
-IsHeld (Dec d) = IsValid d
+IsHeld (Dec d) = IsDecimal d
 IsHeld (Txt t) = IsUtf8 t
 
 -- the values of a type are held

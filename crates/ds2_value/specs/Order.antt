@@ -1,7 +1,8 @@
 -- The order of values: null, then numbers by what they are exactly, then texts.
-use Rattle.std.specs.Prelude.{ℕ, List, [], ℤ, pos, Bool}
+use Rattle.std.specs.Prelude.{ℕ, [], ℤ, pos, Bool}
 use Rattle.std.specs.Ordering.{nat_cmp, int_cmp, on, then_cmp, eq_by_cmp}
 use Rattle.std.specs.declared.cmp.Ordering.{Ordering}
+use Rattle.ds2_base.specs.Bytes.{Bytes}
 use Rattle.ds2_decimal.specs.Decimal.{value}
 use Rattle.ds2_value.specs.Texts.{text_cmp}
 use Rattle.ds2_value.specs.declared.value.Value.{Value}
@@ -21,7 +22,7 @@ exact (Dec d) = value d
 exact _ = pos 0
 
 -- the text's bytes; none for what is no text
-abbrev pub bytes_of : Value → List ℕ
+abbrev pub bytes_of : Value → Bytes
 bytes_of (Txt t) = t
 bytes_of _ = []
 

@@ -2,7 +2,7 @@
 use Rattle.std.specs.Prelude.{ℕ, Bool, List, [], ◌∷◌, ◌++◌}
 use Rattle.ds2_base.specs.declared.place.Place.{Place}
 use Rattle.ds2_value.specs.declared.fault.Fault.{Fault}
-use Rattle.ds2_value.specs.declared.value.Value.{Value}
+use Rattle.ds2_value.specs.Row.{Row}
 
 -- what a run does, one event after the other: a step began at a place, an operand, an operator or a store was carried out,
 -- a test came out, an operation failed
@@ -15,7 +15,7 @@ pub data Event : Type 0 where
 -- a row that was written to an output, which is named by its number
 pub record Written : Type 0 where
   pub output : ℕ
-  pub row : List Value
+  pub row : Row
 
 -- all of a run beside its variables
 pub record Rest : Type 0 where
@@ -42,5 +42,5 @@ abbrev pub opening : ℕ → Rest
 opening budget = record { place = record { line = 0; column = 0 }; left = budget; way = []; rows = [] }
 
 -- one more row of an output
-abbrev pub wrote : ℕ → List Value → Rest → Rest
+abbrev pub wrote : ℕ → Row → Rest → Rest
 wrote output row r = record r { way = r.way ++ Did ∷ []; rows = r.rows ++ record { output = output; row = row } ∷ [] }

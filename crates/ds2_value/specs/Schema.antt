@@ -9,13 +9,13 @@ use Rattle.ds2_value.specs.Types.{in_bounds, fits}
 use Rattle.ds2_value.specs.declared.schema.Column.{Column}
 
 -- a column of this name is there
-abbrev pub has_name : Bytes → Columns → Bool
-has_name name columns = list_any (λ c. pointwise nat_eq c.name name) columns
+abbrev pub has_column : Bytes → Columns → Bool
+has_column name columns = list_any (λ c. pointwise nat_eq c.name name) columns
 
 -- no two columns have one name
 abbrev pub distinct_names : Columns → Bool
 distinct_names [] = true
-distinct_names (c ∷ cs) = not (has_name c.name cs) && distinct_names cs
+distinct_names (c ∷ cs) = not (has_column c.name cs) && distinct_names cs
 
 -- every type is in bounds
 abbrev pub types_in_bounds : Columns → Bool

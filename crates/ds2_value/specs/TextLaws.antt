@@ -13,6 +13,7 @@ use Rattle.ds2_value.specs.Texts.{padded, padded_cmp, text_cmp, without_blanks}
 abbrev pub head_or_blank : List ℕ → ℕ
 head_or_blank cs = unwrap_or (slice_get cs 0) 32
 
+-- no characters
 abbrev nothing : List ℕ
 nothing = []
 
@@ -42,6 +43,7 @@ right y ys =
     let rest : length ys - length nothing ≡ length ys = omega arith in
     rw (all, none, rest, less) refl
 
+-- no characters stand as no characters
 pub padded_cmp-nil : padded_cmp [] [] ≡ Equal
 unfolding padded_cmp
 padded_cmp-nil = refl
@@ -92,9 +94,11 @@ same x y z h =
     ∙ nat_list_cmp_total.congr (padded n x) (padded n y) (padded n z) (sym (padded_cmp-at n x y (omega arith) (omega arith)) ∙ h)
     ∙ sym (padded_cmp-at n y z (omega arith) (omega arith))
 
+-- the order of padded characters is total
 pub padded_cmp_total : IsTotalOrder padded_cmp
 padded_cmp_total = record { antisymm = turned; trans = before; congr = same }
 
+-- the order of texts is total
 pub text_cmp_total : IsTotalOrder text_cmp
 text_cmp_total = on_total chars padded_cmp_total
 
@@ -104,6 +108,7 @@ unfolding without_blanks
 blanks zero = refl
 blanks (suc n) = rw (blanks n) refl
 
+-- blanks at an end are no difference
 pub without_blanks-padded : (cs : List ℕ) (n : ℕ) → without_blanks (cs ++ replicate n 32) ≡ without_blanks cs
 unfolding without_blanks
 without_blanks-padded [] n = blanks n

@@ -13,16 +13,20 @@ use Rattle.ds2_value.specs.Texts.{text_cmp, trimmed}
 use Rattle.ds2_value.specs.declared.value.Value.{Value}
 use Rattle.ds2_value.specs.TextLaws.{text_cmp_total, padded_cmp-Equal}
 
+-- the order of values is total
 pub key_order_total : IsTotalOrder key_order
 unfolding key_order
 key_order_total = then_total (on_total rank nat_cmp_total) (then_total (on_total exact int_cmp_total) (on_total bytes_of text_cmp_total))
 
+-- equality of values is an equivalence
 pub value_equiv : IsEquivalence value_eq
 value_equiv = eq_by_cmp_equiv key_order_total
 
+-- the same, as `PartialEq` asks for it
 pub value_per : IsPartialEquivalence value_eq
 value_per = partial_equiv_from_equiv value_equiv
 
+-- the order as `PartialOrd` asks for it
 pub value_partial_order : IsPartialOrder value_eq (as_partial_cmp key_order)
 value_partial_order = partial_order_from_total key_order_total
 
@@ -34,6 +38,7 @@ both-Equal Equal Equal h = (refl, refl)
 both-Equal Equal Greater h = cc
 both-Equal Greater o h = cc
 
+-- equal values are hashed alike
 pub value_alike : (a b : Value) → IsTrue (value_eq a b) → value_writes a ≡ value_writes b
 unfolding key_order value_writes
 value_alike a b h =

@@ -1,7 +1,7 @@
 //! The text of a decimal.
 ghost use Rattle.std.specs.Prelude.{◌≡◌, ◌^◌, ◌<◌, ◌≤◌, ◌++◌, ◌∷◌, IfOk, string_bytes};
 ghost use Rattle.std.specs.Fmt.{decimal};
-ghost use Rattle.ds2_decimal.specs.Text.{written};
+ghost use Rattle.ds2_decimal.specs.Text.{decimal_text};
 ghost use Rattle.ds2_value.specs.DecimalText.{wide};
 
 use ds2_base::{OutOfMemory, Text};
@@ -36,7 +36,7 @@ fn pointed(
 /// The text of a decimal, which [`Dec::read`] gives back: `-` below 0, at least one digit before the point, and a point with as many digits after it as the scale
 /// has, where that is above 0.
 pub fn write_dec(alloc: Global, d: Dec) -> Result<Text, OutOfMemory>
-    ensures { IfOk result (λ text. text ≡ written d) }
+    ensures { IfOk result (λ text. text ≡ decimal_text d) }
 {
     let units = d.units();
     let scale = d.scale();

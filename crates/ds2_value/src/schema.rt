@@ -1,7 +1,7 @@
 //! Columns and schemas.
 ghost use Rattle.std.specs.Prelude.{◌≡◌, IfOk, IsTrue};
 ghost use Rattle.std.specs.List.{AllByRecursion};
-ghost use Rattle.ds2_value.specs.Schema.{has_name, distinct_names, types_in_bounds, schema_of, IsNamedColumn, IsSchema};
+ghost use Rattle.ds2_value.specs.Schema.{has_column, distinct_names, types_in_bounds, schema_of, IsNamedColumn, IsSchema};
 
 use crate::Ty;
 use ds2_base::{List, Name, OutOfMemory};
@@ -35,8 +35,8 @@ impl Model for Schema {
 }
 
 // Whether a column of this name is among these.
-fn has_name(name: &Name, columns: &[Column]) -> bool
-    ensures { result ≡ has_name name.now columns.now }
+fn has_column(name: &Name, columns: &[Column]) -> bool
+    ensures { result ≡ has_column name.now columns.now }
 {
     columns.iter().any(|c| c.name == *name)
 }
@@ -47,7 +47,7 @@ fn distinct_names(columns: &[Column]) -> bool
 {
     let mut rest = columns;
     'columns: while let [first, after @ ..] = rest {
-        if has_name(&first.name, after) {
+        if has_column(&first.name, after) {
             return false;
         }
         rest = after;

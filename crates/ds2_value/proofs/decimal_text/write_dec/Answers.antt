@@ -1,5 +1,5 @@
 use Rattle.std.proofs.Common.{◌≡◌, ◌∙◌, rules}
-use Rattle.ds2_decimal.specs.Decimal.{IsValid}
+use Rattle.ds2_decimal.specs.Decimal.{IsDecimal}
 use Rattle.ds2_value.proofs.DecimalLemmas.{dec_text, text-written}
 use Rattle.ds2_value.proofs.PowerLemmas.{ten-positive}
 use Rattle.ds2_value.proofs.decimal_text.write_dec.Goals as goal
@@ -13,7 +13,7 @@ nonzero_rem-magnitude c = ten-positive _ _ c.power_of_ten-unit.ensures
 pub returns : goal.returns
 returns c =
     let spelt : c.from_string-2.result ≡ dec_text c.args.d = search rules in
-    let valid : IsValid c.args.d = record {
+    let valid : IsDecimal c.args.d = record {
       digits = rw c.units-units.ensures.value at c.units-units.ensures.digits;
       scale_bound = rw c.scale-scale.ensures.value at c.scale-scale.ensures.bound;
     } in
