@@ -75,7 +75,9 @@ impl Tickets {
         ensures all { (next : ℕ) × ShowsAll next (view_of into.new) }
     {
         let TicketSeat { seat } = seat;
-        self.table.shared.join_seat::<JoinedIn>(&mut into.seat, seat);
+        self.table
+            .shared
+            .join_seat::<JoinedIn>(&mut into.seat, seat);
         self.table.shared.load::<Looked>(&mut into.seat, 0);
     }
 

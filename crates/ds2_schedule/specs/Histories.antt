@@ -92,11 +92,11 @@ four_workers =
     case 100 4 (caller_draws 4 0 16) true false 16 (numbers_from 0 96) [] ∷
     case 100 4 (caller_draws 4 0 17) true false 17 (numbers_from 0 100) [] ∷
     case 100 4 (d 3 0 ∷ d 2 1 ∷ d 1 2 ∷ d 0 3 ∷ ok 0 18 ∷ ok 1 12 ∷ ok 2 6 ∷ ok 3 0 ∷ []) true false 4
-        (numbers_from 19 5 ++ (numbers_from 13 5 ++ (numbers_from 7 5 ++ numbers_from 1 5))) (18 ∷ 12 ∷ 6 ∷ 0 ∷ []) ∷
+    (numbers_from 19 5 ++ (numbers_from 13 5 ++ (numbers_from 7 5 ++ numbers_from 1 5))) (18 ∷ 12 ∷ 6 ∷ 0 ∷ []) ∷
     case 100 4 (d 3 0 ∷ d 2 1 ∷ d 1 2 ∷ d 0 3 ∷ ok 0 18 ∷ ok 1 12 ∷ ok 2 6 ∷ ok 3 0 ∷ Retakes ∷ []) true false 4
-        (numbers_from 1 5 ++ (numbers_from 7 5 ++ (numbers_from 13 5 ++ numbers_from 19 5))) (18 ∷ 12 ∷ 6 ∷ 0 ∷ []) ∷
+    (numbers_from 1 5 ++ (numbers_from 7 5 ++ (numbers_from 13 5 ++ numbers_from 19 5))) (18 ∷ 12 ∷ 6 ∷ 0 ∷ []) ∷
     case 100 4 (d 0 0 ∷ d 1 1 ∷ ok 0 0 ∷ bad 1 6 ∷ Retakes ∷ ok 4 1 ∷ ok 4 2 ∷ ok 4 3 ∷ ok 4 4 ∷ ok 4 5 ∷ []) true true 2
-        (numbers_from 7 5) (0 ∷ 6 ∷ 1 ∷ 2 ∷ 3 ∷ 4 ∷ 5 ∷ []) ∷
+    (numbers_from 7 5) (0 ∷ 6 ∷ 1 ∷ 2 ∷ 3 ∷ 4 ∷ 5 ∷ []) ∷
     []
 
 -- More workers than groups, and 64 of them.
