@@ -1,15 +1,15 @@
 -- What a number gives, and the groups of its run.
-use Rattle.std.proofs.Common.{◌≡◌, ℕ, ◌+◌, ◌-◌, ◌*◌, ◌<◌, ◌≤◌, List, [], Bool, false, refl, sym, ap, subst, ◌∙◌, arith, inl, inr}
-use Rattle.std.specs.Prelude.{min, if◌then◌else◌, nat_lt}
+use Rattle.std.proofs.Common.{◌≡◌, ℕ, ◌+◌, ◌-◌, ◌*◌, ◌<◌, ◌≤◌, List, [], Bool, false, sym, ap, subst, ◌∙◌, arith, inl, inr}
+use Rattle.std.specs.Prelude.{min, if◌then◌else◌}
 use Rattle.std.proofs.lemmas.Bool.{cases_lt}
 use Rattle.std.proofs.Math.Nat.{mul-le-mul_right}
 use Rattle.ds2_dealer.specs.declared.tickets.Tickets.{Tickets}
 use Rattle.ds2_dealer.specs.declared.tickets.Draw.{Draw}
 use Rattle.ds2_dealer.specs.declared.tickets.Draw.TheVariants.{Run, NoMore}
 use Rattle.ds2_dealer.specs.Runs.{numbers_from, run_count, run_groups}
-use Rattle.ds2_dealer.specs.Seats.{draw_of, groups_drawn, IsRun}
+use Rattle.ds2_dealer.specs.Seats.{draw_of, groups_drawn, IsRun, IsInside}
 use Rattle.ds2_dealer.proofs.Counts.{lt_true, lt_false}
-use Rattle.ds2_dealer.proofs.Runs.{enough}
+use Rattle.ds2_dealer.proofs.Runs.{enough, begins_inside}
 
 answered : (t : Tickets) (d : ℕ) → Bool → Draw
 answered t d b = if b then Run (d * t.length) (min t.groups ((d + 1) * t.length)) else NoMore d
@@ -44,4 +44,14 @@ unfolding answered
 run_is_low t d answer e is = elim (cases_lt d t.runs) [
   | inl low ↦ low
   | inr high ↦ absurd (no_run t d (subst IsRun (e ∙ ap {B = Draw} (answered t d) (lt_false d t.runs high)) is))
+]
+
+-- a run has a group, and no group past the last
+pub is_inside : (t : Tickets) (d : ℕ) → 1 ≤ t.length → t.runs ≡ run_count t.groups t.length → IsInside t (draw_of t d)
+unfolding answered
+is_inside t d one is = elim (cases_lt d t.runs) [
+  | inl low ↦ (
+      let begins = begins_inside t.groups t.length d one (omega (arith, low, is)) in
+      subst (IsInside t) (sym (ap {B = Draw} (answered t d) (lt_true d t.runs low))) (omega (arith, begins, one), omega arith))
+  | inr high ↦ subst (IsInside t) (sym (ap {B = Draw} (answered t d) (lt_false d t.runs high))) tt
 ]

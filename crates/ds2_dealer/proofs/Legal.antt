@@ -1,11 +1,11 @@
 -- What the tests on steps and stages say, as facts.
-use Rattle.std.proofs.Common.{◌≡◌, ℕ, zero, suc, ◌+◌, ◌<◌, ◌≤◌, List, [], ◌∷◌, ◌++◌, Bool, true, false, refl, sym, ap, ◌∙◌, arith, inl, inr}
+use Rattle.std.proofs.Common.{◌≡◌, ℕ, zero, suc, ◌≤◌, List, [], ◌∷◌, Bool, true, false, refl, sym, ap, ◌∙◌, arith, inl, inr}
 use Rattle.std.specs.Prelude.{◌⊎◌, Some, slice_get, not, ◌&&◌, ◌||◌, if◌then◌else◌, ◌==◌, nat_le}
-use Rattle.std.specs.List.{list_any, list_all}
+use Rattle.std.specs.List.{list_all}
 use Rattle.std.proofs.lemmas.Bool.Decides.{nat_tests}
 use Rattle.std.proofs.lemmas.Bool.{eq-eqb, eqb-true}
-use Rattle.ds2_dealer.specs.Runs.{run_length, run_count, times}
-use Rattle.ds2_dealer.specs.Stage.{HandIn, Stage, StageStep, Draws, HandsIn, Retakes, left_for, is_next, none_left, in_one_list, has_faulted, is_legal_step, after_step, opening_stage, are_legal, is_legal, some_fault, fault_below, is_complete_stage}
+use Rattle.ds2_dealer.specs.Runs.{run_count, times}
+use Rattle.ds2_dealer.specs.Stage.{Stage, StageStep, Draws, HandsIn, Retakes, left_for, is_next, none_left, in_one_list, has_faulted, is_legal_step, after_step, are_legal, some_fault, fault_below, is_complete_stage}
 
 abbrev pub IsLegalStep : ℕ → Stage → StageStep → Type 0
 IsLegalStep workers s (Draws w d) = (w ≤ workers) × (d ≡ s.drawn)

@@ -1,5 +1,5 @@
 -- Each step keeps that the groups of the runs drawn are left or handed in, each once.
-use Rattle.std.proofs.Common.{◌≡◌, ℕ, zero, suc, ◌+◌, ◌*◌, List, [], ◌∷◌, ◌++◌, true, sym, ap, ◌∙◌, arith, length}
+use Rattle.std.proofs.Common.{◌≡◌, ℕ, zero, suc, ◌+◌, ◌*◌, List, [], ◌∷◌, ◌++◌, sym, ap, ◌∙◌, arith, length}
 use Rattle.std.specs.Prelude.{min, map, replicate}
 use Rattle.std.proofs.lemmas.Bool.Decides.{nat_tests}
 use Rattle.std.proofs.lemmas.List.{length-replicate, length-append, map-append}

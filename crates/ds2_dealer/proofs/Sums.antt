@@ -1,10 +1,11 @@
 -- The least faulting group is one that faulted, and no lower one did.
-use Rattle.std.proofs.Common.{◌≡◌, ℕ, ◌≤◌, List, [], ◌∷◌, Bool, true, false, Option, Some, None, refl, sym, ap, ◌∙◌, subst, arith, inl, inr}
+use Rattle.std.proofs.lemmas.List.{length-append}
+use Rattle.std.proofs.Common.{◌≡◌, ℕ, ◌+◌, ◌≤◌, List, [], ◌∷◌, ◌++◌, Bool, true, false, Option, Some, None, refl, sym, ap, ◌∙◌, subst, arith, inl, inr}
 use Rattle.std.specs.Prelude.{◌⊎◌, ◌&&◌, ◌||◌, if◌then◌else◌, ◌==◌}
 use Rattle.std.specs.List.{list_any}
 use Rattle.std.proofs.lemmas.Bool.{cases_lt, eq-eqb}
 use Rattle.ds2_dealer.specs.Stage.{HandIn, some_fault}
-use Rattle.ds2_dealer.specs.Sums.{lesser_fault, least_fault, NoFaultBelow, FaultIsLeast}
+use Rattle.ds2_dealer.specs.Sums.{lesser_fault, least_fault, NoFaultBelow, FaultIsLeast, rows_handed, AreSums}
 use Rattle.ds2_dealer.proofs.Counts.{lt_true, lt_false}
 use Rattle.ds2_dealer.proofs.Legal.{or_true, or_right}
 
@@ -83,3 +84,19 @@ fault_is_least es = (
   λ f e. (none_below None f es e, elim (one_of None f es e) [ inl t ↦ absurd (cc) | inr t ↦ t ]),
   no_fault None es,
 )
+
+rows_more : (es : List HandIn) (e : HandIn) → rows_handed (es ++ e ∷ []) ≡ rows_handed es + e.rows
+rows_more [] e = omega arith
+rows_more (x ∷ xs) e = omega (arith, rows_more xs e)
+
+least_more : (before : Option ℕ) (es : List HandIn) (e : HandIn) → least_fault before (es ++ e ∷ []) ≡ lesser_fault (least_fault before es) e.group e.faulted
+least_more before [] e = refl
+least_more before (x ∷ xs) e = least_more (lesser_fault before x.group x.faulted) xs e
+
+-- the sums with one more hand-in
+pub sums_more : (es : List HandIn) (e : HandIn) (n rows : ℕ) (fault : Option ℕ) → AreSums es n rows fault → AreSums (es ++ e ∷ []) (n + 1) (rows + e.rows) (lesser_fault fault e.group e.faulted)
+sums_more es e n rows fault h = record {
+  count = omega (arith, h.count, length-append es (e ∷ []));
+  all_rows = omega (arith, h.all_rows, rows_more es e);
+  least = ap (λ (o : Option ℕ). lesser_fault o e.group e.faulted) h.least ∙ sym (least_more None es e);
+}

@@ -1,6 +1,6 @@
 -- Each kind of step keeps the ticket's rule.
 use Rattle.std.proofs.Common.{◌≡◌, ℕ, zero, suc, ◌+◌, ◌-◌, ◌%◌, ◌^◌, ◌<◌, ◌≤◌, List, [], ◌∷◌, ◌++◌, Bool, true, false, refl, sym, ap, ◌∙◌, subst, arith, inl, inr}
-use Rattle.std.specs.Prelude.{◌⊎◌, min, if◌then◌else◌, ◌==◌, nat_le, slice_set}
+use Rattle.std.specs.Prelude.{if◌then◌else◌, nat_le, slice_set}
 use Rattle.std.proofs.lemmas.Bool.{cases_lt, eq-eqb}
 use Rattle.std.proofs.lemmas.Bool.Decides.{nat_tests}
 use mathlib.Core.Option.{some, some-injective, some-ne-none}
@@ -120,13 +120,19 @@ draw_is : (q d : ℕ) (v : SeatView) → MayDraw q v → Draws q d v (with_numbe
 draw_is q d (First split joined drawn) may = record {
   numbers = λ x. times-append x drawn (d ∷ []);
   pasts = past-append q drawn (d ∷ []);
-  splits = refl; joins = refl; firsts = refl; others = refl;
+  splits = refl;
+  joins = refl;
+  firsts = refl;
+  others = refl;
   room = omega (arith, may, past-append q drawn (d ∷ []), one_at_most (nat_le q d));
 }
 draw_is q d (Other drawn) may = record {
   numbers = λ x. times-append x drawn (d ∷ []);
   pasts = past-append q drawn (d ∷ []);
-  splits = refl; joins = refl; firsts = refl; others = refl;
+  splits = refl;
+  joins = refl;
+  firsts = refl;
+  others = refl;
   room = omega (arith, may, past-append q drawn (d ∷ []), one_at_most (nat_le q d));
 }
 draw_is q d Spent may = absurd may

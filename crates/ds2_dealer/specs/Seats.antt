@@ -1,5 +1,5 @@
 -- What the calls on tickets and their seats give.
-use Rattle.std.specs.Prelude.{◌≡◌, ℕ, ◌+◌, ◌-◌, ◌*◌, ◌≤◌, List, [], min, if◌then◌else◌, nat_lt}
+use Rattle.std.specs.Prelude.{◌≡◌, ℕ, ◌+◌, ◌-◌, ◌*◌, ◌<◌, ◌≤◌, List, [], min, if◌then◌else◌, nat_lt}
 use Rattle.ds2_dealer.specs.declared.rule.SeatView.{SeatView}
 use Rattle.ds2_dealer.specs.declared.tickets.Tickets.{Tickets}
 use Rattle.ds2_dealer.specs.declared.tickets.TicketSeat.{TicketSeat}
@@ -30,6 +30,11 @@ draw_of t d = if nat_lt d t.runs then Run (d * t.length) (min t.groups ((d + 1) 
 abbrev pub groups_drawn : Draw → List ℕ
 groups_drawn (Run from to) = numbers_from from (to - from)
 groups_drawn (NoMore d) = []
+
+-- A run has a group, and no group past the last.
+abbrev pub IsInside : Tickets → Draw → Type 0
+IsInside t (Run from to) = (from < to) × (to ≤ t.groups)
+IsInside t (NoMore d) = Unit {0}
 
 -- One draw: a number above all that the seat showed, which is the next one where the seat shows all; the answer is what that number gives, the groups of its run.
 pub record HasDrawn (t : Tickets) (before after : SeatView) (answer : Draw) : Type 0 where

@@ -1,7 +1,11 @@
 -- The sums over the hand-ins of a stage, and its least fault.
-use Rattle.std.specs.Prelude.{◌≡◌, ℕ, ◌+◌, ◌≤◌, List, [], ◌∷◌, Bool, true, Option, Some, None, ◌&&◌, if◌then◌else◌, ◌==◌, nat_lt}
+use Rattle.std.specs.Prelude.{◌≡◌, ℕ, ◌+◌, ◌≤◌, length, List, [], ◌∷◌, Bool, true, Option, Some, None, ◌&&◌, if◌then◌else◌, ◌==◌, nat_lt}
 use Rattle.std.specs.List.{list_any}
 use Rattle.ds2_dealer.specs.Stage.{HandIn, some_fault}
+
+-- A hand-in of a party.
+abbrev pub handed : ℕ → ℕ → ℕ → Bool → HandIn
+handed party g rows faulted = record { party = party; group = g; rows = rows; faulted = faulted }
 
 -- The least faulting group after one more hand-in: its own group where it faulted and there was none or a greater one.
 abbrev pub lesser_fault : Option ℕ → ℕ → Bool → Option ℕ
@@ -12,6 +16,17 @@ lesser_fault (Some f) g faulted = if faulted && nat_lt g f then Some g else Some
 abbrev pub least_fault : Option ℕ → List HandIn → Option ℕ
 least_fault before [] = before
 least_fault before (e ∷ es) = least_fault (lesser_fault before e.group e.faulted) es
+
+-- The rows of several hand-ins.
+abbrev pub rows_handed : List HandIn → ℕ
+rows_handed [] = 0
+rows_handed (e ∷ es) = e.rows + rows_handed es
+
+-- The sums of several hand-ins: how many there are, their rows, and the least group that faulted.
+pub record AreSums (es : List HandIn) (hand_ins rows : ℕ) (fault : Option ℕ) : Type 0 where
+  pub count : hand_ins ≡ length es
+  pub all_rows : rows ≡ rows_handed es
+  pub least : fault ≡ least_fault None es
 
 -- No group that faulted is below f.
 abbrev pub NoFaultBelow : ℕ → List HandIn → Type 0

@@ -1,7 +1,8 @@
 //! The book of a stage: the sums over its hand-ins, and the least group that faulted.
-ghost use Rattle.std.specs.Prelude.{◌≡◌, ℕ, ◌+◌, ◌*◌, ◌^◌, ◌<◌, ◌≤◌, None, IfSome, nat_eq};
+ghost use Rattle.std.specs.Prelude.{◌≡◌, ℕ, ◌+◌, ◌*◌, ◌^◌, ◌<◌, ◌≤◌, List, [], ◌∷◌, ◌++◌, None, IfSome, nat_eq};
 ghost use Rattle.std.proofs.Props.{props};
-ghost use Rattle.ds2_dealer.specs.Sums.{lesser_fault};
+ghost use Rattle.ds2_dealer.specs.Stage.{HandIn};
+ghost use Rattle.ds2_dealer.specs.Sums.{lesser_fault, handed, AreSums};
 
 /// The sums over the hand-ins.
 #[derive(Clone, Copy, PartialEq, Eq, Debug)]
@@ -28,7 +29,8 @@ impl Book {
     /// The book of a stage of at most 2^32 groups, before any hand-in. Takes no memory.
     pub fn open(groups: u64) -> Book
         requires { groups ≤ 2 ^ 32 }
-        ensures { (result.groups ≡ groups) × (result.hand_ins ≡ 0) × (result.rows ≡ 0) × (result.fault ≡ None) }
+        ensures none { (result.groups ≡ groups) × (result.hand_ins ≡ 0) × (result.rows ≡ 0) × (result.fault ≡ None) }
+        ensures sums { AreSums [] result.hand_ins result.rows result.fault }
     {
         Book {
             groups,
@@ -57,6 +59,7 @@ impl Book {
         requires { (self.old.hand_ins < 2 ^ 32) × (rows < 2 ^ 31) × (g < self.old.groups) }
         ensures sums { (self.new.groups ≡ self.old.groups) × (self.new.hand_ins ≡ self.old.hand_ins + 1) × (self.new.rows ≡ self.old.rows + rows) }
         ensures fault { self.new.fault ≡ lesser_fault self.old.fault g faulted }
+        ensures all { (before : List HandIn) (party : ℕ) → AreSums before self.old.hand_ins self.old.rows self.old.fault → AreSums (before ++ handed party g rows faulted ∷ []) self.new.hand_ins self.new.rows self.new.fault }
         ensures answer { result ≡ lesser_fault self.old.fault g faulted }
     {
         self.hand_ins += 1;

@@ -2,7 +2,7 @@
 ghost use Rattle.std.specs.Prelude.{◌≡◌, ℕ, ◌<◌, ◌≤◌, [], IfOk};
 ghost use Rattle.ds2_dealer.specs.Runs.{run_length, run_count};
 ghost use Rattle.ds2_dealer.specs.Rule.{MayDraw, MaySplit, MayJoin, ShowsAll, with_split, with_joined};
-ghost use Rattle.ds2_dealer.specs.Seats.{view_of, IsSeatOf, IsRun, draw_of, HasDrawn};
+ghost use Rattle.ds2_dealer.specs.Seats.{view_of, IsSeatOf, IsRun, IsInside, draw_of, HasDrawn};
 ghost use Rattle.ds2_dealer.specs.declared.rule.SeatView.TheVariants.{First, Other};
 
 use crate::cutting::{length_of_runs, number_of_runs};
@@ -61,6 +61,7 @@ impl Tickets {
         requires may { MayDraw self.now.runs (view_of seat.old) }
         ensures of { IsSeatOf self.now seat.new }
         ensures drawn { HasDrawn self.now (view_of seat.old) (view_of seat.new) result }
+        ensures inside { IsInside self.now result }
         ensures again { IsRun result → MayDraw self.now.runs (view_of seat.new) }
     {
         let number = self.table.shared.fetch_add::<Drawn>(&mut seat.seat, 0, 1);
@@ -75,7 +76,9 @@ impl Tickets {
         ensures all { (next : ℕ) × ShowsAll next (view_of into.new) }
     {
         let TicketSeat { seat } = seat;
-        self.table.shared.join_seat::<JoinedIn>(&mut into.seat, seat);
+        self.table
+            .shared
+            .join_seat::<JoinedIn>(&mut into.seat, seat);
         self.table.shared.load::<Looked>(&mut into.seat, 0);
     }
 

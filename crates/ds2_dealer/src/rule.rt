@@ -15,7 +15,9 @@ pub enum SeatView {
         drawn: List<u64>,
     },
     /// A seat that was split from the first one, with the numbers that it has drawn.
-    Other { drawn: List<u64> },
+    Other {
+        drawn: List<u64>,
+    },
     /// A seat that was joined into the first one.
     Spent,
 }

@@ -25,7 +25,17 @@ fn sums() -> bool {
     let four = book.hand_in(5, 2, true);
     let still = book.hand_in(8, 0, true);
     let least = book.hand_in(1, 1, true);
-    none == None && four == Some(5) && still == Some(5) && least == Some(1) && !book.full() && book.groups() == 10 && book.totals() == Totals { groups: 4, rows: 10 }
+    none == None
+        && four == Some(5)
+        && still == Some(5)
+        && least == Some(1)
+        && !book.full()
+        && book.groups() == 10
+        && book.totals()
+            == Totals {
+                groups: 4,
+                rows: 10,
+            }
 }
 
 fn crosses_threads<T: Send>() {}

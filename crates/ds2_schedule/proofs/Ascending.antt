@@ -1,6 +1,6 @@
 -- Ascending lists: two with the same numbers_from are one.
 use Rattle.std.proofs.Common.{◌≡◌, ℕ, zero, suc, ◌+◌, ◌-◌, ◌*◌, ◌<◌, ◌≤◌, List, [], ◌∷◌, ◌++◌, Bool, true, false, refl, sym, ap, ◌∙◌, arith, inl, inr, subst}
-use Rattle.std.specs.Prelude.{min, if◌then◌else◌, ◌==◌, nat_lt, nat_le}
+use Rattle.std.specs.Prelude.{min, if◌then◌else◌, ◌==◌, nat_le}
 use Rattle.std.specs.List.{filter}
 use Rattle.std.proofs.lemmas.Bool.Decides.{nat_tests}
 use Rattle.std.proofs.lemmas.Bool.{cases_lt, eq-eqb, eqb-true}
@@ -8,7 +8,6 @@ use Rattle.std.proofs.lemmas.List.{append-nil}
 use Rattle.std.proofs.Math.Nat.{mul-le-mul_right}
 use Rattle.ds2_dealer.specs.Runs.{numbers_from, times}
 use Rattle.ds2_dealer.specs.Stage.{inserted, ascending}
-use Rattle.ds2_dealer.proofs.Counts.{lt_true, lt_false}
 use Rattle.ds2_schedule.specs.Bags.{AreFrom, IsAscending, groups_of_runs}
 
 pub from_lower : (a b : ℕ) (xs : List ℕ) → b ≤ a → AreFrom a xs → AreFrom b xs

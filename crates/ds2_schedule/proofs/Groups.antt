@@ -1,8 +1,8 @@
 -- A stage on many workers gives what its loads in turn give on one thread.
-use Rattle.std.proofs.Common.{◌≡◌, ℕ, zero, suc, ◌+◌, List, [], ◌∷◌, ◌++◌, Bool, true, false, refl, sym, ap, ◌∙◌, subst, arith, length}
+use Rattle.std.proofs.Common.{◌≡◌, ℕ, suc, ◌+◌, List, [], ◌∷◌, ◌++◌, Bool, true, false, refl, sym, ap, ◌∙◌, subst, arith, length}
 use Rattle.std.specs.Prelude.{Option, Some, None, slice_get}
-use Rattle.ds2_schedule.specs.Schedule.{GroupProgram, FixedPart, Agree, AreIndependent, up_to_fault, one_thread, in_order, results}
-use Rattle.ds2_schedule.specs.Groups.{UnitRun, Normally, ByFault, StageUnits, IsJoining, with_before, then_from, run_loads, stage_run, all_loads, IsSameRun, IsSameEnd, SameButEarly, AreSameButEarly, IsGroupIndependent, IsAmongGroups, Given, given_by, state_left, loads_of, stage_program, in_front_of, unless_faulted, put_together, EveryStage}
+use Rattle.ds2_schedule.specs.Schedule.{FixedPart, Agree, AreIndependent, up_to_fault, one_thread}
+use Rattle.ds2_schedule.specs.Groups.{UnitRun, Normally, ByFault, StageUnits, IsJoining, with_before, then_from, run_loads, stage_run, all_loads, IsSameRun, IsSameEnd, SameButEarly, AreSameButEarly, IsGroupIndependent, IsAmongGroups, Given, given_by, state_left, loads_of, stage_program, in_front_of, put_together, EveryStage}
 use Rattle.ds2_schedule.proofs.Schedule.{every_schedule_is}
 
 same_load : {K V : Type 0} (early : K → Bool) (l : List (K × V)) → SameButEarly early l l

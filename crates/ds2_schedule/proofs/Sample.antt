@@ -1,8 +1,8 @@
 -- The premises hold of the small stage.
-use Rattle.std.proofs.Common.{◌≡◌, ℕ, ◌+◌, ◌*◌, List, [], ◌∷◌, ◌++◌, Bool, true, false, refl, sym, ap, ◌∙◌, subst, arith, length}
+use Rattle.std.proofs.Common.{◌≡◌, ℕ, ◌*◌, List, [], ◌∷◌, ◌++◌, Bool, true, false, refl, sym, ap, ◌∙◌, subst}
 use Rattle.std.specs.Prelude.{if◌then◌else◌, ◌==◌}
 use Rattle.std.proofs.lemmas.List.{append-nil, append_assoc}
-use Rattle.std.proofs.lemmas.Bool.{eq-eqb, eqb-true}
+use Rattle.std.proofs.lemmas.Bool.{eqb-true}
 use Rattle.ds2_dealer.specs.Runs.{run_length, run_count}
 use Rattle.ds2_schedule.specs.Schedule.{Agree}
 use Rattle.ds2_schedule.specs.Groups.{UnitRun, Normally, ByFault, IsJoining, with_before, then_from, run_loads, IsSameRun, SameButEarly, AreSameButEarly, IsGroupIndependent, IsAmongGroups}

@@ -3,9 +3,9 @@ use Rattle.std.specs.Prelude.{slice_index, slice_set}
 use Rattle.atomic_table.specs.Table.{keeps, Me}
 use Rattle.ds2_dealer.specs.declared.rule.SeatView.{SeatView}
 use Rattle.ds2_dealer.specs.Rule.{TicketRule, with_number, MayDraw, IsAbove, ShowsAll}
-use Rattle.ds2_dealer.specs.Seats.{groups_drawn}
+use Rattle.ds2_dealer.specs.Seats.{groups_drawn, IsInside}
 use Rattle.ds2_dealer.proofs.Ticket.{draws, is_above, shows_all, few_after_draw, may_again}
-use Rattle.ds2_dealer.proofs.Answered.{gives_groups, run_is_low}
+use Rattle.ds2_dealer.proofs.Answered.{gives_groups, run_is_low, is_inside}
 use Rattle.ds2_dealer.proofs.tickets.Tickets.draw.Goals as goal
 
 pub fetch_add-number-requires : goal.fetch_add-number-requires
@@ -61,3 +61,8 @@ returns-clause-of c = record {
 pub returns-clause-again : goal.returns-clause-again
 returns-clause-again c = λ is. may_again c.args.self.now.runs c.fetch_add-number.result c.args.seat.now.seat.me.0 c.fetch_add-number.new.seat.me.0 c.requires.may
     (run_is_low c.args.self.now c.fetch_add-number.result c.run.result c.run.ensures is) (ap (λ (m : Me ℕ SeatView). m.0) c.fetch_add-number.ensures.2.0)
+
+pub returns-clause-inside : goal.returns-clause-inside
+returns-clause-inside c =
+    let t = c.args.self.now in
+    subst (IsInside t) (sym c.run.ensures) (is_inside t c.fetch_add-number.result t.long t.all)
