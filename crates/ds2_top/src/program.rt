@@ -5,8 +5,8 @@ ghost use Rattle.ds2_meaning.specs.Names.{AllKnown};
 ghost use Rattle.ds2_meaning.specs.Program.{one_thread_answer};
 ghost use Rattle.ds2_meaning.specs.View.{program_of};
 ghost use Rattle.ds2_draft_source.specs.Source.{tree_of};
-ghost use Rattle.ds2_top.specs.Answer.{IsAnswer, program_over};
-ghost use Rattle.ds2_top.specs.Words.{most_budget};
+ghost use Rattle.ds2_top.specs.declared.words.TheConstants.{MOST_BUDGET};
+ghost use Rattle.ds2_top.specs.Answer.{IsEndOf, program_over};
 
 use crate::output_text::OutputText;
 use ds2_base::{Bytes, List, Name, OutOfMemory};
@@ -90,8 +90,8 @@ pub(crate) fn one_thread_end(
 ) -> Result<OneThreadEnd, OutOfMemory>
     requires known { AllKnown (program_of program.now) }
     requires even { All (λ row. length row ≡ length program.now.columns) rows.now }
-    requires budget { budget ≤ most_budget }
-    ensures { IfOk result (λ end. IsAnswer (program_of program.now) end (one_thread_answer (program_of program.now) rows.now budget)) }
+    requires budget { budget ≤ MOST_BUDGET }
+    ensures { IfOk result (λ end. IsEndOf (program_of program.now) end (one_thread_answer (program_of program.now) rows.now budget)) }
 {
     let code = generate(alloc, program)?;
     let sink = OutputText::new(alloc, variables(alloc, program)?)?;
