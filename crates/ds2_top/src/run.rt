@@ -2,6 +2,7 @@
 ghost use Rattle.std.specs.Prelude.{◌≡◌, ◌≤◌, true, All, IfOk, IsTrue, length};
 ghost use Rattle.ds2_meaning.specs.Names.{AllKnown};
 ghost use Rattle.ds2_meaning.specs.View.{program_of};
+ghost use Rattle.ds2_layout.specs.Slots.{slot_names};
 ghost use Rattle.ds2_draft_source.specs.Source.{source_of, tree_of};
 ghost use Rattle.ds2_csv.specs.Reads.{reads};
 ghost use Rattle.ds2_top.specs.declared.words.Command.TheVariants.{Run};
@@ -21,7 +22,7 @@ use crate::{Halt, Status};
 use ds2_base::{Bytes, Place, Stop, Text};
 use ds2_csv::read_table;
 use ds2_draft_source::{Source, read_source};
-use ds2_layout::first_unknown;
+use ds2_layout::{Layout, first_unknown, lay_out};
 use ds2_meaning::TypedData;
 use ds2_outside::Store;
 use ds2_table::Table;
@@ -38,11 +39,13 @@ pub const TABLE_LIMIT: u64 = 67_108_864;
 fn run_known<S: Store>(
     alloc: Global,
     program: &TypedData,
+    layout: &Layout,
     rows: &[Row],
     budget: u64,
     log: &mut Bytes,
     store: &mut S,
 ) -> Result<(), Halt>
+    requires layout { layout.now ≡ slot_names (program_of program.now) }
     requires known { AllKnown (program_of program.now) }
     requires even { All (λ row. length row ≡ length program.now.columns) rows.now }
     requires budget { budget ≤ MOST_BUDGET }
@@ -50,7 +53,7 @@ fn run_known<S: Store>(
     ensures read { Caused Status.Read result (S.read_faults store.old) (S.read_faults store.new) }
     ensures write { Caused Status.Write result (S.write_faults store.old) (S.write_faults store.new) }
 {
-    let end = one_thread_end(alloc, program, rows, budget)?;
+    let end = one_thread_end(alloc, program, layout, rows, budget)?;
     finish(alloc, &program.output, end, log, store)
 }
 
@@ -69,8 +72,9 @@ fn run_built<S: Store>(
     ensures read { Caused Status.Read result (S.read_faults store.old) (S.read_faults store.new) }
     ensures write { Caused Status.Write result (S.write_faults store.old) (S.write_faults store.new) }
 {
-    match first_unknown(alloc, program)? {
-        None => run_known(alloc, program, rows, budget, log, store),
+    let layout = lay_out(alloc, program)?;
+    match first_unknown(&layout, program) {
+        None => run_known(alloc, program, &layout, rows, budget, log, store),
         Some(place) => {
             say_source_refused(alloc, SourceKind::UnknownName, place, log)?;
             Err(Halt::Ended(Status::Source))
