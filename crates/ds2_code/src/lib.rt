@@ -4,6 +4,7 @@
 #![tactic(auto)]
 
 mod instr;
+pub mod laws;
 mod program;
 
 pub use instr::Instr;

@@ -15,7 +15,7 @@ use Rattle.ds2_draft_source.specs.declared.token.Kind.{Kind}
 use Rattle.ds2_draft_source.specs.declared.token.Kind.TheVariants.{Word, Number, Operator, Comparator, Semicolon, Open, Close}
 use Rattle.ds2_draft_source.specs.Reserved.{is_reserved}
 use Rattle.ds2_meaning.specs.View.{if_else}
-use Rattle.ds2_draft_source.specs.Grammar.{Reading, is_word, is_semicolon, is_open, is_close, is_equal, after, begins, many, repeated, named_by, name_of_kind, named, name, begins_name, integer_kind, integer_or, variable, operand, begins_sign, sign, term, terms_tree, sum_tree, sum, word_comparison, comparison, compared_with, condition, assignment, Branch, if_place, branch, begins_else_if, else_if, else_part, others_tree, conditional, statement_of, nested, statement, stmts_tree, statements}
+use Rattle.ds2_draft_source.specs.Grammar.{Reading, is_word, is_semicolon, is_open, is_close, is_equal, after, begins, many, repeated, named_by, name_of_kind, a_name, name, begins_name, integer_kind, integer_or, variable, operand, begins_sign, sign, term, terms_tree, sum_tree, sum, word_comparison, comparison, compared_with, condition, assignment, Branch, if_place, if_branch, begins_else_if, else_if, else_part, others_tree, conditional, statement_of, nested, statement, stmts_tree, statements}
 use Rattle.ds2_draft_source.specs.Source.{Source, header, is_empty, repeats, declaration, declarations, method_run, set_table, closing, whole, program, source_of}
 use Rattle.ds2_draft_source.specs.Tokens.{tokens_of}
 use Rattle.ds2_draft_source.specs.Spelling.{by_mark, plain_kinds, expression_spelling, terms_spelling, statement_spelling, statements_spelling, words, declaration_spelling, source_spelling, KeepsTokens}
@@ -133,17 +133,17 @@ named_kind : (k : Kind) (p : Place) (ts : List Token) → Spells (λ (n : Named)
 named_kind (Word w) p ts = name_first w p ts (is_reserved w) refl
 named_kind k p ts = read_none _
 
-named_spells : (ts : List Token) → Spells (λ (n : Named). Word n.name ∷ []) ts (named ts)
-unfolding named
+named_spells : (ts : List Token) → Spells (λ (n : Named). Word n.name ∷ []) ts (a_name ts)
+unfolding a_name
 named_spells [] = read_none _
 named_spells (t ∷ ts) = named_kind t.kind t.place ts
 
 name_spells : (ts : List Token) → Spells (λ (n : List ℕ). Word n ∷ []) ts (name ts)
 unfolding name
-name_spells ts = then_read ts ts [] (named ts) _ (named_spells ts) refl (λ n h. read_some ts _ h)
+name_spells ts = then_read ts ts [] (a_name ts) _ (named_spells ts) refl (λ n h. read_some ts _ h)
 
 variable_spells : (ts : List Token) → Spells expression_spelling ts (variable ts)
-variable_spells ts = then_read ts ts [] (named ts) _ (named_spells ts) refl (λ n h. read_some ts _ h)
+variable_spells ts = then_read ts ts [] (a_name ts) _ (named_spells ts) refl (λ n h. read_some ts _ h)
 
 operand_kind : (k : Kind) (p : Place) (ts : List Token) → Spells expression_spelling (token k p ∷ ts) (integer_or ts (integer_kind k) (variable (token k p ∷ ts)))
 operand_kind (Number n) p ts = read_some _ (Constant (Int n), ts) refl
@@ -244,7 +244,7 @@ condition_spells ts = then_read ts ts [] (sum ts) _ (sum_spells ts) refl (λ e h
 assignment_spells : (ts : List Token) → Spells statement_spelling ts (assignment ts)
 unfolding assignment
 assignment_spells ts =
-    then_read ts ts [] (named ts) _ (named_spells ts) refl
+    then_read ts ts [] (a_name ts) _ (named_spells ts) refl
     (λ n h. then_read ts n.1 (Word n.0.name ∷ []) (after (λ t. is_equal t.kind) n.1) _ (skip_equal n.1) h
     (λ r h. then_read ts r (Word n.0.name ∷ Comparator Equal ∷ []) (sum r) _ (sum_spells r) h
     (λ v h. then_read ts v.1 (Word n.0.name ∷ Comparator Equal ∷ expression_spelling v.0) (after (λ t. is_semicolon t.kind) v.1) _ (skip_semicolon v.1) h
@@ -297,8 +297,8 @@ others_spelled (b ∷ bs) o =
     ∙ ap (λ (ks : List Kind). Word (codes "else") ∷ ks) (if_else_spelled b.place b.condition b.body (others_tree bs o))
 
 module _ (inner : List Token → Reading Stmt) (inner_spells : (ts : List Token) → Spells statement_spelling ts (inner ts)) where
-  branch_spells : (ts : List Token) → Spells branch_spelling ts (branch inner ts)
-  unfolding branch
+  branch_spells : (ts : List Token) → Spells branch_spelling ts (if_branch inner ts)
+  unfolding if_branch
   branch_spells ts =
       then_read ts ts [] (if_place ts) _ (if_place_spells ts) refl
       (λ p h. then_read ts p.1 (Word (codes "if") ∷ []) (condition p.1) _ (condition_spells p.1) h
@@ -312,7 +312,7 @@ module _ (inner : List Token → Reading Stmt) (inner_spells : (ts : List Token)
   unfolding else_if
   else_if_spells ts =
       then_read ts ts [] (after (is_word (codes "else")) ts) _ (skip_word (codes "else") else_plain ts) refl
-      (λ r h. read_last ts r (Word (codes "else") ∷ []) (branch inner r) (branch_spells r) h (λ b. refl))
+      (λ r h. read_last ts r (Word (codes "else") ∷ []) (if_branch inner r) (branch_spells r) h (λ b. refl))
 
   else_part_spells : (ts : List Token) → Spells else_spelling ts (else_part inner ts)
   unfolding else_part
@@ -325,7 +325,7 @@ module _ (inner : List Token → Reading Stmt) (inner_spells : (ts : List Token)
   conditional_spells : (ts : List Token) → Spells statement_spelling ts (conditional inner ts)
   unfolding conditional
   conditional_spells ts =
-      then_read ts ts [] (branch inner ts) _ (branch_spells ts) refl
+      then_read ts ts [] (if_branch inner ts) _ (branch_spells ts) refl
       (λ b h. then_read ts b.1 (branch_spelling b.0) (repeated begins_else_if (else_if inner) b.1) _ (repeated_spells else_if_spelling begins_else_if (else_if inner) else_if_spells b.1) h
       (λ bs h. then_read ts bs.1 (branch_spelling b.0 ++ joined else_if_spelling bs.0) (else_part inner bs.1) _ (else_part_spells bs.1) h
       (λ o h. read_some ts (if_else b.0.place b.0.condition b.0.body (others_tree bs.0 o.0), o.1)

@@ -15,6 +15,7 @@ use Rattle.ds2_draft_source.specs.declared.token.Named.{Named}
 use Rattle.ds2_draft_source.specs.Reserved.{is_reserved}
 
 infixl 10 ◌>>=◌
+-- goes on with what was read, where there is something
 abbrev pub ◌>>=◌ : {A B : Type 0} → Option A → (A → Option B) → Option B
 o >>= f = option_and_then f o
 
@@ -24,31 +25,36 @@ Reading A = Option (A × List Token)
 
 -- single tokens
 
--- a token is this word, given in lower case
+-- a kind of token is this word, given in lower case
 abbrev pub is_word_kind : List ℕ → Kind → Bool
 is_word_kind word (Word w) = bytes_eq w word
 is_word_kind word _ = false
 
+-- a token is this word
 abbrev pub is_word : List ℕ → Token → Bool
 is_word word t = is_word_kind word t.kind
 
--- the marks `;`, `(`, `)` and `=`
+-- the mark `;`
 abbrev pub is_semicolon : Kind → Bool
 is_semicolon Semicolon = true
 is_semicolon _ = false
 
+-- the mark `(`
 abbrev pub is_open : Kind → Bool
 is_open Open = true
 is_open _ = false
 
+-- the mark `)`
 abbrev pub is_close : Kind → Bool
 is_close Close = true
 is_close _ = false
 
+-- the comparison `=`
 abbrev pub is_equal_comparison : Comparison → Bool
 is_equal_comparison compare.Equal = true
 is_equal_comparison _ = false
 
+-- the mark `=`
 abbrev pub is_equal : Kind → Bool
 is_equal (Comparator c) = is_equal_comparison c
 is_equal _ = false
@@ -90,14 +96,14 @@ named_by t ts None = None
 named_by t ts (Some name) = Some (record { name = name; place = t.place }, ts)
 
 -- a name at its place
-unfoldable pub named : List Token → Reading Named
-named [] = None
-named (t ∷ ts) = named_by t ts (name_of_kind t.kind)
+unfoldable pub a_name : List Token → Reading Named
+a_name [] = None
+a_name (t ∷ ts) = named_by t ts (name_of_kind t.kind)
 
 -- a name
 unfoldable pub name : List Token → Reading (List ℕ)
 name ts = do
-  n ← named ts
+  n ← a_name ts
   Some (n.0.name, n.1)
 
 -- whether the first token is a name
@@ -112,7 +118,7 @@ integer_kind _ = None
 -- a variable at the place of its name
 abbrev pub variable : List Token → Reading Expr
 variable ts = do
-  n ← named ts
+  n ← a_name ts
   Some (Variable n.0.name n.0.place, n.1)
 
 -- the integer, where there is one, and else the other
@@ -207,7 +213,7 @@ condition ts = do
 -- `name = sum;`
 unfoldable pub assignment : List Token → Reading Stmt
 assignment ts = do
-  target ← named ts
+  target ← a_name ts
   rest ← after (λ t. is_equal t.kind) target.1
   value ← sum rest
   rest ← after (λ t. is_semicolon t.kind) value.1
@@ -225,8 +231,8 @@ if_place [] = None
 if_place (t ∷ ts) = if is_word (codes "if") t then Some (t.place, ts) else None
 
 -- `if condition then statement`
-unfoldable pub branch : (List Token → Reading Stmt) → List Token → Reading Branch
-branch inner ts = do
+unfoldable pub if_branch : (List Token → Reading Stmt) → List Token → Reading Branch
+if_branch inner ts = do
   place ← if_place ts
   test ← condition place.1
   rest ← after (is_word (codes "then")) test.1
@@ -242,7 +248,7 @@ begins_else_if (t ∷ ts) = is_word (codes "else") t && begins (is_word (codes "
 unfoldable pub else_if : (List Token → Reading Stmt) → List Token → Reading Branch
 else_if inner ts = do
   rest ← after (is_word (codes "else")) ts
-  branch inner rest
+  if_branch inner rest
 
 -- the statement behind an `else`, where there is one
 unfoldable pub else_part : (List Token → Reading Stmt) → List Token → Reading (Option Stmt)
@@ -261,7 +267,7 @@ others_tree (b ∷ bs) o = Some (if_else b.place b.condition b.body (others_tree
 -- an `if`, its chained `else if` parts and its `else` part
 unfoldable pub conditional : (List Token → Reading Stmt) → List Token → Reading Stmt
 conditional inner ts = do
-  first ← branch inner ts
+  first ← if_branch inner ts
   others ← repeated begins_else_if (else_if inner) first.1
   last ← else_part inner others.1
   Some (if_else first.0.place first.0.condition first.0.body (others_tree others.0 last.0), last.1)

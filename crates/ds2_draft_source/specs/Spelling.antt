@@ -40,6 +40,7 @@ abbrev mutual
   expression_spelling (Chain first rest) = expression_spelling first ++ terms_spelling rest
   expression_spelling (Compare comparison left right) = expression_spelling left ++ Comparator comparison ∷ expression_spelling right
 
+  -- each further operand behind its sign
   pub terms_spelling : Terms → List Kind
   terms_spelling NoTerm = []
   terms_spelling (Term sign operand rest) = Operator sign ∷ expression_spelling operand ++ terms_spelling rest

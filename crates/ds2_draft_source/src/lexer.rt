@@ -3,7 +3,7 @@ ghost use Rattle.std.specs.Prelude.{◌≡◌, ◌<◌, ◌≤◌, length, ◌++
 ghost use Rattle.std.specs.List.{prefix_len};
 ghost use Rattle.std.specs.Str.{IsUtf8};
 ghost use Rattle.ds2_base.specs.Place.{place_past};
-ghost use Rattle.ds2_draft_source.specs.Tokens.{is_gap, is_word_start, is_word_byte, is_digit, word_of, number_of, mark_of_one, mark_of_two, sized, mark, word, ends_decimal, number, lexeme, listed, tokens_of};
+ghost use Rattle.ds2_draft_source.specs.Tokens.{is_gap, is_word_start, is_word_byte, is_digit, word_of, digits_number, mark_of_one, mark_of_two, sized, mark, word, ends_decimal, number, lexeme, listed, tokens_of};
 
 use crate::token::{Kind, Lexeme, Token};
 use ds2_base::{List, Name, OutOfMemory, Place, Stop};
@@ -83,7 +83,7 @@ fn word_of(alloc: Global, letters: &[u8]) -> Result<Option<Name>, OutOfMemory>
 
 /// The number that digits spell; None where it passes 64 bits.
 fn number_of(digits: &[u8]) -> Option<i64>
-    ensures { result ≡ number_of digits.now }
+    ensures { result ≡ digits_number digits.now }
 {
     let mut value: u64 = 0;
     for c in digits {

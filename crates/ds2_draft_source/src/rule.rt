@@ -2,8 +2,8 @@
 ghost use Rattle.std.specs.Prelude.{◌≡◌, ◌<◌, length, IfOk, is_some};
 ghost use Rattle.std.specs.Option.{option_copied};
 ghost use Rattle.ds2_draft_source.specs.Reserved.{is_reserved};
-ghost use Rattle.ds2_draft_source.specs.Grammar.{is_word, is_semicolon, is_open, is_close, is_equal, after, begins, name_of_kind, named, name, begins_name};
-ghost use Rattle.ds2_draft_source.specs.Reads.{Reads, ReadsAlways};
+ghost use Rattle.ds2_draft_source.specs.Grammar.{is_word, is_semicolon, is_open, is_close, is_equal, after, begins, name_of_kind, a_name, name, begins_name};
+ghost use Rattle.ds2_draft_source.specs.Reads.{RuleReads, ReadsAlways};
 
 use crate::token::{Kind, Named, Token};
 use ds2_base::{Name, Stop};
@@ -195,9 +195,9 @@ pub fn begins_name(tokens: &[Token]) -> bool
 }
 
 /// The name at the front with its place, and the tokens after it.
-#[tactic(auto, unfolding(crate::specs::Grammar::named))]
+#[tactic(auto, unfolding(crate::specs::Grammar::a_name))]
 pub fn named(alloc: Global, tokens: &[Token]) -> Result<(Named, &[Token]), Stop<OtherForm>>
-    ensures reads { Reads (λ r. (r.0, r.1.now)) result (named tokens.now) }
+    ensures reads { RuleReads (λ r. (r.0, r.1.now)) result (a_name tokens.now) }
     ensures shorter { IfOk result (λ r. length r.1.now < length tokens.now) }
 {
     let [first, rest @ ..] = tokens else {
@@ -214,7 +214,7 @@ pub fn named(alloc: Global, tokens: &[Token]) -> Result<(Named, &[Token]), Stop<
 /// The name at the front, and the tokens after it.
 #[tactic(auto, unfolding(crate::specs::Grammar::name))]
 pub fn name(alloc: Global, tokens: &[Token]) -> Result<(Name, &[Token]), Stop<OtherForm>>
-    ensures reads { Reads (λ r. (r.0, r.1.now)) result (name tokens.now) }
+    ensures reads { RuleReads (λ r. (r.0, r.1.now)) result (name tokens.now) }
     ensures shorter { IfOk result (λ r. length r.1.now < length tokens.now) }
 {
     let (Named { name, place: _ }, rest) = named(alloc, tokens)?;

@@ -16,12 +16,14 @@ use Rattle.ds2_meaning.specs.Tree.{Expr, Constant, Variable, Chain, Compare, Ter
 use Rattle.ds2_meaning.specs.Program.{Program}
 
 abbrev mutual
+  -- the expression that the code holds
   pub expr_tree : code.Expr → Expr
   expr_tree (expr.Constant v) = Constant v
   expr_tree (expr.Variable name place) = Variable name place
   expr_tree (expr.Chain' p first n rest) = Chain (expr_tree first) (terms_row rest)
   expr_tree (expr.Compare' comparison p left q right) = Compare comparison (expr_tree left) (expr_tree right)
 
+  -- the further operands that the code holds in a row
   pub terms_row : {m : _} → Row_of-Term m → Terms
   terms_row end_of-Term = NoTerm
   terms_row (more_of-Term sign operand rest) = Term sign (expr_tree operand) (terms_row rest)
@@ -32,6 +34,7 @@ if_else p t s None = If p t s
 if_else p t s (Some o) = IfElse p t s o
 
 abbrev mutual
+  -- the statement that the code holds
   pub stmt_tree : code_stmt.Stmt → Stmt
   stmt_tree (stmt.Assign p target e) = Assign p target (expr_tree e)
   stmt_tree (stmt.If' p t q s n k None') = if_else p (expr_tree t) (stmt_tree s) (others_row k None)
@@ -42,19 +45,22 @@ abbrev mutual
   others_row end_of-Arm o = o
   others_row (more_of-Arm p t s k) o = Some (if_else p (expr_tree t) (stmt_tree s) (others_row k o))
 
--- operands, `else if` parts and statements that the code holds in a list
+-- the further operands that the code holds in a list
 abbrev pub terms_of : List code_term.Term → Terms
 terms_of [] = NoTerm
 terms_of (t ∷ ts) = Term t.sign (expr_tree t.operand) (terms_of ts)
 
+-- the else part that a list of `else if` parts makes of the last one
 abbrev pub others_of : List code_arm.Arm → Option Stmt → Option Stmt
 others_of [] o = o
 others_of (a ∷ more) o = Some (if_else a.place (expr_tree a.condition) (stmt_tree a.then) (others_of more o))
 
+-- the last else part, where there is one
 abbrev pub otherwise_tree : Option (Box code_stmt.Stmt Global) → Option Stmt
 otherwise_tree None = None
 otherwise_tree (Some o) = Some (stmt_tree o.value)
 
+-- the statements that the code holds in a list
 abbrev pub stmts_of : List code_stmt.Stmt → Stmts
 stmts_of [] = NoStmt
 stmts_of (s ∷ ss) = Then (stmt_tree s) (stmts_of ss)
