@@ -100,7 +100,7 @@ def imports(text, found):
         if not words:
             continue
         local = words[2] if len(words) == 3 and words[1] == "as" else (alias or words[0])
-        found[local] = (crate, file, words[0])
+        found[local.strip("◌")] = (crate, file, words[0])
 
 
 def crates():
@@ -124,9 +124,10 @@ def resolve(all_files):
     """Ties each definition to those that its text cites."""
     by_name = {(f.crate, f.path.stem, d.name): d for f in all_files for d in f.definitions}
     for file in all_files:
-        own = {d.name: d for d in file.definitions}
+        own = {d.name.strip("◌"): d for d in file.definitions}
         for definition in file.definitions:
             for token in TOKEN.findall(" ".join(definition.text)):
+                token = ">>=" if token == "←" else token
                 other = own.get(token) or by_name.get(file.imports.get(token))
                 if other is not None and other is not definition and other not in definition.cited:
                     definition.cited.append(other)
