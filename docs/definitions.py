@@ -5,8 +5,9 @@ usage: docs/definitions.py            writes the list
        docs/definitions.py --check    refuses a definition without a sentence, one whose name another
                                       file has, and a list that is not what this script writes
 
-What the headline says comes first: the definitions that the clauses of `ds2` cite, and those that
-these stand on. The others follow, crate by crate in the order of crates.txt.
+What the headline says comes first: the definitions that the clauses of `ds2` cite with those that
+these cite, and then all that they stand on. The others follow, crate by crate in the order of
+crates.txt.
 """
 import re
 import sys
@@ -186,7 +187,16 @@ def by_crate(all_files, wanted, order):
     return out
 
 
+def with_next(cited):
+    """These definitions, each followed by those that it cites."""
+    found = []
+    for definition in cited:
+        found += [d for d in [definition] + definition.cited if d not in found]
+    return found
+
+
 def written(all_files, cited):
+    cited = with_next(cited)
     first = below(cited)
     rest = {d for f in all_files for d in f.definitions} - first
     order = list(crates())
@@ -199,7 +209,7 @@ def written(all_files, cited):
         "",
         "## What the headline says",
         "",
-        f"The clauses of `{HEADLINE[1]}` in `crates/{HEADLINE[0]}` cite these.",
+        f"The clauses of `{HEADLINE[1]}` in `crates/{HEADLINE[0]}` cite these, or these cite them.",
         "",
     ]
     out += [f"- `{d.name}` ({d.crate}, specs/{d.path.name}): {d.sentence}" for d in cited]

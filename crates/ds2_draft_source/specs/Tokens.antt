@@ -18,12 +18,12 @@ abbrev pub is_gap : ℕ → Bool
 is_gap c = c == 32 || c == 9 || c == 13 || c == 10
 
 -- a letter or `_`
-abbrev pub is_word_start : ℕ → Bool
-is_word_start c = is_ascii_alphabetic c || c == 95
+abbrev pub starts_word : ℕ → Bool
+starts_word c = is_ascii_alphabetic c || c == 95
 
 -- a letter, `_` or a digit
 abbrev pub is_word_byte : ℕ → Bool
-is_word_byte c = is_word_start c || is_ascii_digit c
+is_word_byte c = starts_word c || is_ascii_digit c
 
 -- a digit
 abbrev pub is_digit : ℕ → Bool
@@ -75,9 +75,9 @@ sized n None = None
 sized n (Some kind) = Some (record { kind = Some kind; size = n })
 
 -- what a word is as a token
-abbrev pub word_kind : Option (List ℕ) → Option Kind
-word_kind None = None
-word_kind (Some word) = Some (Word word)
+abbrev pub kind_of_word : Option (List ℕ) → Option Kind
+kind_of_word None = None
+kind_of_word (Some word) = Some (Word word)
 
 -- what an integer is as a token
 abbrev pub number_kind : Option ℤ → Option Kind
@@ -102,7 +102,7 @@ ends_decimal (c ∷ cs) = c == 110 || c == 78
 
 -- the longest word at the front of a text
 abbrev pub word : List ℕ → Option Lexeme
-word text = sized (prefix_len is_word_byte text) (word_kind (word_of (take_while is_word_byte text)))
+word text = sized (prefix_len is_word_byte text) (kind_of_word (word_of (take_while is_word_byte text)))
 
 -- the longest integer at the front of a text; digits with an `n` are none
 abbrev pub number : List ℕ → Option Lexeme
@@ -115,7 +115,7 @@ unfoldable pub lexeme : List ℕ → Option Lexeme
 lexeme [] = None
 lexeme (c ∷ cs) =
     if is_gap c then Some (record { kind = None; size = 1 })
-    else (if is_word_start c then word (c ∷ cs)
+    else (if starts_word c then word (c ∷ cs)
     else (if is_digit c then number (c ∷ cs)
     else mark (c ∷ cs)))
 

@@ -1,6 +1,6 @@
 //! Statements.
 ghost use Rattle.std.specs.Prelude.{◌≡◌, ◌<◌, ◌≤◌, length, map, not, IfOk};
-ghost use Rattle.ds2_meaning.specs.View.{otherwise_tree, stmt_tree};
+ghost use Rattle.ds2_meaning.specs.View.{else_tree, stmt_tree};
 ghost use Rattle.ds2_draft_source.specs.Grammar.{repeated, assignment, if_place, if_branch, begins_else_if, else_if, else_part, conditional, nested, statement, statements};
 ghost use Rattle.ds2_draft_source.specs.Reads.{RuleReads, ReadsAlways};
 ghost use Rattle.ds2_draft_source.specs.Views.{branch_tree};
@@ -115,7 +115,7 @@ fn else_part(
     levels: u8,
     tokens: &[Token],
 ) -> Result<(Option<Box<Stmt>>, &[Token]), Stop<OtherForm>>
-    ensures reads { RuleReads (λ r. (otherwise_tree r.0, r.1.now)) result (else_part (nested levels) tokens.now) }
+    ensures reads { RuleReads (λ r. (else_tree r.0, r.1.now)) result (else_part (nested levels) tokens.now) }
     ensures shorter { IfOk result (λ r. length r.1.now ≤ length tokens.now) }
 {
     if !begins_word(tokens, "else") {

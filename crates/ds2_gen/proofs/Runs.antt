@@ -8,7 +8,7 @@ use Rattle.ds2_meaning.specs.declared.tree.Sign.{Sign}
 use Rattle.ds2_meaning.specs.declared.tree.Sign.TheVariants.{Plus, Minus}
 use Rattle.ds2_meaning.specs.Tree.{Expr, Constant, Variable, Chain, Compare, Terms, NoTerm, Term, Stmt, Assign, If, IfElse, Stmts, NoStmt, Then}
 use Rattle.ds2_meaning.specs.Meaning.{DataVector, Gave, sum_or_difference, evaluate, evaluate_terms, exec, exec_all, done}
-use Rattle.ds2_meaning.specs.Program.{is_among}
+use Rattle.ds2_meaning.specs.Program.{lists_name}
 use Rattle.ds2_meaning.specs.Names.{or_next, sought, sought_in, sought_in_stmt, sought_in_all}
 use Rattle.ds2_layout.specs.Slots.{slot_number}
 use Rattle.ds2_code.specs.declared.instr.Instr.TheVariants.{Const, GLoad, ICmp}
@@ -35,8 +35,8 @@ test_known : (b : Bool) (p : Place) → cond (not b) (Some p) None ≡ None → 
 test_known true p h = refl
 test_known false p h = absurd cc
 
-name_known : (known : List (List ℕ)) (name : List ℕ) (p : Place) → sought false known name p ≡ None → is_among known name ≡ true
-name_known known name p h = test_known (is_among known name) p h
+name_known : (known : List (List ℕ)) (name : List ℕ) (p : Place) → sought false known name p ≡ None → lists_name known name ≡ true
+name_known known name p h = test_known (lists_name known name) p h
 
 -- ---- expressions
 

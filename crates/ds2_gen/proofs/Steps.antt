@@ -7,7 +7,7 @@ use Rattle.ds2_value.specs.declared.fault.Fault.{Fault}
 use Rattle.ds2_value.specs.Value.{truth_of, is_yes}
 use Rattle.ds2_value.specs.Run.{Rest, Outcome, Done, Stopped}
 use Rattle.ds2_meaning.specs.Meaning.{DataVector, World, Evaluated, Gave, Broke, with_operand, operation_end, with_value, then_do, spend, begin, choose, assign, done}
-use Rattle.ds2_meaning.specs.Program.{is_among}
+use Rattle.ds2_meaning.specs.Program.{lists_name}
 use Rattle.ds2_layout.specs.Slots.{slot_number, named}
 use Rattle.ds2_code.specs.declared.instr.Instr.{Instr}
 use Rattle.ds2_code.specs.declared.instr.Instr.TheVariants.{GStore, Tick, Jump, JFalse}
@@ -122,7 +122,7 @@ module _ (code : ProgramCode) (names : List (List ℕ)) where
   choose_runs at t v stack slots rest to c x y here k l = branch_runs (is_yes (truth_of v)) at t v stack slots rest to c x y here refl k l
 
   -- a value goes into a slot
-  pub store_runs : (at : ℕ) (v : Value) (stack : List Value) (slots : Slots) (rest : Rest) (target : List ℕ) (c : DataVector) → slice_get code.instrs at ≡ Some (GStore (slot_number names target)) → is_among names target ≡ true → Holds slots c
+  pub store_runs : (at : ℕ) (v : Value) (stack : List Value) (slots : Slots) (rest : Rest) (target : List ℕ) (c : DataVector) → slice_get code.instrs at ≡ Some (GStore (slot_number names target)) → lists_name names target ≡ true → Holds slots c
       → Does (mk at (v ∷ stack) slots rest) stack (at + 1) (done (assign target v (world c rest)))
   store_runs at v stack slots rest target c here known h = (
     slice_set slots (slot_number names target) v,

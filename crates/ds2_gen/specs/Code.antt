@@ -6,7 +6,7 @@ use Rattle.ds2_value.specs.declared.schema.Column.{Column}
 use Rattle.ds2_meaning.specs.declared.tree.Sign.{Sign}
 use Rattle.ds2_meaning.specs.declared.tree.Sign.TheVariants.{Plus, Minus}
 use Rattle.ds2_meaning.specs.Tree.{Expr, Constant, Variable, Chain, Compare, Terms, NoTerm, Term, Stmt, Assign, If, IfElse, Stmts, NoStmt, Then}
-use Rattle.ds2_meaning.specs.Program.{Program, is_among, names_of, variables}
+use Rattle.ds2_meaning.specs.Program.{Program, lists_name, names_of, variables}
 use Rattle.ds2_layout.specs.Slots.{slot_number, slot_names}
 use Rattle.ds2_code.specs.declared.instr.Instr.{Instr}
 use Rattle.ds2_code.specs.declared.instr.Instr.TheVariants.{Const, GLoad, GStore, IAdd, ISub, ICmp, Tick, Jump, JFalse, Output, End}
@@ -121,7 +121,7 @@ program_instrs program = body_instrs (slot_names program) program.body
 
 -- the role of a variable where the columns have these names: a column gets its value from the row, any other variable is set to null
 abbrev pub role_among : List (List ℕ) → Column → Role
-role_among columns variable = if is_among columns variable.name then role.Column else role.Null
+role_among columns variable = if lists_name columns variable.name then role.Column else role.Null
 
 -- the role of a variable of a program
 abbrev pub role_of : Program → Column → Role

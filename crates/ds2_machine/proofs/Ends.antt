@@ -12,7 +12,7 @@ use Rattle.ds2_machine.specs.declared.state.Halt.{Halt}
 use Rattle.ds2_machine.specs.declared.state.Halt.TheVariants as halt
 use Rattle.ds2_machine.specs.declared.unit_end.OutRow.{OutRow}
 use Rattle.ds2_machine.specs.UnitEnd.{written_rows, IsToldBy}
-use Rattle.ds2_machine.specs.State.{machine_of, rest_of, ending_of, HasRun, IsEndingOf}
+use Rattle.ds2_machine.specs.State.{machine_of, rest_of_state, ending_of, HasRun, IsEndingOf}
 use Rattle.ds2_machine.specs.Work.{work}
 use Rattle.ds2_machine.proofs.Falls.{most_work}
 
@@ -28,8 +28,8 @@ module _ (code : ProgramCode) (budget : ℕ) (row : List Value) (slots : Slots) 
       cc
 
   pub tells : (n : ℕ) (h : Halt) (s : State) (rows : List OutRow) (e : code_ending.Ending) → HasRun code (machine_of start []) n h s → IsEndingOf h s.place e → rows ≡ s.rows → (outcome : Outcome Slots) × RunsUnit code budget row slots n outcome × IsToldBy outcome (record { rows = rows; ending = e; left = s.left; executed = n }) s.slots
-  tells n halt.Normal s rows e ran is same = (Done s.slots (rest_of s ran.0), from_begin n _ ran.1, (ap written_rows same, is, refl, refl))
-  tells n (halt.Faulted fault) s rows e ran is same = (Stopped fault (rest_of s ran.0), from_begin n _ ran.1, (ap written_rows same, is, refl))
+  tells n halt.Normal s rows e ran is same = (Done s.slots (rest_of_state s ran.0), from_begin n _ ran.1, (ap written_rows same, is, refl, refl))
+  tells n (halt.Faulted fault) s rows e ran is same = (Stopped fault (rest_of_state s ran.0), from_begin n _ ran.1, (ap written_rows same, is, refl))
   tells n halt.Stuck s rows e ran is same = absurd is
 
   pub few_enough : (n : ℕ) → n ≤ work code.instrs start.at start.left → n ≤ (budget + 1) * length code.instrs

@@ -13,17 +13,17 @@ use Rattle.ds2_machine.specs.declared.state.Halt.{Halt}
 use Rattle.ds2_machine.specs.declared.state.Halt.TheVariants as halt
 
 -- all beside the slots; the way is no part of the code's machine
-abbrev pub rest_of : State → List Event → Rest
-rest_of s way = record { place = s.place; left = s.left; way = way; rows = written_rows s.rows }
+abbrev pub rest_of_state : State → List Event → Rest
+rest_of_state s way = record { place = s.place; left = s.left; way = way; rows = written_rows s.rows }
 
 -- the machine that the code's state is, with this way
 abbrev pub machine_of : State → List Event → Machine
-machine_of s way = record { at = s.at; stack = s.operands; slots = s.slots; rest = rest_of s way }
+machine_of s way = record { at = s.at; stack = s.operands; slots = s.slots; rest = rest_of_state s way }
 
 -- how a unit ends
 abbrev pub ending_of : Halt → State → List Event → Ending
-ending_of halt.Normal s way = Finished (Done s.slots (rest_of s way))
-ending_of (halt.Faulted fault) s way = Finished (Stopped fault (rest_of s way))
+ending_of halt.Normal s way = Finished (Done s.slots (rest_of_state s way))
+ending_of (halt.Faulted fault) s way = Finished (Stopped fault (rest_of_state s way))
 ending_of halt.Stuck s way = Stuck
 
 -- what an instruction leads to

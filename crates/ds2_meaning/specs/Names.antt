@@ -2,7 +2,7 @@
 use Rattle.std.specs.Prelude.{◌≡◌, ℕ, Bool, true, false, not, if◌then◌else◌, List, Option, Some, None}
 use Rattle.ds2_base.specs.declared.place.Place.{Place}
 use Rattle.ds2_meaning.specs.Tree.{Expr, Constant, Variable, Chain, Compare, Terms, NoTerm, Term, Stmt, Assign, If, IfElse, Stmts, NoStmt, Then}
-use Rattle.ds2_meaning.specs.Program.{Program, is_among, names_of, variables}
+use Rattle.ds2_meaning.specs.Program.{Program, lists_name, names_of, variables}
 
 -- the first of two places, where there is one
 abbrev pub or_next : Option Place → Option Place → Option Place
@@ -11,8 +11,8 @@ or_next (Some p) b = Some p
 
 -- whether a name is sought: where it is listed, or where it is not
 abbrev pub is_sought : Bool → List (List ℕ) → List ℕ → Bool
-is_sought true names name = is_among names name
-is_sought false names name = not (is_among names name)
+is_sought true names name = lists_name names name
+is_sought false names name = not (lists_name names name)
 
 -- the place of a name that is sought
 abbrev pub sought : Bool → List (List ℕ) → List ℕ → Place → Option Place

@@ -20,12 +20,12 @@ abbrev pub names_of : List Column → List (List ℕ)
 names_of columns = map (λ (c : Column). c.name) columns
 
 -- whether a list of names has a name
-abbrev pub is_among : List (List ℕ) → List ℕ → Bool
-is_among names name = list_any (λ other. bytes_eq other name) names
+abbrev pub lists_name : List (List ℕ) → List ℕ → Bool
+lists_name names name = list_any (λ other. bytes_eq other name) names
 
 -- the columns whose names are not among the declared ones
 abbrev pub not_declared : List (List ℕ) → List Column → List Column
-not_declared declared columns = filter (λ (c : Column). not (is_among declared c.name)) columns
+not_declared declared columns = filter (λ (c : Column). not (lists_name declared c.name)) columns
 
 -- the variables of the program data vector: those that are declared, and then the columns that are not
 abbrev pub variables : Program → List Column
@@ -45,7 +45,7 @@ or_else (Some u) v = u
 -- the variables as a row leaves them: a column has its value of the row, every other variable of the vector is null
 abbrev pub loaded : Program → List Value → DataVector → DataVector
 loaded program row before name =
-    or_else (in_row (names_of program.columns) row name) (if is_among (names_of (variables program)) name then Null else before name)
+    or_else (in_row (names_of program.columns) row name) (if lists_name (names_of (variables program)) name then Null else before name)
 
 -- a row of the output has the variables of the vector in order
 abbrev pub output_row : Program → DataVector → List Value

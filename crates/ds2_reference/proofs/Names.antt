@@ -10,7 +10,7 @@ use Rattle.ds2_value.specs.declared.schema.Column.{Column}
 use Rattle.ds2_value.specs.declared.value.Value.{Value}
 use Rattle.ds2_value.specs.declared.value.Value.TheVariants.{Null}
 use Rattle.ds2_meaning.specs.Meaning.{DataVector}
-use Rattle.ds2_meaning.specs.Program.{names_of, is_among, in_row, or_else}
+use Rattle.ds2_meaning.specs.Program.{names_of, lists_name, in_row, or_else}
 use Rattle.ds2_reference.specs.declared.variables.Store.{Store}
 use Rattle.ds2_reference.specs.Variables.{bound, after_stores, nulled, bound_to_row}
 use Rattle.ds2_reference.proofs.Lists.{item_first}
@@ -49,7 +49,7 @@ clear_step false true rest v e = absurd (true≢false (sym e))
 
 -- variables become null one after the other
 pub clear_one : (name : List ℕ) (names : List (List ℕ)) (before : DataVector) → nulled (name ∷ names) before ≡ nulled names (bound name Null before)
-clear_one name names before = fun_ext (λ n. clear_step (bytes_eq name n) (bytes_eq n name) (is_among names n) (before n) (is_turned name n))
+clear_one name names before = fun_ext (λ n. clear_step (bytes_eq name n) (bytes_eq n name) (lists_name names n) (before n) (is_turned name n))
 
 fill_step : (b d : Bool) (v x : Value) (o : Option Value) → b ≡ d → or_else (cond b (Some v) o) x ≡ cond d v (or_else o x)
 fill_step true true v x o e = refl

@@ -12,7 +12,7 @@ use Rattle.ds2_value.specs.Value.{compared_of, truth_of, is_yes}
 use Rattle.ds2_value.specs.Run.{Event, Began, Did, Tested, Failed, Done}
 use Rattle.ds2_meaning.specs.declared.tree.Sign.{Sign}
 use Rattle.ds2_meaning.specs.Tree.{Expr, Constant, Variable, Chain, Compare, Terms, NoTerm, Term, Stmt, Assign, Stmts, Then}
-use Rattle.ds2_meaning.specs.View.{if_else}
+use Rattle.ds2_meaning.specs.View.{if_with_else}
 use Rattle.ds2_meaning.specs.Meaning.{World, Evaluated, Gave, Broke, StatementEnd, with_operand, operation_end, sum_or_difference, evaluate, evaluate_terms, done, stopped, with_value, then_do, begin, choose, assign, exec, exec_all}
 use Rattle.ds2_reference.specs.declared.evaluator.Evaluator.{Evaluator}
 use Rattle.ds2_reference.specs.declared.variables.Variables.{Variables}
@@ -208,7 +208,7 @@ module _ (p : Place) (e : Expr) (s t : Evaluator) where
 -- ---- an if
 
 -- an if is its test
-if_tests : (p : Place) (e : Expr) (x : Stmt) (o : Option Stmt) (s : Evaluator) (way : List Event) → exec (if_else p e x o) (world_of s way) ≡ test_step p e s (exec x) (exec_rest o) way
+if_tests : (p : Place) (e : Expr) (x : Stmt) (o : Option Stmt) (s : Evaluator) (way : List Event) → exec (if_with_else p e x o) (world_of s way) ≡ test_step p e s (exec x) (exec_rest o) way
 if_tests p e x None s way = refl
 if_tests p e x (Some y) s way = refl
 
@@ -217,9 +217,9 @@ abbrev pub rest_at : Option Stmt → Evaluator → List Event → StatementEnd
 rest_at o s = λ way. exec_rest o (world_of s way)
 
 -- a run that has come to an if
-module _ (all : List Event → StatementEnd) (a : Option Stmt) (p : Place) (e : Expr) (x : Stmt) (o : Option Stmt) (s t : Evaluator) (is : a ≡ Some (if_else p e x o)) (so_far : LeadsTo all (rest_at a s)) where
+module _ (all : List Event → StatementEnd) (a : Option Stmt) (p : Place) (e : Expr) (x : Stmt) (o : Option Stmt) (s t : Evaluator) (is : a ≡ Some (if_with_else p e x o)) (so_far : LeadsTo all (rest_at a s)) where
   tests : LeadsTo all (test_step p e s (exec x) (exec_rest o))
-  tests = leads_on all (rest_at (Some (if_else p e x o)) s) (test_step p e s (exec x) (exec_rest o)) (subst (λ z. LeadsTo all (rest_at z s)) is so_far) (λ way. (way, if_tests p e x o s way))
+  tests = leads_on all (rest_at (Some (if_with_else p e x o)) s) (test_step p e s (exec x) (exec_rest o)) (subst (λ z. LeadsTo all (rest_at z s)) is so_far) (λ way. (way, if_tests p e x o s way))
 
   tested : (b : Bool) → HasTested p e s t (Ok b) → LeadsTo all (λ way. cond b (exec x) (exec_rest o) (world_of t way))
   tested b h = leads_on all (test_step p e s (exec x) (exec_rest o)) (λ way. cond b (exec x) (exec_rest o) (world_of t way)) tests (h (exec x) (exec_rest o))

@@ -4,7 +4,7 @@ use Rattle.ds2_value.specs.declared.schema.Column.{Column}
 use Rattle.ds2_value.specs.declared.value.Value.{Value}
 use Rattle.ds2_value.specs.declared.value.Value.TheVariants.{Null}
 use Rattle.ds2_meaning.specs.Meaning.{DataVector}
-use Rattle.ds2_meaning.specs.Program.{is_among, in_row, or_else}
+use Rattle.ds2_meaning.specs.Program.{lists_name, in_row, or_else}
 use Rattle.ds2_reference.specs.declared.variables.Store.{Store}
 use Rattle.ds2_reference.specs.declared.variables.Variables.{Variables}
 
@@ -27,7 +27,7 @@ forgotten = record { stores = [] }
 
 -- variables with these names become null
 abbrev pub nulled : List (List ℕ) → DataVector → DataVector
-nulled names before = λ name. if is_among names name then Null else before name
+nulled names before = λ name. if lists_name names name then Null else before name
 
 -- columns with these names get the values of a row
 abbrev pub bound_to_row : List (List ℕ) → List Value → DataVector → DataVector
