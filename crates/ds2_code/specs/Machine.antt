@@ -67,25 +67,26 @@ tick zero p m = Stops (Finished (Stopped BudgetSpent (record { place = p; left =
 tick (suc n) p m = step_to m.stack m.slots (record { place = p; left = n; way = m.rest.way ++ Began p ∷ []; rows = m.rest.rows }) m
 
 -- the value of a slot or of a constant
-abbrev pub value_at : List Value → ℕ → Value
-value_at values n = or_null (slice_get values n)
+abbrev pub numbered_value : List Value → ℕ → Value
+numbered_value values n = or_null (slice_get values n)
 
--- the slots of an output
+-- the slots, where there are some
 abbrev pub or_none : Option (List ℕ) → List ℕ
 or_none None = []
 or_none (Some slots) = slots
 
+-- the slots of the columns of an output
 abbrev pub output_slots : ProgramCode → ℕ → List ℕ
 output_slots code output = or_none (slice_get code.outputs output)
 
 -- the row of an output
 abbrev pub row_of : List ℕ → Slots → List Value
-row_of columns slots = map (λ slot. value_at slots slot) columns
+row_of columns slots = map (λ slot. numbered_value slots slot) columns
 
--- one row of the machine's table
+-- what one instruction does
 abbrev pub act : ProgramCode → Instr → Machine → Next
-act code (Const k) m = operate (Ok (value_at code.constants k)) m.stack m
-act code (GLoad slot) m = operate (Ok (value_at m.slots slot)) m.stack m
+act code (Const k) m = operate (Ok (numbered_value code.constants k)) m.stack m
+act code (GLoad slot) m = operate (Ok (numbered_value m.slots slot)) m.stack m
 act code (GStore slot) m = on_store slot m.stack m
 act code IAdd m = on_two sum_of m.stack m
 act code ISub m = on_two difference_of m.stack m
@@ -124,3 +125,9 @@ run code (suc n) m = go_on (step code (slice_get code.instrs m.at) m) (run code 
 -- a run from a machine ends so, whatever the number of instructions
 abbrev pub Ends : ProgramCode → Machine → Ending → Type 0
 Ends code m e = (n : ℕ) × (run code n m ≡ Over n e)
+
+-- a run from a machine has one end: what ends twice ends alike, after as many instructions
+abbrev pub HasOneEnd : Type 0
+HasOneEnd =
+    (code : ProgramCode) (n k i j : ℕ) (m : Machine) (e f : Ending)
+    → run code n m ≡ Over i e → run code k m ≡ Over j f → (i ≡ j) × (e ≡ f)

@@ -23,15 +23,15 @@ cleared (r ∷ roles) [] = []
 cleared (r ∷ roles) (v ∷ slots) = cleared_slot r v ∷ cleared roles slots
 
 -- the slots of the columns have the values of a row, the first where a slot stands more than once
-abbrev pub filled : List ℕ → List Value → Slots → Slots
-filled [] row slots = slots
-filled (slot ∷ columns) [] slots = slots
-filled (slot ∷ columns) (v ∷ row) slots = slice_set (filled columns row slots) slot v
+abbrev pub loaded_slots : List ℕ → List Value → Slots → Slots
+loaded_slots [] row slots = slots
+loaded_slots (slot ∷ columns) [] slots = slots
+loaded_slots (slot ∷ columns) (v ∷ row) slots = slice_set (loaded_slots columns row slots) slot v
 
 -- the machine that begins the unit `run` on a row
 abbrev pub begun : ProgramCode → ℕ → List Value → Slots → Machine
 begun code budget row slots =
-    record { at = 0; stack = []; slots = filled code.columns row (cleared code.slots slots); rest = opening budget }
+    record { at = 0; stack = []; slots = loaded_slots code.columns row (cleared code.slots slots); rest = opening budget }
 
 -- the unit `run` on a row ends so, after so many instructions
 abbrev pub RunsUnit : ProgramCode → ℕ → List Value → Slots → ℕ → Outcome Slots → Type 0

@@ -28,7 +28,8 @@ IsSound code =
     (budget : ℕ) (row : List Value) (slots : Slots) → length slots ≡ length code.slots → length row ≡ length code.columns
     → (executed : ℕ) × (outcome : Outcome Slots) × RunsUnit code budget row slots executed outcome
 
-pub record IsValid (code : ProgramCode) : Type 0 where
+-- code that is valid: its jumps are bounded, its units end and are not stuck, and its numbers fit 32 bits
+pub record IsValidCode (code : ProgramCode) : Type 0 where
   pub timed : IsTimed code.instrs
   pub sound : IsSound code
   pub short : length code.instrs < 2 ^ 32

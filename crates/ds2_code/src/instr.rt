@@ -5,7 +5,8 @@ use ds2_value::Comparison;
 
 /// One instruction. It takes its operands from the top of the operand stack and puts its result there.
 ///
-/// A target is the number of an instruction, a slot the number of a global variable.
+/// A target is the number of an instruction, a slot the number of a global variable. A new instruction touches the files
+/// that docs/ARCHITECTURE.md lists under 'To add a statement'.
 #[derive(Clone, Copy, PartialEq, Eq, Debug)]
 pub enum Instr {
     /// Pushes the constant of this number.

@@ -10,7 +10,7 @@ use Rattle.ds2_base.specs.declared.place.Place.{Place}
 use Rattle.ds2_draft_source.specs.declared.token.Token.{Token}
 use Rattle.ds2_draft_source.specs.declared.token.Lexeme.{Lexeme}
 use Rattle.ds2_draft_source.specs.declared.token.Kind.{Kind}
-use Rattle.ds2_draft_source.specs.Tokens.{is_word_byte, with_digit, value_of, number_of, lexeme, listed, in_front, after_lexeme, tokens_from}
+use Rattle.ds2_draft_source.specs.Tokens.{is_word_byte, with_digit, digits_value, digits_number, lexeme, listed, in_front, after_lexeme, tokens_from}
 
 cons_ascii : (c : ℕ) (cs : List ℕ) → c < 128 → IsAscii cs → IsAscii (c ∷ cs)
 cons_ascii c cs h rest zero = h
@@ -48,12 +48,12 @@ tokens_past (suc k) place [] h = absurd (omega arith)
 tokens_past (suc k) place (c ∷ cs) h = tokens_past k (place_after place c) cs (omega arith)
 
 -- a number that has grown past 64 bits is none
-pub number_stops : (digits : List ℕ) (n i : ℕ) → fold with_digit n (drop i digits) ≡ value_of digits → i < length digits
-    → 2 ^ 63 ≤ with_digit n (get_or digits i 0) → None ≡ number_of digits
+pub number_stops : (digits : List ℕ) (n i : ℕ) → fold with_digit n (drop i digits) ≡ digits_value digits → i < length digits
+    → 2 ^ 63 ≤ with_digit n (get_or digits i 0) → None ≡ digits_number digits
 number_stops digits n i sofar within large =
     let e = sym sofar ∙ ap (λ (ds : List ℕ). fold with_digit n ds) (drop-cons digits i 0 within) in
     let grown = fold_grows (with_digit n (get_or digits i 0)) (drop (suc i) digits) in
-    let h : 2 ^ 63 ≤ value_of digits = omega (arith, e, grown, large) in
+    let h : 2 ^ 63 ≤ digits_value digits = omega (arith, e, grown, large) in
     grind (arith, nat_tests)
 
 take_cons : (k c : ℕ) (cs : List ℕ) → take (suc k) (c ∷ cs) ≡ c ∷ take k cs

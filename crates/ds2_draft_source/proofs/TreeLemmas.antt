@@ -10,7 +10,7 @@ use Rattle.ds2_meaning.specs.declared.tree.Arm as code_arm
 use Rattle.ds2_meaning.specs.declared.tree.Stmt as code_stmt
 use Rattle.ds2_meaning.specs.declared.tree.Stmt.TheVariants as stmt
 use Rattle.ds2_meaning.specs.Tree.{Chain, Terms, Term, Stmt, Stmts, Then}
-use Rattle.ds2_meaning.specs.View.{expr_tree, terms_of, stmt_tree, if_else, others_of, otherwise_tree, stmts_of}
+use Rattle.ds2_meaning.specs.View.{expr_tree, terms_of, stmt_tree, if_with_else, arms_of, else_tree, stmts_of}
 use Rattle.ds2_meaning.proofs.Rows.{chain_tree, if_tree}
 use Rattle.ds2_draft_source.specs.Grammar.{terms_tree, sum_tree, others_tree, stmts_tree}
 use Rattle.ds2_draft_source.specs.Views.{term_pair, branch_tree}
@@ -27,17 +27,17 @@ chain_is_sum a first (t ∷ ts) e some =
     ap (λ (x : code.Expr). Chain (expr_tree x) (terms_tree (map term_pair (t ∷ ts)))) (sym e)
     ∙ ap (λ (k : Terms). Chain (expr_tree a.value) k) (sym (terms_same (t ∷ ts))) ∙ sym (chain_tree a (t ∷ ts))
 
-others_same : (arms : List code_arm.Arm) (o : Option Stmt) → others_of arms o ≡ others_tree (map branch_tree arms) o
+others_same : (arms : List code_arm.Arm) (o : Option Stmt) → arms_of arms o ≡ others_tree (map branch_tree arms) o
 others_same [] o = refl
-others_same (a ∷ arms) o = ap (λ (r : Option Stmt). Some (if_else a.place (expr_tree a.condition) (stmt_tree a.then) r)) (others_same arms o)
+others_same (a ∷ arms) o = ap (λ (r : Option Stmt). Some (if_with_else a.place (expr_tree a.condition) (stmt_tree a.then) r)) (others_same arms o)
 
 -- an `if` is its first branch with the others
 pub if_is_conditional : (p : Place) (t : code.Expr) (s : Box code_stmt.Stmt Global) (body : code_stmt.Stmt) (arms : List code_arm.Arm) (o : Option (Box code_stmt.Stmt Global))
     → s.value ≡ body
-    → if_else p (expr_tree t) (stmt_tree body) (others_tree (map branch_tree arms) (otherwise_tree o)) ≡ stmt_tree (stmt.If p t s arms o)
+    → if_with_else p (expr_tree t) (stmt_tree body) (others_tree (map branch_tree arms) (else_tree o)) ≡ stmt_tree (stmt.If p t s arms o)
 if_is_conditional p t s body arms o e =
-    ap (λ (b : code_stmt.Stmt). if_else p (expr_tree t) (stmt_tree b) (others_tree (map branch_tree arms) (otherwise_tree o))) (sym e)
-    ∙ ap (λ (r : Option Stmt). if_else p (expr_tree t) (stmt_tree s.value) r) (sym (others_same arms (otherwise_tree o)))
+    ap (λ (b : code_stmt.Stmt). if_with_else p (expr_tree t) (stmt_tree b) (others_tree (map branch_tree arms) (else_tree o))) (sym e)
+    ∙ ap (λ (r : Option Stmt). if_with_else p (expr_tree t) (stmt_tree s.value) r) (sym (others_same arms (else_tree o)))
     ∙ sym (if_tree p t s arms o)
 
 pub stmts_same : (ss : List code_stmt.Stmt) → stmts_tree (map stmt_tree ss) ≡ stmts_of ss

@@ -7,14 +7,15 @@ use Rattle.ds2_value.specs.declared.comparison.Comparison.{Comparison}
 use Rattle.ds2_value.specs.declared.comparison.Comparison.TheVariants as compare
 use Rattle.ds2_meaning.specs.declared.tree.Sign.{Sign}
 use Rattle.ds2_meaning.specs.Tree.{Expr, Constant, Variable, Chain, Compare, Terms, NoTerm, Term, Stmt, Assign, Stmts, NoStmt, Then}
-use Rattle.ds2_meaning.specs.View.{if_else}
+use Rattle.ds2_meaning.specs.View.{if_with_else}
 use Rattle.ds2_draft_source.specs.declared.token.Token.{Token}
 use Rattle.ds2_draft_source.specs.declared.token.Kind.{Kind}
 use Rattle.ds2_draft_source.specs.declared.token.Kind.TheVariants.{Word, Number, Operator, Comparator, Semicolon, Open, Close}
 use Rattle.ds2_draft_source.specs.declared.token.Named.{Named}
-use Rattle.ds2_draft_source.specs.Reserved.{is_reserved}
+use Rattle.ds2_draft_source.specs.Reserved.{is_reserved_word}
 
 infixl 10 ◌>>=◌
+-- goes on with what was read, where there is something
 abbrev pub ◌>>=◌ : {A B : Type 0} → Option A → (A → Option B) → Option B
 o >>= f = option_and_then f o
 
@@ -24,31 +25,36 @@ Reading A = Option (A × List Token)
 
 -- single tokens
 
--- a token is this word, given in lower case
+-- a kind of token is this word, given in lower case
 abbrev pub is_word_kind : List ℕ → Kind → Bool
 is_word_kind word (Word w) = bytes_eq w word
 is_word_kind word _ = false
 
-abbrev pub is_word : List ℕ → Token → Bool
-is_word word t = is_word_kind word t.kind
+-- a token is this word
+abbrev pub is_this_word : List ℕ → Token → Bool
+is_this_word word t = is_word_kind word t.kind
 
--- the marks `;`, `(`, `)` and `=`
+-- the mark `;`
 abbrev pub is_semicolon : Kind → Bool
 is_semicolon Semicolon = true
 is_semicolon _ = false
 
+-- the mark `(`
 abbrev pub is_open : Kind → Bool
 is_open Open = true
 is_open _ = false
 
+-- the mark `)`
 abbrev pub is_close : Kind → Bool
 is_close Close = true
 is_close _ = false
 
+-- the comparison `=`
 abbrev pub is_equal_comparison : Comparison → Bool
 is_equal_comparison compare.Equal = true
 is_equal_comparison _ = false
 
+-- the mark `=`
 abbrev pub is_equal : Kind → Bool
 is_equal (Comparator c) = is_equal_comparison c
 is_equal _ = false
@@ -81,7 +87,7 @@ repeated begin item ts = many (suc (length ts)) begin item ts
 
 -- the name that a token is
 abbrev pub name_of_kind : Kind → Option (List ℕ)
-name_of_kind (Word w) = if is_reserved w then None else Some w
+name_of_kind (Word w) = if is_reserved_word w then None else Some w
 name_of_kind _ = None
 
 -- a name that was found, at the place of its token
@@ -90,14 +96,14 @@ named_by t ts None = None
 named_by t ts (Some name) = Some (record { name = name; place = t.place }, ts)
 
 -- a name at its place
-unfoldable pub named : List Token → Reading Named
-named [] = None
-named (t ∷ ts) = named_by t ts (name_of_kind t.kind)
+unfoldable pub a_name : List Token → Reading Named
+a_name [] = None
+a_name (t ∷ ts) = named_by t ts (name_of_kind t.kind)
 
 -- a name
 unfoldable pub name : List Token → Reading (List ℕ)
 name ts = do
-  n ← named ts
+  n ← a_name ts
   Some (n.0.name, n.1)
 
 -- whether the first token is a name
@@ -105,14 +111,14 @@ unfoldable pub begins_name : List Token → Bool
 begins_name ts = begins (λ t. is_some (name_of_kind t.kind)) ts
 
 -- the integer that a token is
-abbrev pub integer_kind : Kind → Option Expr
-integer_kind (Number n) = Some (Constant (Int n))
-integer_kind _ = None
+abbrev pub integer_of_kind : Kind → Option Expr
+integer_of_kind (Number n) = Some (Constant (Int n))
+integer_of_kind _ = None
 
 -- a variable at the place of its name
 abbrev pub variable : List Token → Reading Expr
 variable ts = do
-  n ← named ts
+  n ← a_name ts
   Some (Variable n.0.name n.0.place, n.1)
 
 -- the integer, where there is one, and else the other
@@ -123,7 +129,7 @@ integer_or ts (Some e) other = Some (e, ts)
 -- an integer or a variable
 unfoldable pub operand : List Token → Reading Expr
 operand [] = None
-operand (t ∷ ts) = integer_or ts (integer_kind t.kind) (variable (t ∷ ts))
+operand (t ∷ ts) = integer_or ts (integer_of_kind t.kind) (variable (t ∷ ts))
 
 -- the sign that a token is
 abbrev pub sign_of_kind : Kind → Option Sign
@@ -207,7 +213,7 @@ condition ts = do
 -- `name = sum;`
 unfoldable pub assignment : List Token → Reading Stmt
 assignment ts = do
-  target ← named ts
+  target ← a_name ts
   rest ← after (λ t. is_equal t.kind) target.1
   value ← sum rest
   rest ← after (λ t. is_semicolon t.kind) value.1
@@ -222,33 +228,33 @@ pub record Branch : Type 0 where
 -- the place of a word `if`
 unfoldable pub if_place : List Token → Reading Place
 if_place [] = None
-if_place (t ∷ ts) = if is_word (codes "if") t then Some (t.place, ts) else None
+if_place (t ∷ ts) = if is_this_word (codes "if") t then Some (t.place, ts) else None
 
 -- `if condition then statement`
-unfoldable pub branch : (List Token → Reading Stmt) → List Token → Reading Branch
-branch inner ts = do
+unfoldable pub if_branch : (List Token → Reading Stmt) → List Token → Reading Branch
+if_branch inner ts = do
   place ← if_place ts
   test ← condition place.1
-  rest ← after (is_word (codes "then")) test.1
+  rest ← after (is_this_word (codes "then")) test.1
   body ← inner rest
   Some (record { place = place.0; condition = test.0; body = body.0 }, body.1)
 
 -- whether an `else if` is next
 unfoldable pub begins_else_if : List Token → Bool
 begins_else_if [] = false
-begins_else_if (t ∷ ts) = is_word (codes "else") t && begins (is_word (codes "if")) ts
+begins_else_if (t ∷ ts) = is_this_word (codes "else") t && begins (is_this_word (codes "if")) ts
 
 -- `else if condition then statement`
 unfoldable pub else_if : (List Token → Reading Stmt) → List Token → Reading Branch
 else_if inner ts = do
-  rest ← after (is_word (codes "else")) ts
-  branch inner rest
+  rest ← after (is_this_word (codes "else")) ts
+  if_branch inner rest
 
 -- the statement behind an `else`, where there is one
 unfoldable pub else_part : (List Token → Reading Stmt) → List Token → Reading (Option Stmt)
 else_part inner ts =
-    if begins (is_word (codes "else")) ts then (do
-      rest ← after (is_word (codes "else")) ts
+    if begins (is_this_word (codes "else")) ts then (do
+      rest ← after (is_this_word (codes "else")) ts
       body ← inner rest
       Some (Some body.0, body.1))
     else Some (None, ts)
@@ -256,19 +262,19 @@ else_part inner ts =
 -- what stands in the else part of an `if` before these
 abbrev pub others_tree : List Branch → Option Stmt → Option Stmt
 others_tree [] o = o
-others_tree (b ∷ bs) o = Some (if_else b.place b.condition b.body (others_tree bs o))
+others_tree (b ∷ bs) o = Some (if_with_else b.place b.condition b.body (others_tree bs o))
 
 -- an `if`, its chained `else if` parts and its `else` part
 unfoldable pub conditional : (List Token → Reading Stmt) → List Token → Reading Stmt
 conditional inner ts = do
-  first ← branch inner ts
+  first ← if_branch inner ts
   others ← repeated begins_else_if (else_if inner) first.1
   last ← else_part inner others.1
-  Some (if_else first.0.place first.0.condition first.0.body (others_tree others.0 last.0), last.1)
+  Some (if_with_else first.0.place first.0.condition first.0.body (others_tree others.0 last.0), last.1)
 
 -- a statement, where this rule reads the statements within it
 unfoldable pub statement_of : (List Token → Reading Stmt) → List Token → Reading Stmt
-statement_of inner ts = if begins (is_word (codes "if")) ts then conditional inner ts else assignment ts
+statement_of inner ts = if begins (is_this_word (codes "if")) ts then conditional inner ts else assignment ts
 
 -- a statement that opens a level, where as many may be opened
 unfoldable pub nested : ℕ → List Token → Reading Stmt
@@ -286,4 +292,4 @@ stmts_tree (s ∷ ss) = Then s (stmts_tree ss)
 
 -- the statements up to a word `end`
 unfoldable pub statements : List Token → Reading (List Stmt)
-statements ts = repeated (λ ts. not (begins (is_word (codes "end")) ts)) (statement 64) ts
+statements ts = repeated (λ ts. not (begins (is_this_word (codes "end")) ts)) (statement 64) ts

@@ -5,10 +5,10 @@ use Rattle.ds2_base.specs.declared.stop.Stop.TheVariants.{Refused, OutOfMemory}
 use Rattle.ds2_draft_source.specs.declared.rule.OtherForm.{OtherForm}
 
 -- the answer, seen as plain data, is what the rule reads, unless memory ran out
-abbrev pub Reads : {A B : Type 0} → (A → B) → Result A (Stop OtherForm) → Option B → Type 0
-Reads view (Ok x) want = want ≡ Some (view x)
-Reads view (Err (Refused e)) want = want ≡ None
-Reads view (Err OutOfMemory) want = Unit {0}
+abbrev pub RuleReads : {A B : Type 0} → (A → B) → Result A (Stop OtherForm) → Option B → Type 0
+RuleReads view (Ok x) want = want ≡ Some (view x)
+RuleReads view (Err (Refused e)) want = want ≡ None
+RuleReads view (Err OutOfMemory) want = Unit {0}
 
 -- the same of a rule that takes no memory
 abbrev pub ReadsAlways : {A B : Type 0} → (A → B) → Result A (Stop OtherForm) → Option B → Type 0

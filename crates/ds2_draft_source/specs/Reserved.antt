@@ -18,5 +18,5 @@ reserved =
     codes "until" ∷ codes "varchar" ∷ codes "when" ∷ codes "while" ∷ []
 
 -- whether a word in lower case is none of the names
-unfoldable pub is_reserved : List ℕ → Bool
-is_reserved word = list_any (λ w. bytes_eq w word) reserved
+unfoldable pub is_reserved_word : List ℕ → Bool
+is_reserved_word word = list_any (λ w. bytes_eq w word) reserved

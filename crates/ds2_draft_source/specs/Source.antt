@@ -7,7 +7,7 @@ use Rattle.ds2_meaning.specs.View.{stmts_of}
 use Rattle.ds2_draft_source.specs.declared.program.Source as code
 use Rattle.ds2_draft_source.specs.declared.token.Token.{Token}
 use Rattle.ds2_draft_source.specs.Tokens.{tokens_of}
-use Rattle.ds2_draft_source.specs.Grammar.{◌>>=◌, Reading, is_word, is_semicolon, is_open, is_close, after, begins, repeated, name, begins_name, statements, stmts_tree}
+use Rattle.ds2_draft_source.specs.Grammar.{◌>>=◌, Reading, is_this_word, is_semicolon, is_open, is_close, after, begins, repeated, name, begins_name, statements, stmts_tree}
 
 -- a data program: its output, the variables that it declares, the table that it reads, and the statements of `run`
 pub record Source : Type 0 where
@@ -23,7 +23,7 @@ tree_of s = record { output = s.output; declared = s.declared; table = s.table; 
 -- `data name;`; `data _null_;`, which has no output, isn't built yet
 unfoldable pub header : List Token → Reading (List ℕ)
 header ts = do
-  rest ← after (is_word (codes "data")) ts
+  rest ← after (is_this_word (codes "data")) ts
   output ← name rest
   rest ← after (λ t. is_semicolon t.kind) output.1
   if bytes_eq output.0 (codes "_null_") then None else Some (output.0, rest)
@@ -41,21 +41,21 @@ is_empty (n ∷ names) = false
 -- `dcl bigint name name ..;`, with at least one name and none twice
 unfoldable pub declaration : List Token → Reading (List (List ℕ))
 declaration ts = do
-  rest ← after (is_word (codes "dcl")) ts
-  rest ← after (is_word (codes "bigint")) rest
+  rest ← after (is_this_word (codes "dcl")) ts
+  rest ← after (is_this_word (codes "bigint")) rest
   names ← repeated begins_name name rest
   rest ← after (λ t. is_semicolon t.kind) names.1
   if is_empty names.0 || repeats names.0 then None else Some (names.0, rest)
 
 -- the declared names, none where there is no declaration
 unfoldable pub declarations : List Token → Reading (List (List ℕ))
-declarations ts = if begins (is_word (codes "dcl")) ts then declaration ts else Some ([], ts)
+declarations ts = if begins (is_this_word (codes "dcl")) ts then declaration ts else Some ([], ts)
 
 -- `method run();`
 unfoldable pub method_run : List Token → Option (List Token)
 method_run ts = do
-  rest ← after (is_word (codes "method")) ts
-  rest ← after (is_word (codes "run")) rest
+  rest ← after (is_this_word (codes "method")) ts
+  rest ← after (is_this_word (codes "run")) rest
   rest ← after (λ t. is_open t.kind) rest
   rest ← after (λ t. is_close t.kind) rest
   after (λ t. is_semicolon t.kind) rest
@@ -63,7 +63,7 @@ method_run ts = do
 -- `set name;`
 unfoldable pub set_table : List Token → Reading (List ℕ)
 set_table ts = do
-  rest ← after (is_word (codes "set")) ts
+  rest ← after (is_this_word (codes "set")) ts
   table ← name rest
   rest ← after (λ t. is_semicolon t.kind) table.1
   Some (table.0, rest)
@@ -71,9 +71,9 @@ set_table ts = do
 -- `end; enddata;`
 unfoldable pub closing : List Token → Option (List Token)
 closing ts = do
-  rest ← after (is_word (codes "end")) ts
+  rest ← after (is_this_word (codes "end")) ts
   rest ← after (λ t. is_semicolon t.kind) rest
-  rest ← after (is_word (codes "enddata")) rest
+  rest ← after (is_this_word (codes "enddata")) rest
   after (λ t. is_semicolon t.kind) rest
 
 -- where no token is left

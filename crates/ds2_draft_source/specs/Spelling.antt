@@ -28,52 +28,53 @@ abbrev pub plain_kinds : List Token → List Kind
 plain_kinds tokens = map (λ t. plain_kind t.kind) tokens
 
 -- a constant of a tree is an integer
-abbrev pub constant_spelling : Value → List Kind
-constant_spelling (Int n) = Number n ∷ []
-constant_spelling _ = []
+abbrev pub constant_tokens : Value → List Kind
+constant_tokens (Int n) = Number n ∷ []
+constant_tokens _ = []
 
 -- operands, signs and comparisons from the left
 abbrev mutual
-  pub expression_spelling : Expr → List Kind
-  expression_spelling (Constant v) = constant_spelling v
-  expression_spelling (Variable name place) = Word name ∷ []
-  expression_spelling (Chain first rest) = expression_spelling first ++ terms_spelling rest
-  expression_spelling (Compare comparison left right) = expression_spelling left ++ Comparator comparison ∷ expression_spelling right
+  pub expression_tokens : Expr → List Kind
+  expression_tokens (Constant v) = constant_tokens v
+  expression_tokens (Variable name place) = Word name ∷ []
+  expression_tokens (Chain first rest) = expression_tokens first ++ terms_spelling rest
+  expression_tokens (Compare comparison left right) = expression_tokens left ++ Comparator comparison ∷ expression_tokens right
 
+  -- each further operand behind its sign
   pub terms_spelling : Terms → List Kind
   terms_spelling NoTerm = []
-  terms_spelling (Term sign operand rest) = Operator sign ∷ expression_spelling operand ++ terms_spelling rest
+  terms_spelling (Term sign operand rest) = Operator sign ∷ expression_tokens operand ++ terms_spelling rest
 
 -- a statement; a chained `else if` is an `if` behind an `else`
-abbrev pub statement_spelling : Stmt → List Kind
-statement_spelling (Assign place target value) = Word target ∷ Comparator Equal ∷ expression_spelling value ++ Semicolon ∷ []
-statement_spelling (If place condition body) = Word (codes "if") ∷ expression_spelling condition ++ Word (codes "then") ∷ statement_spelling body
-statement_spelling (IfElse place condition body otherwise) =
-    Word (codes "if") ∷ expression_spelling condition ++ Word (codes "then") ∷ statement_spelling body ++ Word (codes "else") ∷ statement_spelling otherwise
+abbrev pub statement_tokens : Stmt → List Kind
+statement_tokens (Assign place target value) = Word target ∷ Comparator Equal ∷ expression_tokens value ++ Semicolon ∷ []
+statement_tokens (If place condition body) = Word (codes "if") ∷ expression_tokens condition ++ Word (codes "then") ∷ statement_tokens body
+statement_tokens (IfElse place condition body otherwise) =
+    Word (codes "if") ∷ expression_tokens condition ++ Word (codes "then") ∷ statement_tokens body ++ Word (codes "else") ∷ statement_tokens otherwise
 
 -- statements one after the other
-abbrev pub statements_spelling : Stmts → List Kind
-statements_spelling NoStmt = []
-statements_spelling (Then first rest) = statement_spelling first ++ statements_spelling rest
+abbrev pub statements_tokens : Stmts → List Kind
+statements_tokens NoStmt = []
+statements_tokens (Then first rest) = statement_tokens first ++ statements_tokens rest
 
 -- names as tokens
 abbrev pub words : List (List ℕ) → List Kind
 words names = map (λ name. Word name) names
 
 -- declared names; none are not declared at all
-abbrev pub declaration_spelling : List (List ℕ) → List Kind
-declaration_spelling [] = []
-declaration_spelling (name ∷ names) = Word (codes "dcl") ∷ Word (codes "bigint") ∷ words (name ∷ names) ++ Semicolon ∷ []
+abbrev pub declaration_tokens : List (List ℕ) → List Kind
+declaration_tokens [] = []
+declaration_tokens (name ∷ names) = Word (codes "dcl") ∷ Word (codes "bigint") ∷ words (name ∷ names) ++ Semicolon ∷ []
 
 -- a whole source
-abbrev pub source_spelling : Source → List Kind
-source_spelling s =
-    Word (codes "data") ∷ Word s.output ∷ Semicolon ∷ declaration_spelling s.declared
+abbrev pub source_tokens : Source → List Kind
+source_tokens s =
+    Word (codes "data") ∷ Word s.output ∷ Semicolon ∷ declaration_tokens s.declared
     ++ Word (codes "method") ∷ Word (codes "run") ∷ Open ∷ Close ∷ Semicolon ∷ []
     ++ Word (codes "set") ∷ Word s.table ∷ Semicolon ∷ []
-    ++ statements_spelling s.body
+    ++ statements_tokens s.body
     ++ Word (codes "end") ∷ Semicolon ∷ Word (codes "enddata") ∷ Semicolon ∷ []
 
 -- the tokens of a source that is read are those that its tree spells, in their order, and no more
 abbrev pub KeepsTokens : Type 0
-KeepsTokens = (text : List ℕ) (source : Source) → source_of text ≡ Some source → option_map plain_kinds (tokens_of text) ≡ Some (source_spelling source)
+KeepsTokens = (text : List ℕ) (source : Source) → source_of text ≡ Some source → option_map plain_kinds (tokens_of text) ≡ Some (source_tokens source)

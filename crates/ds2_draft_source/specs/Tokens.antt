@@ -18,12 +18,12 @@ abbrev pub is_gap : ℕ → Bool
 is_gap c = c == 32 || c == 9 || c == 13 || c == 10
 
 -- a letter or `_`
-abbrev pub is_word_start : ℕ → Bool
-is_word_start c = is_ascii_alphabetic c || c == 95
+abbrev pub starts_word : ℕ → Bool
+starts_word c = is_ascii_alphabetic c || c == 95
 
 -- a letter, `_` or a digit
 abbrev pub is_word_byte : ℕ → Bool
-is_word_byte c = is_word_start c || is_ascii_digit c
+is_word_byte c = starts_word c || is_ascii_digit c
 
 -- a digit
 abbrev pub is_digit : ℕ → Bool
@@ -38,12 +38,12 @@ abbrev pub with_digit : ℕ → ℕ → ℕ
 with_digit n c = n * 10 + (c - 48)
 
 -- the number that digits spell
-abbrev pub value_of : List ℕ → ℕ
-value_of digits = fold with_digit 0 digits
+abbrev pub digits_value : List ℕ → ℕ
+digits_value digits = fold with_digit 0 digits
 
 -- the number as an integer of 64 bits
-abbrev pub number_of : List ℕ → Option ℤ
-number_of digits = if nat_lt (value_of digits) (2 ^ 63) then Some (pos (value_of digits)) else None
+abbrev pub digits_number : List ℕ → Option ℤ
+digits_number digits = if nat_lt (digits_value digits) (2 ^ 63) then Some (pos (digits_value digits)) else None
 
 -- the marks of one character
 unfoldable pub mark_of_one : ℕ → Option Kind
@@ -74,46 +74,48 @@ abbrev pub sized : ℕ → Option Kind → Option Lexeme
 sized n None = None
 sized n (Some kind) = Some (record { kind = Some kind; size = n })
 
--- what a word, an integer is as a token
-abbrev pub word_kind : Option (List ℕ) → Option Kind
-word_kind None = None
-word_kind (Some word) = Some (Word word)
+-- what a word is as a token
+abbrev pub kind_of_word : Option (List ℕ) → Option Kind
+kind_of_word None = None
+kind_of_word (Some word) = Some (Word word)
 
+-- what an integer is as a token
 abbrev pub number_kind : Option ℤ → Option Kind
 number_kind None = None
 number_kind (Some n) = Some (Number n)
 
 -- the first, where there is one, and else the second
-abbrev pub or_else : Option Lexeme → Option Lexeme → Option Lexeme
-or_else None b = b
-or_else (Some a) b = Some a
+abbrev pub first_lexeme : Option Lexeme → Option Lexeme → Option Lexeme
+first_lexeme None b = b
+first_lexeme (Some a) b = Some a
 
 -- the longest mark at the front of a text
 abbrev pub mark : List ℕ → Option Lexeme
 mark [] = None
 mark (c ∷ []) = sized 1 (mark_of_one c)
-mark (c ∷ d ∷ cs) = or_else (sized 2 (mark_of_two c d)) (sized 1 (mark_of_one c))
+mark (c ∷ d ∷ cs) = first_lexeme (sized 2 (mark_of_two c d)) (sized 1 (mark_of_one c))
 
 -- whether digits end here with the `n` of a decimal constant
 abbrev pub ends_decimal : List ℕ → Bool
 ends_decimal [] = false
 ends_decimal (c ∷ cs) = c == 110 || c == 78
 
--- the longest word and the longest integer at the front of a text; digits with an `n` are no integer
+-- the longest word at the front of a text
 abbrev pub word : List ℕ → Option Lexeme
-word text = sized (prefix_len is_word_byte text) (word_kind (word_of (take_while is_word_byte text)))
+word text = sized (prefix_len is_word_byte text) (kind_of_word (word_of (take_while is_word_byte text)))
 
+-- the longest integer at the front of a text; digits with an `n` are none
 abbrev pub number : List ℕ → Option Lexeme
 number text =
     if ends_decimal (drop (prefix_len is_digit text) text) then None
-    else sized (prefix_len is_digit text) (number_kind (number_of (take_while is_digit text)))
+    else sized (prefix_len is_digit text) (number_kind (digits_number (take_while is_digit text)))
 
 -- the gap character or the longest token at the front of a text
 unfoldable pub lexeme : List ℕ → Option Lexeme
 lexeme [] = None
 lexeme (c ∷ cs) =
     if is_gap c then Some (record { kind = None; size = 1 })
-    else (if is_word_start c then word (c ∷ cs)
+    else (if starts_word c then word (c ∷ cs)
     else (if is_digit c then number (c ∷ cs)
     else mark (c ∷ cs)))
 

@@ -3,7 +3,7 @@ ghost use Rattle.std.specs.Prelude.{◌≡◌, ◌<◌, ◌≤◌, length, map, 
 ghost use Rattle.std.specs.Option.{option_map};
 ghost use Rattle.ds2_meaning.specs.View.{expr_tree};
 ghost use Rattle.ds2_draft_source.specs.Grammar.{operand, begins_sign, term, repeated, sum, word_comparison, comparison_of_kind, comparison, condition};
-ghost use Rattle.ds2_draft_source.specs.Reads.{Reads};
+ghost use Rattle.ds2_draft_source.specs.Reads.{RuleReads};
 ghost use Rattle.ds2_draft_source.specs.Views.{term_pair};
 
 use crate::rule::{OtherForm, named};
@@ -16,7 +16,7 @@ use std::alloc::Global;
 /// An integer or a variable.
 #[tactic(auto, unfolding(crate::specs::Grammar::operand))]
 fn operand(alloc: Global, tokens: &[Token]) -> Result<(Expr, &[Token]), Stop<OtherForm>>
-    ensures reads { Reads (λ r. (expr_tree r.0, r.1.now)) result (operand tokens.now) }
+    ensures reads { RuleReads (λ r. (expr_tree r.0, r.1.now)) result (operand tokens.now) }
     ensures shorter { IfOk result (λ r. length r.1.now < length tokens.now) }
 {
     if let [
@@ -52,7 +52,7 @@ fn begins_sign(tokens: &[Token]) -> bool
 /// A sign and the operand behind it.
 #[tactic(auto, unfolding(crate::specs::Grammar::term, crate::specs::Grammar::sign))]
 fn term(alloc: Global, tokens: &[Token]) -> Result<(Term, &[Token]), Stop<OtherForm>>
-    ensures reads { Reads (λ r. (term_pair r.0, r.1.now)) result (term tokens.now) }
+    ensures reads { RuleReads (λ r. (term_pair r.0, r.1.now)) result (term tokens.now) }
     ensures shorter { IfOk result (λ r. length r.1.now < length tokens.now) }
 {
     let [
@@ -73,7 +73,7 @@ fn term(alloc: Global, tokens: &[Token]) -> Result<(Term, &[Token]), Stop<OtherF
 /// As many terms as follow.
 #[tactic(auto, using(crate::proofs::RepeatedLemmas::none_read, crate::proofs::RepeatedLemmas::one_read, crate::proofs::RepeatedLemmas::none_more, crate::proofs::RepeatedLemmas::all_read))]
 fn terms(alloc: Global, tokens: &[Token]) -> Result<(List<Term>, &[Token]), Stop<OtherForm>>
-    ensures reads { Reads (λ r. (map term_pair r.0, r.1.now)) result (repeated begins_sign term tokens.now) }
+    ensures reads { RuleReads (λ r. (map term_pair r.0, r.1.now)) result (repeated begins_sign term tokens.now) }
     ensures shorter { IfOk result (λ r. length r.1.now ≤ length tokens.now) }
 {
     let mut terms = List::new(alloc);
@@ -89,7 +89,7 @@ fn terms(alloc: Global, tokens: &[Token]) -> Result<(List<Term>, &[Token]), Stop
 /// An operand, and each that is added or subtracted.
 #[tactic(auto, unfolding(crate::specs::Grammar::sum), using(crate::proofs::TreeLemmas::chain_is_sum))]
 pub fn sum(alloc: Global, tokens: &[Token]) -> Result<(Expr, &[Token]), Stop<OtherForm>>
-    ensures reads { Reads (λ r. (expr_tree r.0, r.1.now)) result (sum tokens.now) }
+    ensures reads { RuleReads (λ r. (expr_tree r.0, r.1.now)) result (sum tokens.now) }
     ensures shorter { IfOk result (λ r. length r.1.now < length tokens.now) }
 {
     let (first, rest) = operand(alloc, tokens)?;
@@ -147,7 +147,7 @@ fn comparison(tokens: &[Token]) -> Option<(Comparison, &[Token])>
 /// A sum, or two that are compared.
 #[tactic(auto, unfolding(crate::specs::Grammar::condition))]
 pub fn condition(alloc: Global, tokens: &[Token]) -> Result<(Expr, &[Token]), Stop<OtherForm>>
-    ensures reads { Reads (λ r. (expr_tree r.0, r.1.now)) result (condition tokens.now) }
+    ensures reads { RuleReads (λ r. (expr_tree r.0, r.1.now)) result (condition tokens.now) }
     ensures shorter { IfOk result (λ r. length r.1.now < length tokens.now) }
 {
     let (left, rest) = sum(alloc, tokens)?;

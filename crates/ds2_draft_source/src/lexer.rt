@@ -3,7 +3,7 @@ ghost use Rattle.std.specs.Prelude.{◌≡◌, ◌<◌, ◌≤◌, length, ◌++
 ghost use Rattle.std.specs.List.{prefix_len};
 ghost use Rattle.std.specs.Str.{IsUtf8};
 ghost use Rattle.ds2_base.specs.Place.{place_past};
-ghost use Rattle.ds2_draft_source.specs.Tokens.{is_gap, is_word_start, is_word_byte, is_digit, word_of, number_of, mark_of_one, mark_of_two, sized, mark, word, ends_decimal, number, lexeme, listed, tokens_of};
+ghost use Rattle.ds2_draft_source.specs.Tokens.{is_gap, starts_word, is_word_byte, is_digit, word_of, digits_number, mark_of_one, mark_of_two, sized, mark, word, ends_decimal, number, lexeme, listed, tokens_of};
 
 use crate::token::{Kind, Lexeme, Token};
 use ds2_base::{List, Name, OutOfMemory, Place, Stop};
@@ -20,7 +20,7 @@ fn is_gap(c: u8) -> bool
 
 /// A letter or `_`.
 fn is_word_start(c: u8) -> bool
-    ensures { result ≡ is_word_start c }
+    ensures { result ≡ starts_word c }
 {
     c.is_ascii_alphabetic() || c == b'_'
 }
@@ -83,7 +83,7 @@ fn word_of(alloc: Global, letters: &[u8]) -> Result<Option<Name>, OutOfMemory>
 
 /// The number that digits spell; None where it passes 64 bits.
 fn number_of(digits: &[u8]) -> Option<i64>
-    ensures { result ≡ number_of digits.now }
+    ensures { result ≡ digits_number digits.now }
 {
     let mut value: u64 = 0;
     for c in digits {
@@ -158,7 +158,7 @@ fn mark(text: &[u8]) -> Option<Lexeme>
 
 #[tactic(auto, using(crate::proofs::LexerLemmas::word_is_text))]
 fn word(alloc: Global, text: &[u8]) -> Result<Option<Lexeme>, OutOfMemory>
-    requires { IfSome (slice_get text.now 0) (λ c. IsTrue (is_word_start c)) }
+    requires { IfSome (slice_get text.now 0) (λ c. IsTrue (starts_word c)) }
     ensures exact { IfOk result (λ found. found ≡ word text.now) }
     ensures size { IfOk result (λ found. IfSome found (λ l. (0 < l.size) × (l.size ≤ length text.now))) }
 {

@@ -1,7 +1,14 @@
 //! Reads the sources of the forms built so far: one data program that reads one table row by row.
 //!
-//! A source goes from bytes to tokens and from tokens to a tree, rule by rule. What is read, and what is not, stands in
-//! `specs/` as functions over bytes and tokens.
+//! A source goes from bytes to tokens and from tokens to a tree, rule by rule: [`read_source`] gives a [`Source`], or none
+//! where the source has another form. What is read, and what is not, stands in `specs/` as functions over bytes and tokens.
+//!
+//! ```text
+//! match read_source(alloc, bytes)? {
+//!     Some(source) => source.body.len(),
+//!     None => 0,
+//! }
+//! ```
 #![tactic(auto)]
 
 mod expression;

@@ -3,7 +3,7 @@ ghost use Rattle.std.specs.Prelude.{◌≡◌, ◌<◌, ◌≤◌, length, IfOk}
 ghost use Rattle.std.specs.Option.{option_map};
 ghost use Rattle.ds2_draft_source.specs.Grammar.{repeated, name, begins_name};
 ghost use Rattle.ds2_draft_source.specs.Source.{header, repeats, declaration, declarations, method_run, set_table, closing, program, source_of, tree_of};
-ghost use Rattle.ds2_draft_source.specs.Reads.{Reads, ReadsAlways};
+ghost use Rattle.ds2_draft_source.specs.Reads.{RuleReads, ReadsAlways};
 
 use crate::lexer::tokens;
 use crate::rule::{
@@ -31,7 +31,7 @@ pub struct Source {
 /// `data name;`; `data _null_;`, which has no output, isn't built yet.
 #[tactic(auto, unfolding(crate::specs::Source::header))]
 fn header(alloc: Global, tokens: &[Token]) -> Result<(Name, &[Token]), Stop<OtherForm>>
-    ensures { Reads (λ r. (r.0, r.1.now)) result (header tokens.now) }
+    ensures { RuleReads (λ r. (r.0, r.1.now)) result (header tokens.now) }
 {
     let rest = after_word(tokens, "data")?;
     let (output, rest) = name(alloc, rest)?;
@@ -45,7 +45,7 @@ fn header(alloc: Global, tokens: &[Token]) -> Result<(Name, &[Token]), Stop<Othe
 /// As many names as follow.
 #[tactic(auto, using(crate::proofs::RepeatedLemmas::none_read, crate::proofs::RepeatedLemmas::none_more))]
 fn names(alloc: Global, tokens: &[Token]) -> Result<(List<Name>, &[Token]), Stop<OtherForm>>
-    ensures { Reads (λ r. (r.0, r.1.now)) result (repeated begins_name name tokens.now) }
+    ensures { RuleReads (λ r. (r.0, r.1.now)) result (repeated begins_name name tokens.now) }
 {
     let mut names = List::new(alloc);
     let mut rest = tokens;
@@ -74,7 +74,7 @@ fn repeats(names: &[Name]) -> bool
 /// `dcl bigint name name ..;`
 #[tactic(auto, unfolding(crate::specs::Source::declaration))]
 fn declaration(alloc: Global, tokens: &[Token]) -> Result<(List<Name>, &[Token]), Stop<OtherForm>>
-    ensures { Reads (λ r. (r.0, r.1.now)) result (declaration tokens.now) }
+    ensures { RuleReads (λ r. (r.0, r.1.now)) result (declaration tokens.now) }
 {
     let rest = after_word(tokens, "dcl")?;
     let rest = after_word(rest, "bigint")?;
@@ -89,7 +89,7 @@ fn declaration(alloc: Global, tokens: &[Token]) -> Result<(List<Name>, &[Token])
 /// The declared names, none where there is no declaration.
 #[tactic(auto, unfolding(crate::specs::Source::declarations))]
 fn declarations(alloc: Global, tokens: &[Token]) -> Result<(List<Name>, &[Token]), Stop<OtherForm>>
-    ensures { Reads (λ r. (r.0, r.1.now)) result (declarations tokens.now) }
+    ensures { RuleReads (λ r. (r.0, r.1.now)) result (declarations tokens.now) }
 {
     if begins_word(tokens, "dcl") {
         declaration(alloc, tokens)
@@ -113,7 +113,7 @@ fn method_run(tokens: &[Token]) -> Result<&[Token], Stop<OtherForm>>
 /// `set name;`
 #[tactic(auto, unfolding(crate::specs::Source::set_table))]
 fn set_table(alloc: Global, tokens: &[Token]) -> Result<(Name, &[Token]), Stop<OtherForm>>
-    ensures { Reads (λ r. (r.0, r.1.now)) result (set_table tokens.now) }
+    ensures { RuleReads (λ r. (r.0, r.1.now)) result (set_table tokens.now) }
 {
     let rest = after_word(tokens, "set")?;
     let (table, rest) = name(alloc, rest)?;
@@ -135,7 +135,7 @@ fn closing(tokens: &[Token]) -> Result<&[Token], Stop<OtherForm>>
 /// The program that all of the tokens spell.
 #[tactic(auto, unfolding(crate::specs::Source::program))]
 fn program(alloc: Global, tokens: &[Token]) -> Result<Source, Stop<OtherForm>>
-    ensures { Reads tree_of result (program tokens.now) }
+    ensures { RuleReads tree_of result (program tokens.now) }
 {
     let (output, rest) = header(alloc, tokens)?;
     let (declared, rest) = declarations(alloc, rest)?;
@@ -153,7 +153,7 @@ fn program(alloc: Global, tokens: &[Token]) -> Result<Source, Stop<OtherForm>>
     }
 }
 
-/// Reads a source; None exactly where it is not of the forms built so far.
+/// RuleReads a source; None exactly where it is not of the forms built so far.
 #[tactic(auto, unfolding(crate::specs::Source::source_of))]
 pub fn read_source(alloc: Global, text: &[u8]) -> Result<Option<Source>, OutOfMemory>
     ensures { IfOk result (λ source. option_map tree_of source ≡ source_of text.now) }

@@ -1,9 +1,9 @@
 //! What single tokens are, and rules that take one token off the front.
 ghost use Rattle.std.specs.Prelude.{◌≡◌, ◌<◌, length, IfOk, is_some};
 ghost use Rattle.std.specs.Option.{option_copied};
-ghost use Rattle.ds2_draft_source.specs.Reserved.{is_reserved};
-ghost use Rattle.ds2_draft_source.specs.Grammar.{is_word, is_semicolon, is_open, is_close, is_equal, after, begins, name_of_kind, named, name, begins_name};
-ghost use Rattle.ds2_draft_source.specs.Reads.{Reads, ReadsAlways};
+ghost use Rattle.ds2_draft_source.specs.Reserved.{is_reserved_word};
+ghost use Rattle.ds2_draft_source.specs.Grammar.{is_this_word, is_semicolon, is_open, is_close, is_equal, after, begins, name_of_kind, a_name, name, begins_name};
+ghost use Rattle.ds2_draft_source.specs.Reads.{RuleReads, ReadsAlways};
 
 use crate::token::{Kind, Named, Token};
 use ds2_base::{Name, Stop};
@@ -70,7 +70,7 @@ const RESERVED: [&str; 50] = [
 
 /// Whether a token is this word.
 pub fn is_word(token: &Token, word: &str) -> bool
-    ensures { result ≡ is_word word.now token.now }
+    ensures { result ≡ is_this_word word.now token.now }
 {
     match &token.kind {
         Kind::Word(name) => name.as_str() == word,
@@ -80,7 +80,7 @@ pub fn is_word(token: &Token, word: &str) -> bool
 
 /// Whether the first token is this word.
 pub fn begins_word(tokens: &[Token], word: &str) -> bool
-    ensures { result ≡ begins (is_word word.now) tokens.now }
+    ensures { result ≡ begins (is_this_word word.now) tokens.now }
 {
     match tokens {
         [] => false,
@@ -90,7 +90,7 @@ pub fn begins_word(tokens: &[Token], word: &str) -> bool
 
 /// The tokens after this word.
 pub fn after_word<'t>(tokens: &'t [Token], word: &str) -> Result<&'t [Token], Stop<OtherForm>>
-    ensures reads { ReadsAlways (λ rest. rest.now) result (after (is_word word.now) tokens.now) }
+    ensures reads { ReadsAlways (λ rest. rest.now) result (after (is_this_word word.now) tokens.now) }
     ensures shorter { IfOk result (λ rest. length rest.now < length tokens.now) }
 {
     match tokens {
@@ -166,9 +166,9 @@ pub fn after_equal(tokens: &[Token]) -> Result<&[Token], Stop<OtherForm>>
 }
 
 /// Whether a word, in lower case, is none of the names.
-#[tactic(auto, unfolding(crate::specs::Reserved::is_reserved))]
+#[tactic(auto, unfolding(crate::specs::Reserved::is_reserved_word))]
 fn is_reserved(word: &str) -> bool
-    ensures { result ≡ is_reserved word.now }
+    ensures { result ≡ is_reserved_word word.now }
 {
     RESERVED.contains(&word)
 }
@@ -195,9 +195,9 @@ pub fn begins_name(tokens: &[Token]) -> bool
 }
 
 /// The name at the front with its place, and the tokens after it.
-#[tactic(auto, unfolding(crate::specs::Grammar::named))]
+#[tactic(auto, unfolding(crate::specs::Grammar::a_name))]
 pub fn named(alloc: Global, tokens: &[Token]) -> Result<(Named, &[Token]), Stop<OtherForm>>
-    ensures reads { Reads (λ r. (r.0, r.1.now)) result (named tokens.now) }
+    ensures reads { RuleReads (λ r. (r.0, r.1.now)) result (a_name tokens.now) }
     ensures shorter { IfOk result (λ r. length r.1.now < length tokens.now) }
 {
     let [first, rest @ ..] = tokens else {
@@ -214,7 +214,7 @@ pub fn named(alloc: Global, tokens: &[Token]) -> Result<(Named, &[Token]), Stop<
 /// The name at the front, and the tokens after it.
 #[tactic(auto, unfolding(crate::specs::Grammar::name))]
 pub fn name(alloc: Global, tokens: &[Token]) -> Result<(Name, &[Token]), Stop<OtherForm>>
-    ensures reads { Reads (λ r. (r.0, r.1.now)) result (name tokens.now) }
+    ensures reads { RuleReads (λ r. (r.0, r.1.now)) result (name tokens.now) }
     ensures shorter { IfOk result (λ r. length r.1.now < length tokens.now) }
 {
     let (Named { name, place: _ }, rest) = named(alloc, tokens)?;

@@ -1,8 +1,8 @@
 //! Statements.
 ghost use Rattle.std.specs.Prelude.{◌≡◌, ◌<◌, ◌≤◌, length, map, not, IfOk};
-ghost use Rattle.ds2_meaning.specs.View.{otherwise_tree, stmt_tree};
-ghost use Rattle.ds2_draft_source.specs.Grammar.{repeated, assignment, if_place, branch, begins_else_if, else_if, else_part, conditional, nested, statement, statements};
-ghost use Rattle.ds2_draft_source.specs.Reads.{Reads, ReadsAlways};
+ghost use Rattle.ds2_meaning.specs.View.{else_tree, stmt_tree};
+ghost use Rattle.ds2_draft_source.specs.Grammar.{repeated, assignment, if_place, if_branch, begins_else_if, else_if, else_part, conditional, nested, statement, statements};
+ghost use Rattle.ds2_draft_source.specs.Reads.{RuleReads, ReadsAlways};
 ghost use Rattle.ds2_draft_source.specs.Views.{branch_tree};
 
 use crate::expression::{condition, sum};
@@ -20,7 +20,7 @@ const LEVELS: u8 = 64;
 /// `name = sum;`
 #[tactic(auto, unfolding(crate::specs::Grammar::assignment))]
 fn assignment(alloc: Global, tokens: &[Token]) -> Result<(Stmt, &[Token]), Stop<OtherForm>>
-    ensures reads { Reads (λ r. (stmt_tree r.0, r.1.now)) result (assignment tokens.now) }
+    ensures reads { RuleReads (λ r. (stmt_tree r.0, r.1.now)) result (assignment tokens.now) }
     ensures shorter { IfOk result (λ r. length r.1.now < length tokens.now) }
 {
     let (Named { name, place }, rest) = named(alloc, tokens)?;
@@ -59,9 +59,9 @@ fn begins_else_if(tokens: &[Token]) -> bool
 
 /// `if condition then statement`
 #[cycle(statement)]
-#[tactic(auto, unfolding(crate::specs::Grammar::branch))]
+#[tactic(auto, unfolding(crate::specs::Grammar::if_branch))]
 fn branch(alloc: Global, levels: u8, tokens: &[Token]) -> Result<(Arm, &[Token]), Stop<OtherForm>>
-    ensures reads { Reads (λ r. (branch_tree r.0, r.1.now)) result (branch (nested levels) tokens.now) }
+    ensures reads { RuleReads (λ r. (branch_tree r.0, r.1.now)) result (if_branch (nested levels) tokens.now) }
     ensures shorter { IfOk result (λ r. length r.1.now < length tokens.now) }
 {
     let (place, rest) = if_place(tokens)?;
@@ -80,7 +80,7 @@ fn branch(alloc: Global, levels: u8, tokens: &[Token]) -> Result<(Arm, &[Token])
 #[cycle(statement)]
 #[tactic(auto, unfolding(crate::specs::Grammar::else_if))]
 fn else_if(alloc: Global, levels: u8, tokens: &[Token]) -> Result<(Arm, &[Token]), Stop<OtherForm>>
-    ensures reads { Reads (λ r. (branch_tree r.0, r.1.now)) result (else_if (nested levels) tokens.now) }
+    ensures reads { RuleReads (λ r. (branch_tree r.0, r.1.now)) result (else_if (nested levels) tokens.now) }
     ensures shorter { IfOk result (λ r. length r.1.now < length tokens.now) }
 {
     branch(alloc, levels, after_word(tokens, "else")?)
@@ -94,7 +94,7 @@ fn else_ifs(
     levels: u8,
     tokens: &[Token],
 ) -> Result<(List<Arm>, &[Token]), Stop<OtherForm>>
-    ensures reads { Reads (λ r. (map branch_tree r.0, r.1.now)) result (repeated begins_else_if (else_if (nested levels)) tokens.now) }
+    ensures reads { RuleReads (λ r. (map branch_tree r.0, r.1.now)) result (repeated begins_else_if (else_if (nested levels)) tokens.now) }
     ensures shorter { IfOk result (λ r. length r.1.now ≤ length tokens.now) }
 {
     let mut others = List::new(alloc);
@@ -115,7 +115,7 @@ fn else_part(
     levels: u8,
     tokens: &[Token],
 ) -> Result<(Option<Box<Stmt>>, &[Token]), Stop<OtherForm>>
-    ensures reads { Reads (λ r. (otherwise_tree r.0, r.1.now)) result (else_part (nested levels) tokens.now) }
+    ensures reads { RuleReads (λ r. (else_tree r.0, r.1.now)) result (else_part (nested levels) tokens.now) }
     ensures shorter { IfOk result (λ r. length r.1.now ≤ length tokens.now) }
 {
     if !begins_word(tokens, "else") {
@@ -135,7 +135,7 @@ fn conditional(
     levels: u8,
     tokens: &[Token],
 ) -> Result<(Stmt, &[Token]), Stop<OtherForm>>
-    ensures reads { Reads (λ r. (stmt_tree r.0, r.1.now)) result (conditional (nested levels) tokens.now) }
+    ensures reads { RuleReads (λ r. (stmt_tree r.0, r.1.now)) result (conditional (nested levels) tokens.now) }
     ensures shorter { IfOk result (λ r. length r.1.now < length tokens.now) }
 {
     let (first, rest) = branch(alloc, levels, tokens)?;
@@ -161,7 +161,7 @@ fn conditional(
 #[cycle(statement)]
 #[tactic(auto, unfolding(crate::specs::Grammar::nested, crate::specs::Grammar::statement))]
 fn nested(alloc: Global, levels: u8, tokens: &[Token]) -> Result<(Stmt, &[Token]), Stop<OtherForm>>
-    ensures reads { Reads (λ r. (stmt_tree r.0, r.1.now)) result (nested levels tokens.now) }
+    ensures reads { RuleReads (λ r. (stmt_tree r.0, r.1.now)) result (nested levels tokens.now) }
     ensures shorter { IfOk result (λ r. length r.1.now < length tokens.now) }
 {
     if levels == 0 {
@@ -178,7 +178,7 @@ fn statement(
     levels: u8,
     tokens: &[Token],
 ) -> Result<(Stmt, &[Token]), Stop<OtherForm>>
-    ensures reads { Reads (λ r. (stmt_tree r.0, r.1.now)) result (statement levels tokens.now) }
+    ensures reads { RuleReads (λ r. (stmt_tree r.0, r.1.now)) result (statement levels tokens.now) }
     ensures shorter { IfOk result (λ r. length r.1.now < length tokens.now) }
 {
     if begins_word(tokens, "if") {
@@ -194,7 +194,7 @@ pub fn statements(
     alloc: Global,
     tokens: &[Token],
 ) -> Result<(List<Stmt>, &[Token]), Stop<OtherForm>>
-    ensures { Reads (λ r. (map stmt_tree r.0, r.1.now)) result (statements tokens.now) }
+    ensures { RuleReads (λ r. (map stmt_tree r.0, r.1.now)) result (statements tokens.now) }
 {
     let mut body = List::new(alloc);
     let mut rest = tokens;

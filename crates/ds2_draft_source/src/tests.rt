@@ -1,4 +1,4 @@
-//! Sources that are read, and sources that are not.
+//! A source that is read, and one that is not.
 use crate::laws::keeps_tokens;
 use crate::read_source;
 use ds2_base::OutOfMemory;
@@ -15,11 +15,6 @@ fn statements(alloc: Global, text: &str) -> Result<Option<usize>, OutOfMemory> {
 fn reads_the_forms(rt: HostRuntime) -> Result<(), Fail> {
     keeps_tokens();
     let cases = [
-        ("data o; method run(); set t; end; enddata;", Some(0)),
-        (
-            "data o; dcl bigint a b; method run(); set t; a = 1 + b; if a then b = 2; else if b then a = -1; end; enddata;",
-            None,
-        ),
         (
             "data o; dcl bigint a b; method run(); set t; a = 1 + b; if a then b = 2; else if b then a = 1; end; enddata;",
             Some(2),

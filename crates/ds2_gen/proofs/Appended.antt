@@ -9,7 +9,7 @@ use Rattle.ds2_meaning.specs.declared.tree.Sign.{Sign}
 use Rattle.ds2_meaning.specs.declared.tree.Arm.{Arm}
 use Rattle.ds2_meaning.specs.declared.tree.Stmt as code_stmt
 use Rattle.ds2_meaning.specs.Tree.{Expr, Constant, Variable, Chain, Compare, Terms, NoTerm, Term, Stmt, Assign, IfElse, Stmts, NoStmt, Then}
-use Rattle.ds2_meaning.specs.View.{expr_tree, stmt_tree, if_else, others_of, otherwise_tree}
+use Rattle.ds2_meaning.specs.View.{expr_tree, stmt_tree, if_with_else, arms_of, else_tree}
 use Rattle.ds2_layout.specs.Slots.{slot_number}
 use Rattle.ds2_code.specs.declared.instr.Instr.{Instr}
 use Rattle.ds2_code.specs.declared.instr.Instr.TheVariants.{GLoad, GStore, ICmp, Tick, Jump, JFalse, Output, End}
@@ -117,7 +117,7 @@ module _ (names : List (List ℕ)) where
 
   -- an `if` is its first part and then the else part
   if_emitted : (p : Place) (t : Expr) (s : Stmt) (rest : Option Stmt) (c : Emitted)
-      → with_else names (length c.instrs + stmt_size (if_else p t s rest)) rest (with_stmt names s (with_test names p t (stmt_size s + jump_size rest) c)) ≡ with_stmt names (if_else p t s rest) c
+      → with_else names (length c.instrs + stmt_size (if_with_else p t s rest)) rest (with_stmt names s (with_test names p t (stmt_size s + jump_size rest) c)) ≡ with_stmt names (if_with_else p t s rest) c
   unfolding with_stmt with_instr
   if_emitted p t s None c =
       let first = length c.instrs + 1 + expr_size t + 1 in
@@ -158,8 +158,8 @@ module _ (names : List (List ℕ)) where
     pub code : with_else names end rest c ≡ whole
     pub size : length c.instrs + else_size rest ≡ end
 
-  pub first_part : (p : Place) (t : Expr) (s : Stmt) (rest : Option Stmt) (end skipped : ℕ) (c d : Emitted) → end ≡ length c.instrs + stmt_size (if_else p t s rest) → skipped ≡ stmt_size s + jump_size rest
-      → d ≡ with_stmt names s (with_test names p t skipped c) → IsLeft end rest (with_stmt names (if_else p t s rest) c) d
+  pub first_part : (p : Place) (t : Expr) (s : Stmt) (rest : Option Stmt) (end skipped : ℕ) (c d : Emitted) → end ≡ length c.instrs + stmt_size (if_with_else p t s rest) → skipped ≡ stmt_size s + jump_size rest
+      → d ≡ with_stmt names s (with_test names p t skipped c) → IsLeft end rest (with_stmt names (if_with_else p t s rest) c) d
   first_part p t s rest end skipped c d e n is = record {
     code = ap₂ (λ m x. with_else names m rest x) e (is ∙ ap (λ m. with_stmt names s (with_test names p t m c)) n) ∙ if_emitted p t s rest c;
     size = omega (arith, e, ap (λ (x : Emitted). length x.instrs) is, instrs_length p t s skipped c, if_else_size p t s rest);
@@ -169,38 +169,38 @@ module _ (names : List (List ℕ)) where
   unfolding with_instr
   jump_length end c = omega (arith, length-append c.instrs (Jump end ∷ []))
 
-  pub next_part : (p : Place) (t : Expr) (s : Stmt) (rest : Option Stmt) (end skipped : ℕ) (whole c d : Emitted) → IsLeft end (Some (if_else p t s rest)) whole c → skipped ≡ stmt_size s + jump_size rest
+  pub next_part : (p : Place) (t : Expr) (s : Stmt) (rest : Option Stmt) (end skipped : ℕ) (whole c d : Emitted) → IsLeft end (Some (if_with_else p t s rest)) whole c → skipped ≡ stmt_size s + jump_size rest
       → d ≡ with_stmt names s (with_test names p t skipped (with_instr (Jump end) c)) → IsLeft end rest whole d
   next_part p t s rest end skipped whole c d left n is =
-      let e : end ≡ length (with_instr (Jump end) c).instrs + stmt_size (if_else p t s rest) = omega (arith, left.size, jump_length end c) in
+      let e : end ≡ length (with_instr (Jump end) c).instrs + stmt_size (if_with_else p t s rest) = omega (arith, left.size, jump_length end c) in
       let part = first_part p t s rest end skipped (with_instr (Jump end) c) d e n is in
       record { code = part.code ∙ left.code; size = part.size }
 
   -- whether anything stands behind a part
-  pub jump_size_is : (others : List Arm) (o : Option (Box code_stmt.Stmt Global)) → cond (nat_lt 0 (length others) || is_some o) 1 0 ≡ jump_size (others_of others (otherwise_tree o))
+  pub jump_size_is : (others : List Arm) (o : Option (Box code_stmt.Stmt Global)) → cond (nat_lt 0 (length others) || is_some o) 1 0 ≡ jump_size (arms_of others (else_tree o))
   jump_size_is [] None = refl
   jump_size_is [] (Some o) = refl
   jump_size_is (a ∷ others) o = ap (λ b. cond (b || is_some o) 1 0) (lt-ltb 0 (length (a ∷ others)) (omega arith))
 
-  skipped_is : (st : Stmt) (others : List Arm) (o : Option (Box code_stmt.Stmt Global)) (parts skipped : ℕ) → parts ≡ length others → skipped ≡ stmt_size st + cond (nat_lt 0 parts || is_some o) 1 0 → skipped ≡ stmt_size st + jump_size (others_of others (otherwise_tree o))
+  skipped_is : (st : Stmt) (others : List Arm) (o : Option (Box code_stmt.Stmt Global)) (parts skipped : ℕ) → parts ≡ length others → skipped ≡ stmt_size st + cond (nat_lt 0 parts || is_some o) 1 0 → skipped ≡ stmt_size st + jump_size (arms_of others (else_tree o))
   skipped_is st others o parts skipped e n = n ∙ ap (λ k. stmt_size st + cond (nat_lt 0 k || is_some o) 1 0) e ∙ ap (λ k. stmt_size st + k) (jump_size_is others o)
 
   -- the first part of a chain whose other parts stand in a list
-  pub opened : (s : Stmt) (p : Place) (t : Expr) (st : Stmt) (others items : List Arm) (o : Option (Box code_stmt.Stmt Global)) (end parts skipped : ℕ) (c c1 c2 : Emitted) → s ≡ if_else p t st (others_of others (otherwise_tree o)) → items ≡ others
+  pub opened : (s : Stmt) (p : Place) (t : Expr) (st : Stmt) (others items : List Arm) (o : Option (Box code_stmt.Stmt Global)) (end parts skipped : ℕ) (c c1 c2 : Emitted) → s ≡ if_with_else p t st (arms_of others (else_tree o)) → items ≡ others
       → end ≡ length c.instrs + stmt_size s → parts ≡ length others → skipped ≡ stmt_size st + cond (nat_lt 0 parts || is_some o) 1 0 → c1 ≡ with_test names p t skipped c → c2 ≡ with_stmt names st c1
-      → IsLeft end (others_of items (otherwise_tree o)) (with_stmt names s c) c2
+      → IsLeft end (arms_of items (else_tree o)) (with_stmt names s c) c2
   opened s p t st others items o end parts skipped c c1 c2 tree same is_end count is_skipped is1 is2 =
-      let rest = others_of others (otherwise_tree o) in
+      let rest = arms_of others (else_tree o) in
       let part = first_part p t st rest end skipped c c2 (is_end ∙ ap (λ x. length c.instrs + stmt_size x) tree) (skipped_is st others o parts skipped count is_skipped) (is2 ∙ ap (with_stmt names st) is1) in
-      subst (λ l. IsLeft end (others_of l (otherwise_tree o)) (with_stmt names s c) c2) (sym same) (subst (λ x. IsLeft end rest (with_stmt names x c) c2) (sym tree) part)
+      subst (λ l. IsLeft end (arms_of l (else_tree o)) (with_stmt names s c) c2) (sym same) (subst (λ x. IsLeft end rest (with_stmt names x c) c2) (sym tree) part)
 
   -- a further part of it
-  pub continued : (arm : Arm) (items more : List Arm) (o : Option (Box code_stmt.Stmt Global)) (end parts skipped : ℕ) (whole c c1 c2 c3 : Emitted) → items ≡ arm ∷ more → IsLeft end (others_of items (otherwise_tree o)) whole c
+  pub continued : (arm : Arm) (items more : List Arm) (o : Option (Box code_stmt.Stmt Global)) (end parts skipped : ℕ) (whole c c1 c2 c3 : Emitted) → items ≡ arm ∷ more → IsLeft end (arms_of items (else_tree o)) whole c
       → parts ≡ length more → skipped ≡ stmt_size (stmt_tree arm.then) + cond (nat_lt 0 parts || is_some o) 1 0 → c1 ≡ with_instr (Jump end) c → c2 ≡ with_test names arm.place (expr_tree arm.condition) skipped c1 → c3 ≡ with_stmt names (stmt_tree arm.then) c2
-      → IsLeft end (others_of more (otherwise_tree o)) whole c3
+      → IsLeft end (arms_of more (else_tree o)) whole c3
   continued arm items more o end parts skipped whole c c1 c2 c3 first left count is_skipped is1 is2 is3 =
-      next_part arm.place (expr_tree arm.condition) (stmt_tree arm.then) (others_of more (otherwise_tree o)) end skipped whole c c3
-      (subst (λ l. IsLeft end (others_of l (otherwise_tree o)) whole c) first left)
+      next_part arm.place (expr_tree arm.condition) (stmt_tree arm.then) (arms_of more (else_tree o)) end skipped whole c c3
+      (subst (λ l. IsLeft end (arms_of l (else_tree o)) whole c) first left)
       (skipped_is (stmt_tree arm.then) more o parts skipped count is_skipped)
       (is3 ∙ ap (with_stmt names (stmt_tree arm.then)) (is2 ∙ ap (with_test names arm.place (expr_tree arm.condition) skipped) is1))
 

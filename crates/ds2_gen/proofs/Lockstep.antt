@@ -1,4 +1,4 @@
--- Two runs of one code with one way make equally many instructions, and a run has one end.
+-- Two runs of one code with one way make equally many instructions.
 use Rattle.std.proofs.Common.{◌≡◌, ℕ, zero, suc, ◌+◌, Bool, true, false, List, [], ◌∷◌, ◌++◌, Option, Some, None, Result, Ok, Err, refl, sym, ap, ◌∙◌, subst, append_assoc, append-nil}
 use Rattle.std.specs.Prelude.{slice_get}
 use Rattle.std.proofs.lemmas.List.{append_cancel_left}
@@ -10,7 +10,7 @@ use Rattle.ds2_value.specs.Run.{Event, Began, Did, Tested, Failed, Outcome}
 use Rattle.ds2_code.specs.declared.instr.Instr.{Instr}
 use Rattle.ds2_code.specs.declared.instr.Instr.TheVariants.{Const, GLoad, GStore, IAdd, ISub, ICmp, Tick, Jump, JFalse, Output, End}
 use Rattle.ds2_code.specs.declared.program.ProgramCode.{ProgramCode}
-use Rattle.ds2_code.specs.Machine.{Slots, Ending, Finished, Stuck, Machine, Next, Goes, Stops, operate, on_two, on_store, branch, on_test, tick, value_at, act, step, Status, Runs, Over, one_more, go_on, run}
+use Rattle.ds2_code.specs.Machine.{Slots, Ending, Finished, Stuck, Machine, Next, Goes, Stops, operate, on_two, on_store, branch, on_test, tick, numbered_value, act, step, Status, Runs, Over, one_more, go_on, run, HasOneEnd}
 use Rattle.ds2_code.specs.Unit.{RunsUnit, begun}
 use Rattle.ds2_gen.specs.Correct.{way_of}
 
@@ -84,8 +84,8 @@ module _ (m u : Machine) (same_at : m.at ≡ u.at) (same_way : u.rest.way ≡ m.
   tick_law (suc n) (suc k) p = marked (Began p) (Began p) refl (mark (Began p)) (λ e. next_at)
 
   act_law : (code : ProgramCode) (i : Instr) → Law m.rest.way (act code i m) (act code i u)
-  act_law code (Const k) = operate_law (Ok (value_at code.constants k)) (Ok (value_at code.constants k)) m.stack u.stack
-  act_law code (GLoad s) = operate_law (Ok (value_at m.slots s)) (Ok (value_at u.slots s)) m.stack u.stack
+  act_law code (Const k) = operate_law (Ok (numbered_value code.constants k)) (Ok (numbered_value code.constants k)) m.stack u.stack
+  act_law code (GLoad s) = operate_law (Ok (numbered_value m.slots s)) (Ok (numbered_value u.slots s)) m.stack u.stack
   act_law code (GStore s) = store_law s m.stack u.stack
   act_law code IAdd = two_law sum_of m.stack u.stack
   act_law code ISub = two_law difference_of m.stack u.stack
@@ -200,25 +200,8 @@ module _ (code : ProgramCode) where
   unit_counts budget budget' row row' slots slots' n m outcome outcome' g h w =
       lockstep n m n m (begun code budget row slots) (begun code budget' row' slots') (Finished outcome) (Finished outcome') refl refl g h tt tt w
 
-  -- two runs of one machine
-  abbrev Agrees : ℕ → Type 0
-  Agrees n = (k i j : ℕ) (m : Machine) (e f : Ending) → run code n m ≡ Over i e → run code k m ≡ Over j f → (i ≡ j) × (e ≡ f)
-
-  same_pair : (n : ℕ) → Agrees n → (k i j : ℕ) (x : Next) (e f : Ending) → go_on x (run code n) ≡ Over i e → go_on x (run code k) ≡ Over j f → (i ≡ j) × (e ≡ f)
-  same_pair n ih k i j (Goes m) e f g h =
-      let a = one_less (run code n m) i e g in
-      let b = one_less (run code k m) j f h in
-      let r = ih k a.0 b.0 m e f a.1 b.1 in
-      (a.2 ∙ ap (λ z. suc z) r.0 ∙ sym b.2, r.1)
-  same_pair n ih k i j (Stops d) e f g h = (cc, cc)
-
-  one_end : (n : ℕ) → Agrees n
-  one_end zero k i j m e f g h = absurd cc
-  one_end (suc n) zero i j m e f g h = absurd cc
-  one_end (suc n) (suc k) i j m e f g h = same_pair n (one_end n) k i j (step code (slice_get code.instrs m.at) m) e f g h
-
   -- a unit has one end
-  pub unit_end : (budget : ℕ) (row slots : List Value) (n m : ℕ) (outcome outcome' : Outcome Slots) → RunsUnit code budget row slots n outcome → RunsUnit code budget row slots m outcome' → outcome ≡ outcome'
-  unit_end budget row slots n m outcome outcome' g h =
-      let same = (one_end n m n m (begun code budget row slots) (Finished outcome) (Finished outcome') g h).1 in
+  pub unit_end : HasOneEnd → (budget : ℕ) (row slots : List Value) (n m : ℕ) (outcome outcome' : Outcome Slots) → RunsUnit code budget row slots n outcome → RunsUnit code budget row slots m outcome' → outcome ≡ outcome'
+  unit_end one_end budget row slots n m outcome outcome' g h =
+      let same = (one_end code n m n m (begun code budget row slots) (Finished outcome) (Finished outcome') g h).1 in
       cc same

@@ -7,13 +7,13 @@ use Rattle.ds2_value.specs.Run.{Rest}
 use Rattle.ds2_meaning.specs.declared.tree.Sign.{Sign}
 use Rattle.ds2_meaning.specs.declared.tree.Sign.TheVariants.{Plus, Minus}
 use Rattle.ds2_meaning.specs.Tree.{Expr, Constant, Variable, Chain, Compare, Terms, NoTerm, Term, Stmt, Assign, If, IfElse, Stmts, NoStmt, Then}
-use Rattle.ds2_meaning.specs.Meaning.{Contents, Gave, signed, evaluate, evaluate_terms, exec, exec_all, done}
-use Rattle.ds2_meaning.specs.Program.{has_name}
+use Rattle.ds2_meaning.specs.Meaning.{DataVector, Gave, sum_or_difference, evaluate, evaluate_terms, exec, exec_all, done}
+use Rattle.ds2_meaning.specs.Program.{lists_name}
 use Rattle.ds2_meaning.specs.Names.{or_next, sought, sought_in, sought_in_stmt, sought_in_all}
 use Rattle.ds2_layout.specs.Slots.{slot_number}
 use Rattle.ds2_code.specs.declared.instr.Instr.TheVariants.{Const, GLoad, ICmp}
 use Rattle.ds2_code.specs.declared.program.ProgramCode.{ProgramCode}
-use Rattle.ds2_code.specs.Machine.{Slots, Machine, act, value_at}
+use Rattle.ds2_code.specs.Machine.{Slots, Machine, act, numbered_value}
 use Rattle.ds2_code.specs.Machine as machine
 use Rattle.ds2_gen.specs.Code.{constants_of, constants_in_terms, constants_in_stmt, constants_in_all, sign_code, expr_code, terms_code, expr_size, terms_size, stmt_size, all_size, stmt_code, all_code}
 use Rattle.ds2_gen.proofs.Stretch.{HasAt, has_front, has_back}
@@ -35,23 +35,23 @@ test_known : (b : Bool) (p : Place) → cond (not b) (Some p) None ≡ None → 
 test_known true p h = refl
 test_known false p h = absurd cc
 
-name_known : (known : List (List ℕ)) (name : List ℕ) (p : Place) → sought false known name p ≡ None → has_name known name ≡ true
-name_known known name p h = test_known (has_name known name) p h
+name_known : (known : List (List ℕ)) (name : List ℕ) (p : Place) → sought false known name p ≡ None → lists_name known name ≡ true
+name_known known name p h = test_known (lists_name known name) p h
 
 -- ---- expressions
 
-sign_acts : (code : ProgramCode) (s : Sign) (at : ℕ) (x y : Value) (stack : List Value) (slots : Slots) (rest : Rest) → act code (sign_code s) (mk at (y ∷ x ∷ stack) slots rest) ≡ machine.operate (signed s x y) stack (mk at (y ∷ x ∷ stack) slots rest)
+sign_acts : (code : ProgramCode) (s : Sign) (at : ℕ) (x y : Value) (stack : List Value) (slots : Slots) (rest : Rest) → act code (sign_code s) (mk at (y ∷ x ∷ stack) slots rest) ≡ machine.operate (sum_or_difference s x y) stack (mk at (y ∷ x ∷ stack) slots rest)
 sign_acts code Plus at x y stack slots rest = refl
 sign_acts code Minus at x y stack slots rest = refl
 
 module _ (code : ProgramCode) (names : List (List ℕ)) where
   mutual
-    pub expr_runs : (e : Expr) (at to k : ℕ) (stack : List Value) (slots : Slots) (rest : Rest) (c : Contents) → at + expr_size e ≡ to → HasAt code.instrs at (expr_code names k e) → HasAt code.constants k (constants_of e) → Holds code names slots c
+    pub expr_runs : (e : Expr) (at to k : ℕ) (stack : List Value) (slots : Slots) (rest : Rest) (c : DataVector) → at + expr_size e ≡ to → HasAt code.instrs at (expr_code names k e) → HasAt code.constants k (constants_of e) → Holds code names slots c
         → Gives code names (mk at stack slots rest) stack to c (evaluate e (world c rest))
     expr_runs (Constant v) at to k stack slots rest c len has con h =
         did code names (Const k) (Ok v) (mk at stack slots rest) stack to c has.0 (ap (λ o. machine.operate (Ok (or_null o)) stack (mk at stack slots rest)) con.0) len
     expr_runs (Variable name p) at to k stack slots rest c len has con h =
-        let value : value_at slots (slot_number names name) ≡ c name = slot_read names slots name h.kept ∙ ap (λ (d : Contents). d name) h.same in
+        let value : numbered_value slots (slot_number names name) ≡ c name = slot_read names slots name h.kept ∙ ap (λ (d : DataVector). d name) h.same in
         did code names (GLoad (slot_number names name)) (Ok (c name)) (mk at stack slots rest) stack to c has.0 (ap (λ v. machine.operate (Ok v) stack (mk at stack slots rest)) value) len
     expr_runs (Chain first terms) at to k stack slots rest c len has con h =
         let cf = expr_code names k first in
@@ -74,7 +74,7 @@ module _ (code : ProgramCode) (names : List (List ℕ)) where
         (expr_runs right mid end k1 (x ∷ stack) slots r c refl (has_front code.instrs mid cr _ hr) (has_back code.constants k k1 (constants_of left) _ refl con) h)
         (λ y q. did code names (ICmp comparison) (Ok (compared_of comparison x y)) (mk end (y ∷ x ∷ stack) slots q) stack to c here refl (omega arith)))
 
-    terms_run : (t : Terms) (at to k : ℕ) (stack : List Value) (x : Value) (slots : Slots) (rest : Rest) (c : Contents) → at + terms_size t ≡ to → HasAt code.instrs at (terms_code names k t) → HasAt code.constants k (constants_in_terms t) → Holds code names slots c
+    terms_run : (t : Terms) (at to k : ℕ) (stack : List Value) (x : Value) (slots : Slots) (rest : Rest) (c : DataVector) → at + terms_size t ≡ to → HasAt code.instrs at (terms_code names k t) → HasAt code.constants k (constants_in_terms t) → Holds code names slots c
         → Gives code names (mk at (x ∷ stack) slots rest) stack to c (evaluate_terms t x (world c rest))
     terms_run NoTerm at to k stack x slots rest c len has con h =
         gives_at code names (mk at (x ∷ stack) slots rest) stack at to c (Gave x (world c rest)) (omega arith) (refl, stays code names _)
@@ -86,13 +86,13 @@ module _ (code : ProgramCode) (names : List (List ℕ)) where
         operand_gives code names at (x ∷ stack) slots rest (x ∷ stack) stack mid to c _ _
         (expr_runs operand at mid k (x ∷ stack) slots rest c refl (has_front code.instrs at co _ has) (has_front code.constants k (constants_of operand) _ con) h)
         (λ y r. operand_gives code names mid (y ∷ x ∷ stack) slots r stack stack (mid + 1) to c _ _
-        (did code names (sign_code sign) (signed sign x y) (mk mid (y ∷ x ∷ stack) slots r) stack (mid + 1) c hs.0 (sign_acts code sign mid x y stack slots r) refl)
+        (did code names (sign_code sign) (sum_or_difference sign x y) (mk mid (y ∷ x ∷ stack) slots r) stack (mid + 1) c hs.0 (sign_acts code sign mid x y stack slots r) refl)
         (λ z q. terms_run terms (mid + 1) to k1 stack z slots q c (omega arith) hs.1 (has_back code.constants k k1 (constants_of operand) _ refl con) h))
 
   -- ---- statements
 
   mutual
-    pub stmt_runs : (s : Stmt) (at to k : ℕ) (stack : List Value) (slots : Slots) (rest : Rest) (c : Contents) → at + stmt_size s ≡ to → sought_in_stmt false names s ≡ None → HasAt code.instrs at (stmt_code names at k s) → HasAt code.constants k (constants_in_stmt s) → Holds code names slots c
+    pub stmt_runs : (s : Stmt) (at to k : ℕ) (stack : List Value) (slots : Slots) (rest : Rest) (c : DataVector) → at + stmt_size s ≡ to → sought_in_stmt false names s ≡ None → HasAt code.instrs at (stmt_code names at k s) → HasAt code.constants k (constants_in_stmt s) → Holds code names slots c
         → Does code names (mk at stack slots rest) stack to (exec s (world c rest))
     stmt_runs (Assign p target e) at to k stack slots rest c len known has con h =
         let ce = expr_code names k e in
@@ -136,7 +136,7 @@ module _ (code : ProgramCode) (names : List (List ℕ)) where
         (λ u. jump_runs code names _ stack skip end _ hj.0 (stmt_runs s first skip k1 stack slots u c refl (first_none (sought_in_stmt false names s) (sought_in_stmt false names o) rest_known) (has_front code.instrs first cs _ ht.1) (has_front code.constants k1 (constants_in_stmt s) _ con1) h))
         (λ u. stmt_runs o other end k2 stack slots u c refl (second_none (sought_in_stmt false names s) (sought_in_stmt false names o) rest_known) hj.1 (has_back code.constants k1 k2 (constants_in_stmt s) _ refl con1) h))))
 
-    pub all_run : (ss : Stmts) (at to k : ℕ) (stack : List Value) (slots : Slots) (rest : Rest) (c : Contents) → at + all_size ss ≡ to → sought_in_all false names ss ≡ None → HasAt code.instrs at (all_code names at k ss) → HasAt code.constants k (constants_in_all ss) → Holds code names slots c
+    pub all_run : (ss : Stmts) (at to k : ℕ) (stack : List Value) (slots : Slots) (rest : Rest) (c : DataVector) → at + all_size ss ≡ to → sought_in_all false names ss ≡ None → HasAt code.instrs at (all_code names at k ss) → HasAt code.constants k (constants_in_all ss) → Holds code names slots c
         → Does code names (mk at stack slots rest) stack to (exec_all ss (world c rest))
     all_run NoStmt at to k stack slots rest c len known has con h = runs_at code names (mk at stack slots rest) stack at to (done (world c rest)) (omega arith) (slots, h, stays code names _)
     all_run (Then s ss) at to k stack slots rest c len known has con h =

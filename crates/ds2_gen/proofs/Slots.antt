@@ -11,11 +11,11 @@ use Rattle.ds2_value.specs.declared.value.Value.{Value}
 use Rattle.ds2_value.specs.declared.value.Value.TheVariants.{Null}
 use Rattle.ds2_value.specs.declared.schema.Column.{Column}
 use Rattle.ds2_value.specs.Value.{or_null}
-use Rattle.ds2_meaning.specs.Program.{Program, names_of, has_name, variables, in_row, or_else, loaded}
-use Rattle.ds2_meaning.specs.Meaning.{Contents}
+use Rattle.ds2_meaning.specs.Program.{Program, names_of, lists_name, variables, in_row, or_else, loaded}
+use Rattle.ds2_meaning.specs.Meaning.{DataVector}
 use Rattle.ds2_layout.specs.Slots.{slot_number, slot_names, named}
-use Rattle.ds2_code.specs.Machine.{Slots, value_at, row_of}
-use Rattle.ds2_code.specs.Unit.{cleared, filled, cleared_slot}
+use Rattle.ds2_code.specs.Machine.{Slots, numbered_value, row_of}
+use Rattle.ds2_code.specs.Unit.{cleared, loaded_slots, cleared_slot}
 use Rattle.ds2_code.specs.declared.program.Role.{Role}
 use Rattle.ds2_code.specs.declared.program.Role.TheVariants as role
 use Rattle.ds2_gen.specs.Code.{role_of, slots_of}
@@ -59,19 +59,19 @@ is_turned a b =
 
 -- ---- a slot is read
 
-read_step : (b : Bool) (m : ℕ) (v : Value) (slots : List Value) (o : Option Value) → value_at slots m ≡ or_null o → value_at (v ∷ slots) (cond b 0 (suc m)) ≡ or_null (cond b (Some v) o)
+read_step : (b : Bool) (m : ℕ) (v : Value) (slots : List Value) (o : Option Value) → numbered_value slots m ≡ or_null o → numbered_value (v ∷ slots) (cond b 0 (suc m)) ≡ or_null (cond b (Some v) o)
 read_step true m v slots o h = refl
 read_step false m v slots o h = h
 
-read_ahead : (names : List (List ℕ)) (slots : List Value) (name : List ℕ) → length slots ≡ length names → value_at slots (ahead (is name) names) ≡ named names slots name
+read_ahead : (names : List (List ℕ)) (slots : List Value) (name : List ℕ) → length slots ≡ length names → numbered_value slots (ahead (is name) names) ≡ named names slots name
 read_ahead [] [] name e = refl
 read_ahead [] (v ∷ slots) name e = absurd (omega arith)
 read_ahead (n ∷ names) [] name e = refl
 read_ahead (n ∷ names) (v ∷ slots) name e = read_step (bytes_eq n name) (ahead (is name) names) v slots (in_row names slots name) (read_ahead names slots name (omega arith))
 
 -- the slot of a name has the value under the name
-pub slot_read : (names : List (List ℕ)) (slots : List Value) (name : List ℕ) → length slots ≡ length names → value_at slots (slot_number names name) ≡ named names slots name
-slot_read names slots name e = ap (λ k. value_at slots k) (number_ahead names name) ∙ read_ahead names slots name e
+pub slot_read : (names : List (List ℕ)) (slots : List Value) (name : List ℕ) → length slots ≡ length names → numbered_value slots (slot_number names name) ≡ named names slots name
+slot_read names slots name e = ap (λ k. numbered_value slots k) (number_ahead names name) ∙ read_ahead names slots name e
 
 -- a row of the slots of these columns has the values under their names
 pub row_read : (names : List (List ℕ)) (slots : List Value) (columns : List Column) → length slots ≡ length names → row_of (map (λ (c : Column). slot_number names c.name) columns) slots ≡ map (λ (c : Column). named names slots c.name) columns
@@ -93,7 +93,7 @@ write_step false true false m u v slots whole rest is h k ih = ap or_null (is u 
 write_step false false true m u v slots whole rest is h k ih = ap or_null (is u (slice_set slots m v)) ∙ ih refl
 write_step false false false m u v slots whole rest is h k ih = ap or_null (is u (slice_set slots m v)) ∙ ih refl ∙ ap or_null (sym (is u slots))
 
-write_ahead : (names : List (List ℕ)) (slots : List Value) (target : List ℕ) (v : Value) (name : List ℕ) → length slots ≡ length names → has_name names target ≡ true
+write_ahead : (names : List (List ℕ)) (slots : List Value) (target : List ℕ) (v : Value) (name : List ℕ) → length slots ≡ length names → lists_name names target ≡ true
     → named names (slice_set slots (ahead (is target) names) v) name ≡ cond (bytes_eq name target) v (named names slots name)
 write_ahead [] slots target v name e known = absurd (true≢false (sym known))
 write_ahead (n ∷ names) [] target v name e known = absurd (omega arith)
@@ -102,10 +102,10 @@ write_ahead (n ∷ names) (u ∷ slots) target v name e known =
     (λ w ws. refl)
     (λ b. ap (λ x. bytes_eq x name) (is_same n target b) ∙ is_turned target name)
     (λ b c. ap (λ x. bytes_eq x target) (sym (is_same n name c)) ∙ b)
-    (λ b. write_ahead names slots target v name (omega arith) (sym (ap (λ x. x || has_name names target) b) ∙ known))
+    (λ b. write_ahead names slots target v name (omega arith) (sym (ap (λ x. x || lists_name names target) b) ∙ known))
 
 -- a value in the slot of a known name is a value under the name
-pub slot_write : (names : List (List ℕ)) (slots : List Value) (target : List ℕ) (v : Value) → length slots ≡ length names → has_name names target ≡ true
+pub slot_write : (names : List (List ℕ)) (slots : List Value) (target : List ℕ) (v : Value) → length slots ≡ length names → lists_name names target ≡ true
     → named names (slice_set slots (slot_number names target) v) ≡ (λ other. if bytes_eq other target then v else named names slots other)
 slot_write names slots target v e known =
     fun_ext (λ name. ap (λ k. named names (slice_set slots k v) name) (number_ahead names target) ∙ write_ahead names slots target v name e known)
@@ -117,20 +117,20 @@ absent_step true v o known h k = absurd (true≢false h)
 absent_step false v o known h k = k h
 
 -- no name that is not there has a value
-absent : (names : List (List ℕ)) (slots : List Value) (name : List ℕ) → has_name names name ≡ false → named names slots name ≡ Null
+absent : (names : List (List ℕ)) (slots : List Value) (name : List ℕ) → lists_name names name ≡ false → named names slots name ≡ Null
 absent [] slots name h = refl
 absent (n ∷ names) [] name h = refl
-absent (n ∷ names) (v ∷ slots) name h = absent_step (bytes_eq n name) v (in_row names slots name) (has_name names name) h (absent names slots name)
+absent (n ∷ names) (v ∷ slots) name h = absent_step (bytes_eq n name) v (in_row names slots name) (lists_name names name) h (absent names slots name)
 
 pub length_cleared : (roles : List Role) (slots : Slots) → length (cleared roles slots) ≡ length slots
 length_cleared [] slots = refl
 length_cleared (r ∷ roles) [] = refl
 length_cleared (r ∷ roles) (v ∷ slots) = ap (λ n. suc n) (length_cleared roles slots)
 
-pub length_filled : (columns : List ℕ) (row slots : List Value) → length (filled columns row slots) ≡ length slots
+pub length_filled : (columns : List ℕ) (row slots : List Value) → length (loaded_slots columns row slots) ≡ length slots
 length_filled [] row slots = refl
 length_filled (slot ∷ columns) [] slots = refl
-length_filled (slot ∷ columns) (v ∷ row) slots = length-set (filled columns row slots) slot v ∙ length_filled columns row slots
+length_filled (slot ∷ columns) (v ∷ row) slots = length-set (loaded_slots columns row slots) slot v ∙ length_filled columns row slots
 
 -- what clearing leaves under a name: the value of a column, and else null
 clear_step : (b column : Bool) (v : Value) (r : Role) (o p : Option Value) → (b ≡ true → r ≡ cond column role.Column role.Null) → or_null o ≡ cond column (or_null p) Null → or_null (cond b (Some (cleared_slot r v)) o) ≡ cond column (or_null (cond b (Some v) p)) Null
@@ -144,12 +144,12 @@ null_both true = refl
 null_both false = refl
 
 cleared_named : (program : Program) (vars : List Column) (slots : List Value) (name : List ℕ) → length slots ≡ length vars
-    → named (names_of vars) (cleared (map (role_of program) vars) slots) name ≡ cond (has_name (names_of program.columns) name) (named (names_of vars) slots name) Null
-cleared_named program [] slots name e = null_both (has_name (names_of program.columns) name)
+    → named (names_of vars) (cleared (map (role_of program) vars) slots) name ≡ cond (lists_name (names_of program.columns) name) (named (names_of vars) slots name) Null
+cleared_named program [] slots name e = null_both (lists_name (names_of program.columns) name)
 cleared_named program (c ∷ vars) [] name e = absurd (omega arith)
 cleared_named program (c ∷ vars) (v ∷ slots) name e =
-    clear_step (bytes_eq c.name name) (has_name (names_of program.columns) name) v (role_of program c) _ _
-    (λ b. ap (λ x. cond (has_name (names_of program.columns) x) role.Column role.Null) (is_same c.name name b))
+    clear_step (bytes_eq c.name name) (lists_name (names_of program.columns) name) v (role_of program c) _ _
+    (λ b. ap (λ x. cond (lists_name (names_of program.columns) x) role.Column role.Null) (is_same c.name name b))
     (cleared_named program vars slots name (omega arith))
 
 -- each of these columns passes
@@ -168,13 +168,13 @@ fill_step false false v x o e = refl
 fill_step true false v x o e = absurd (true≢false e)
 fill_step false true v x o e = absurd (true≢false (sym e))
 
-filled_named : (names : List (List ℕ)) (columns : List Column) (row slots : List Value) (name : List ℕ) → length slots ≡ length names → Each (λ c. has_name names c.name ≡ true) columns
-    → named names (filled (map (λ (c : Column). slot_number names c.name) columns) row slots) name ≡ or_else (in_row (names_of columns) row name) (named names slots name)
+filled_named : (names : List (List ℕ)) (columns : List Column) (row slots : List Value) (name : List ℕ) → length slots ≡ length names → Each (λ c. lists_name names c.name ≡ true) columns
+    → named names (loaded_slots (map (λ (c : Column). slot_number names c.name) columns) row slots) name ≡ or_else (in_row (names_of columns) row name) (named names slots name)
 filled_named names [] row slots name e known = refl
 filled_named names (c ∷ columns) [] slots name e known = refl
 filled_named names (c ∷ columns) (v ∷ row) slots name e known =
-    let before = filled (map (λ (d : Column). slot_number names d.name) columns) row slots in
-    ap (λ (f : Contents). f name) (slot_write names before c.name v (length_filled (map (λ (d : Column). slot_number names d.name) columns) row slots ∙ e) known.0)
+    let before = loaded_slots (map (λ (d : Column). slot_number names d.name) columns) row slots in
+    ap (λ (f : DataVector). f name) (slot_write names before c.name v (length_filled (map (λ (d : Column). slot_number names d.name) columns) row slots ∙ e) known.0)
     ∙ ap (λ x. cond (bytes_eq name c.name) v x) (filled_named names columns row slots name e known.1)
     ∙ fill_step (bytes_eq c.name name) (bytes_eq name c.name) v (named names slots name) (in_row (names_of columns) row name) (is_turned c.name name)
 
@@ -182,33 +182,33 @@ or_step : (b c d e : Bool) → e ≡ (c || d) → (b || e) ≡ ((b || c) || d)
 or_step true c d e h = refl
 or_step false c d e h = h
 
-has_both : (a b : List Column) (name : List ℕ) → has_name (names_of (a ++ b)) name ≡ (has_name (names_of a) name || has_name (names_of b) name)
+has_both : (a b : List Column) (name : List ℕ) → lists_name (names_of (a ++ b)) name ≡ (lists_name (names_of a) name || lists_name (names_of b) name)
 has_both [] b name = refl
-has_both (c ∷ a) b name = or_step (bytes_eq c.name name) (has_name (names_of a) name) (has_name (names_of b) name) (has_name (names_of (a ++ b)) name) (has_both a b name)
+has_both (c ∷ a) b name = or_step (bytes_eq c.name name) (lists_name (names_of a) name) (lists_name (names_of b) name) (lists_name (names_of (a ++ b)) name) (has_both a b name)
 
 -- a column is declared or stands among those that are not
-kept_front : (b : Bool) (c : Column) (rest : List Column) → (b || has_name (names_of (cond (not b) (c ∷ rest) rest)) c.name) ≡ true
+kept_front : (b : Bool) (c : Column) (rest : List Column) → (b || lists_name (names_of (cond (not b) (c ∷ rest) rest)) c.name) ≡ true
 kept_front true c rest = refl
-kept_front false c rest = ap (λ x. x || has_name (names_of rest) c.name) ((bytes_eq-Decides c.name c.name).1 refl)
+kept_front false c rest = ap (λ x. x || lists_name (names_of rest) c.name) ((bytes_eq-Decides c.name c.name).1 refl)
 
-kept_back : (b d : Bool) (c : Column) (rest : List Column) (name : List ℕ) → (d || has_name (names_of rest) name) ≡ true → (d || has_name (names_of (cond (not b) (c ∷ rest) rest)) name) ≡ true
+kept_back : (b d : Bool) (c : Column) (rest : List Column) (name : List ℕ) → (d || lists_name (names_of rest) name) ≡ true → (d || lists_name (names_of (cond (not b) (c ∷ rest) rest)) name) ≡ true
 kept_back b true c rest name h = refl
 kept_back true false c rest name h = h
-kept_back false false c rest name h = or_right (bytes_eq c.name name) (has_name (names_of rest) name) h
+kept_back false false c rest name h = or_right (bytes_eq c.name name) (lists_name (names_of rest) name) h
 
 module _ (declared : List Column) where
   abbrev undeclared : List Column → List Column
-  undeclared columns = filter (λ (c : Column). not (has_name (names_of declared) c.name)) columns
+  undeclared columns = filter (λ (c : Column). not (lists_name (names_of declared) c.name)) columns
 
-  each_kept : (columns : List Column) → Each (λ c. (has_name (names_of declared) c.name || has_name (names_of (undeclared columns)) c.name) ≡ true) columns
+  each_kept : (columns : List Column) → Each (λ c. (lists_name (names_of declared) c.name || lists_name (names_of (undeclared columns)) c.name) ≡ true) columns
   each_kept [] = tt
   each_kept (c ∷ columns) = (
-    kept_front (has_name (names_of declared) c.name) c (undeclared columns),
-    each_map _ _ (λ d h. kept_back (has_name (names_of declared) c.name) (has_name (names_of declared) d.name) c (undeclared columns) d.name h) columns (each_kept columns),
+    kept_front (lists_name (names_of declared) c.name) c (undeclared columns),
+    each_map _ _ (λ d h. kept_back (lists_name (names_of declared) c.name) (lists_name (names_of declared) d.name) c (undeclared columns) d.name h) columns (each_kept columns),
   )
 
 -- each column is a variable
-columns_known : (program : Program) → Each (λ c. has_name (slot_names program) c.name ≡ true) program.columns
+columns_known : (program : Program) → Each (λ c. lists_name (slot_names program) c.name ≡ true) program.columns
 columns_known program =
     each_map _ _ (λ c h. has_both program.declared (undeclared program.declared program.columns) c.name ∙ h) program.columns (each_kept program.declared program.columns)
 
@@ -217,10 +217,10 @@ row_step true v o known h k = absurd cc
 row_step false v o known h k = k h
 
 -- a name without a value in a whole row is no column
-not_in_row : (columns : List (List ℕ)) (row : List Value) (name : List ℕ) → length row ≡ length columns → in_row columns row name ≡ None → has_name columns name ≡ false
+not_in_row : (columns : List (List ℕ)) (row : List Value) (name : List ℕ) → length row ≡ length columns → in_row columns row name ≡ None → lists_name columns name ≡ false
 not_in_row [] row name e h = refl
 not_in_row (n ∷ columns) [] name e h = absurd (omega arith)
-not_in_row (n ∷ columns) (v ∷ row) name e h = row_step (bytes_eq n name) v (in_row columns row name) (has_name columns name) h (not_in_row columns row name (omega arith))
+not_in_row (n ∷ columns) (v ∷ row) name e h = row_step (bytes_eq n name) v (in_row columns row name) (lists_name columns name) h (not_in_row columns row name (omega arith))
 
 load_step : (o : Option Value) (column known : Bool) (x : Value) → (o ≡ None → column ≡ false) → (known ≡ false → x ≡ Null) → or_else o (cond column x Null) ≡ or_else o (cond known Null x)
 load_step (Some v) column known x h k = refl
@@ -229,7 +229,7 @@ load_step None column false x h k = ap (λ b. cond b x Null) (h refl) ∙ sym (k
 
 -- the slots as the unit finds them have what the row loads
 pub load_named : (program : Program) (row slots : List Value) → length slots ≡ length (variables program) → length row ≡ length program.columns
-    → named (slot_names program) (filled (slots_of program program.columns) row (cleared (map (role_of program) (variables program)) slots)) ≡ loaded program row (named (slot_names program) slots)
+    → named (slot_names program) (loaded_slots (slots_of program program.columns) row (cleared (map (role_of program) (variables program)) slots)) ≡ loaded program row (named (slot_names program) slots)
 load_named program row slots e n =
     let names = slot_names program in
     let count : length slots ≡ length names = e ∙ sym (length-map (variables program) (λ (c : Column). c.name)) in
@@ -237,7 +237,7 @@ load_named program row slots e n =
     fun_ext (λ name.
     filled_named names program.columns row clear name (length_cleared (map (role_of program) (variables program)) slots ∙ count) (columns_known program)
     ∙ ap (λ x. or_else (in_row (names_of program.columns) row name) x) (cleared_named program (variables program) slots name e)
-    ∙ load_step (in_row (names_of program.columns) row name) (has_name (names_of program.columns) name) (has_name names name) (named names slots name)
+    ∙ load_step (in_row (names_of program.columns) row name) (lists_name (names_of program.columns) name) (lists_name names name) (named names slots name)
     (not_in_row (names_of program.columns) row name (n ∙ sym (length-map program.columns (λ (c : Column). c.name))))
     (absent names slots name))
 

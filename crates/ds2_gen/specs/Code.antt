@@ -6,7 +6,7 @@ use Rattle.ds2_value.specs.declared.schema.Column.{Column}
 use Rattle.ds2_meaning.specs.declared.tree.Sign.{Sign}
 use Rattle.ds2_meaning.specs.declared.tree.Sign.TheVariants.{Plus, Minus}
 use Rattle.ds2_meaning.specs.Tree.{Expr, Constant, Variable, Chain, Compare, Terms, NoTerm, Term, Stmt, Assign, If, IfElse, Stmts, NoStmt, Then}
-use Rattle.ds2_meaning.specs.Program.{Program, has_name, names_of, variables}
+use Rattle.ds2_meaning.specs.Program.{Program, lists_name, names_of, variables}
 use Rattle.ds2_layout.specs.Slots.{slot_number, slot_names}
 use Rattle.ds2_code.specs.declared.instr.Instr.{Instr}
 use Rattle.ds2_code.specs.declared.instr.Instr.TheVariants.{Const, GLoad, GStore, IAdd, ISub, ICmp, Tick, Jump, JFalse, Output, End}
@@ -14,7 +14,7 @@ use Rattle.ds2_code.specs.declared.program.ProgramCode.{ProgramCode}
 use Rattle.ds2_code.specs.declared.program.Role.{Role}
 use Rattle.ds2_code.specs.declared.program.Role.TheVariants as role
 
--- the constants of a tree, in the order in which they stand
+-- the constants of an expression, in the order in which they stand
 abbrev mutual
   pub constants_of : Expr → List Value
   constants_of (Constant v) = v ∷ []
@@ -22,20 +22,24 @@ abbrev mutual
   constants_of (Chain first rest) = constants_of first ++ constants_in_terms rest
   constants_of (Compare comparison left right) = constants_of left ++ constants_of right
 
+  -- the constants of further operands, in their order
   pub constants_in_terms : Terms → List Value
   constants_in_terms NoTerm = []
   constants_in_terms (Term sign operand rest) = constants_of operand ++ constants_in_terms rest
 
 abbrev mutual
+  -- the constants of a statement, in the order in which they stand
   pub constants_in_stmt : Stmt → List Value
   constants_in_stmt (Assign p target e) = constants_of e
   constants_in_stmt (If p t s) = constants_of t ++ constants_in_stmt s
   constants_in_stmt (IfElse p t s o) = constants_of t ++ (constants_in_stmt s ++ constants_in_stmt o)
 
+  -- the constants of statements, in the order in which they stand
   pub constants_in_all : Stmts → List Value
   constants_in_all NoStmt = []
   constants_in_all (Then s rest) = constants_in_stmt s ++ constants_in_all rest
 
+-- the instruction of a sign
 abbrev pub sign_code : Sign → Instr
 sign_code Plus = IAdd
 sign_code Minus = ISub
@@ -49,6 +53,7 @@ abbrev mutual
   expr_code names k (Compare comparison left right) =
       expr_code names k left ++ (expr_code names (k + length (constants_of left)) right ++ ICmp comparison ∷ [])
 
+  -- the instructions of further operands, each followed by its sign
   pub terms_code : List (List ℕ) → ℕ → Terms → List Instr
   terms_code names k NoTerm = []
   terms_code names k (Term sign operand rest) =
@@ -62,6 +67,7 @@ abbrev mutual
   expr_size (Chain first rest) = expr_size first + terms_size rest
   expr_size (Compare comparison left right) = expr_size left + (expr_size right + 1)
 
+  -- how many instructions further operands have
   pub terms_size : Terms → ℕ
   terms_size NoTerm = 0
   terms_size (Term sign operand rest) = expr_size operand + (1 + terms_size rest)
@@ -73,6 +79,7 @@ abbrev mutual
   stmt_size (If p t s) = 1 + expr_size t + 1 + stmt_size s
   stmt_size (IfElse p t s o) = 1 + expr_size t + 1 + stmt_size s + 1 + stmt_size o
 
+  -- how many instructions statements have
   pub all_size : Stmts → ℕ
   all_size NoStmt = 0
   all_size (Then s rest) = stmt_size s + all_size rest
@@ -98,6 +105,7 @@ abbrev mutual
       let k1 = k + length (constants_of t) in
       if_else_code p (expr_code names k t) other (stmt_code names first k1 s) (other + stmt_size o) (stmt_code names other (k1 + length (constants_in_stmt s)) o)
 
+  -- the instructions of statements, one after the other
   pub all_code : List (List ℕ) → ℕ → ℕ → Stmts → List Instr
   all_code names at k NoStmt = []
   all_code names at k (Then s rest) =
@@ -107,13 +115,15 @@ abbrev mutual
 abbrev pub body_instrs : List (List ℕ) → Stmts → List Instr
 body_instrs names body = all_code names 0 0 body ++ Output 0 ∷ End ∷ []
 
+-- the instructions of a program
 abbrev pub program_instrs : Program → List Instr
 program_instrs program = body_instrs (slot_names program) program.body
 
 -- the role of a variable where the columns have these names: a column gets its value from the row, any other variable is set to null
 abbrev pub role_among : List (List ℕ) → Column → Role
-role_among columns variable = if has_name columns variable.name then role.Column else role.Null
+role_among columns variable = if lists_name columns variable.name then role.Column else role.Null
 
+-- the role of a variable of a program
 abbrev pub role_of : Program → Column → Role
 role_of program variable = role_among (names_of program.columns) variable
 
@@ -121,6 +131,7 @@ role_of program variable = role_among (names_of program.columns) variable
 abbrev pub slots_among : List (List ℕ) → List Column → List ℕ
 slots_among names columns = map (λ (c : Column). slot_number names c.name) columns
 
+-- the slots of these columns of a program
 abbrev pub slots_of : Program → List Column → List ℕ
 slots_of program columns = slots_among (slot_names program) columns
 

@@ -4,7 +4,7 @@ use Rattle.ds2_value.specs.declared.value.Value.{Value}
 use Rattle.ds2_value.specs.declared.value.Value.TheVariants.{Null}
 use Rattle.ds2_value.specs.Run.{Event, Outcome, Done, Stopped}
 use Rattle.ds2_table.specs.Alone.{ProgramEnd, IsAlone}
-use Rattle.ds2_meaning.specs.Meaning.{Contents}
+use Rattle.ds2_meaning.specs.Meaning.{DataVector}
 use Rattle.ds2_meaning.specs.Program.{Program, variables, run_unit, one_thread_answer}
 use Rattle.ds2_layout.specs.Slots.{slot_names, named}
 use Rattle.ds2_code.specs.declared.program.ProgramCode.{ProgramCode}
@@ -12,7 +12,7 @@ use Rattle.ds2_code.specs.Machine.{Slots}
 use Rattle.ds2_code.specs.Unit.{RunsUnit}
 
 -- an outcome over slots, by name
-abbrev pub outcome_by_name : List (List ℕ) → Outcome Slots → Outcome Contents
+abbrev pub outcome_by_name : List (List ℕ) → Outcome Slots → Outcome DataVector
 outcome_by_name names (Done slots rest) = Done (named names slots) rest
 outcome_by_name names (Stopped fault rest) = Stopped fault rest
 

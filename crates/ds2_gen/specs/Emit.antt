@@ -20,6 +20,7 @@ with_constant v c = record { instrs = c.instrs ++ Const (length c.constants) ∷
 unfoldable pub with_expr : List (List ℕ) → Expr → Emitted → Emitted
 with_expr names e c = record { instrs = c.instrs ++ expr_code names (length c.constants) e; constants = c.constants ++ constants_of e }
 
+-- the code of further operands
 unfoldable pub with_terms : List (List ℕ) → Terms → Emitted → Emitted
 with_terms names t c = record { instrs = c.instrs ++ terms_code names (length c.constants) t; constants = c.constants ++ constants_in_terms t }
 
@@ -27,6 +28,7 @@ with_terms names t c = record { instrs = c.instrs ++ terms_code names (length c.
 unfoldable pub with_stmt : List (List ℕ) → Stmt → Emitted → Emitted
 with_stmt names s c = record { instrs = c.instrs ++ stmt_code names (length c.instrs) (length c.constants) s; constants = c.constants ++ constants_in_stmt s }
 
+-- the code of statements, one after the other
 unfoldable pub with_all : List (List ℕ) → Stmts → Emitted → Emitted
 with_all names ss c = record { instrs = c.instrs ++ all_code names (length c.instrs) (length c.constants) ss; constants = c.constants ++ constants_in_all ss }
 

@@ -1,7 +1,11 @@
-//! The generator: from a program to its stack code.
+//! The generator: [`generate`] makes the stack code of a program.
 //!
 //! Code is only appended, and each target is known when its jump is written, since the size of a
 //! statement says how many instructions it has.
+//!
+//! ```text
+//! let code = generate(alloc, &program)?;
+//! ```
 #![tactic(auto)]
 
 mod emit;

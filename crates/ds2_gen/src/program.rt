@@ -4,14 +4,14 @@ ghost use Rattle.ds2_meaning.specs.Names.{AllKnown};
 ghost use Rattle.ds2_meaning.specs.Program.{names_of};
 ghost use Rattle.ds2_meaning.specs.View.{program_of, stmts_of};
 ghost use Rattle.ds2_layout.specs.Slots.{slot_names};
-ghost use Rattle.ds2_code.specs.Valid.{IsValid};
+ghost use Rattle.ds2_code.specs.Valid.{IsValidCode};
 ghost use Rattle.ds2_gen.specs.Code.{constants_in_all, body_instrs, role_among, slots_among, IsCodeOf};
 ghost use Rattle.ds2_gen.specs.Correct.{Simulates, Same};
 
 use crate::emit::{Emitted, emit_all};
 use crate::size::number;
 use ds2_base::{List, OutOfMemory};
-use ds2_code::{Instr, ProgramCode, Role};
+use ds2_code::{Instr, ProgramCode, Role, laws::one_end};
 use ds2_layout::{Layout, NameTable, variables};
 use ds2_meaning::{Stmt, TypedData};
 use ds2_value::Column;
@@ -115,11 +115,11 @@ pub fn generate(
 ) -> Result<ProgramCode, OutOfMemory>
     requires layout { layout.now ≡ slot_names (program_of program.now) }
     requires known { AllKnown (program_of program.now) }
-    ensures code { IfOk result (IsCodeOf (program_of program.now)) }
     ensures simulates { IfOk result (Simulates (program_of program.now)) }
-    ensures valid { IfOk result IsValid }
+    ensures valid { IfOk result IsValidCode }
     ensures same { IfOk result (Same (program_of program.now)) }
 {
+    one_end();
     let code = assemble(alloc, program, layout)?;
     number(code.instrs.len())?;
     number(code.slots.len())?;

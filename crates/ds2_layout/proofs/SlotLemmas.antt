@@ -4,7 +4,7 @@ use Rattle.std.specs.Prelude.{bytes_eq, ◌||◌, if◌then◌else◌}
 use Rattle.std.specs.Option.{is_some}
 use Rattle.std.specs.List.{list_any, position_from}
 use Rattle.std.proofs.lemmas.Iterator.Adapters.{position_from-zero}
-use Rattle.ds2_meaning.specs.Program.{has_name}
+use Rattle.ds2_meaning.specs.Program.{lists_name}
 use Rattle.ds2_layout.specs.Slots.{slot_of, or_first}
 
 from_append : (p : List ℕ → Bool) (i : ℕ) (names : List (List ℕ)) (name : List ℕ) → position_from p i (names ++ name ∷ []) ≡ or_first (position_from p i names) (if p name then Some (i + length names) else None)
@@ -34,7 +34,7 @@ from_has p i (x ∷ xs) =
     ]
 
 -- a name that has a number stands in the list
-pub is_some-slot_of : (names : List (List ℕ)) (name : List ℕ) → is_some (slot_of names name) ≡ has_name names name
+pub is_some-slot_of : (names : List (List ℕ)) (name : List ℕ) → is_some (slot_of names name) ≡ lists_name names name
 is_some-slot_of names name =
     let p : List ℕ → Bool = λ x. bytes_eq x name in
     ap is_some (position_from-zero p names) ∙ from_has p 0 names

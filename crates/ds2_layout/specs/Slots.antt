@@ -2,7 +2,7 @@
 use Rattle.std.specs.Prelude.{ℕ, List, length, position, bytes_eq, unwrap_or, Option, Some, None}
 use Rattle.ds2_value.specs.declared.value.Value.{Value}
 use Rattle.ds2_value.specs.Value.{or_null}
-use Rattle.ds2_meaning.specs.Meaning.{Contents}
+use Rattle.ds2_meaning.specs.Meaning.{DataVector}
 use Rattle.ds2_meaning.specs.Program.{Program, names_of, variables, in_row}
 
 -- the number of a name in a list of names, the first where it stands more than once
@@ -23,5 +23,5 @@ abbrev pub slot_names : Program → List (List ℕ)
 slot_names program = names_of (variables program)
 
 -- the values of slots, by name
-abbrev pub named : List (List ℕ) → List Value → Contents
+abbrev pub named : List (List ℕ) → List Value → DataVector
 named names slots name = or_null (in_row names slots name)

@@ -1,7 +1,14 @@
-//! The slots of a program's variables.
+//! The slots of a program's variables: [`Layout`] has the slot of each name, a [`NameTable`] numbers names.
 //!
 //! A program's variables have numbers in the order of its program data vector: the declared ones
 //! first, and then the columns of its table that are not declared.
+//!
+//! ```text
+//! if first_unknown(alloc, &program)?.is_none() {
+//!     let layout = lay_out(alloc, &program)?;
+//!     let slot = layout.slot(&name);
+//! }
+//! ```
 #![tactic(auto)]
 
 mod layout;

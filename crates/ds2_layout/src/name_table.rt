@@ -1,7 +1,7 @@
 //! Names by number.
 ghost use Rattle.std.specs.Prelude.{◌≡◌, ◌++◌, [], ◌∷◌, ℕ, List as Items, IfOk, OnOk, length, bytes_eq, if◌then◌else◌};
 ghost use Rattle.std.specs.HashMap.{get_by_text};
-ghost use Rattle.ds2_meaning.specs.Program.{has_name};
+ghost use Rattle.ds2_meaning.specs.Program.{lists_name};
 ghost use Rattle.ds2_layout.specs.Slots.{slot_of, or_first};
 
 use ds2_base::{List, Name, OutOfMemory};
@@ -84,7 +84,7 @@ impl NameTable {
 
     /// Whether a name is in the table.
     pub fn has(&self, name: &Name) -> bool
-        ensures { result ≡ has_name self.now name.now }
+        ensures { result ≡ lists_name self.now name.now }
     {
         self.get(name).is_some()
     }

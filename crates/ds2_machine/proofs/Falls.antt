@@ -9,7 +9,7 @@ use Rattle.ds2_value.specs.Value.{sum_of, difference_of, compared_of, truth_of, 
 use Rattle.ds2_code.specs.declared.instr.Instr.{Instr}
 use Rattle.ds2_code.specs.declared.instr.Instr.TheVariants.{Const, GLoad, GStore, IAdd, ISub, ICmp, Tick, Jump, JFalse, Output, End}
 use Rattle.ds2_code.specs.declared.program.ProgramCode.{ProgramCode}
-use Rattle.ds2_code.specs.Machine.{Machine, Goes, operate, on_two, on_store, branch, on_test, tick, value_at, act}
+use Rattle.ds2_code.specs.Machine.{Machine, Goes, operate, on_two, on_store, branch, on_test, tick, numbered_value, act}
 use Rattle.ds2_code.specs.Valid.{is_tick, IsBounded, IsTimed}
 use Rattle.ds2_machine.specs.Work.{plain, ticks, potential, work}
 
@@ -179,8 +179,8 @@ module _ (code : ProgramCode) where
       moved m _ u h (let P : ℕ → Type 0 = λ k. work code.instrs (m.at + 1) n < work code.instrs m.at k in subst P left (begins code.instrs m.at n i here e))
 
   pub act_falls : IsTimed code.instrs → (i : Instr) (m u : Machine) → slice_get code.instrs m.at ≡ Some i → act code i m ≡ Goes u → Falls m u
-  act_falls timed (Const k) m u here h = operate_falls (Const k) (Ok (value_at code.constants k)) m.stack m u here refl h
-  act_falls timed (GLoad slot) m u here h = operate_falls (GLoad slot) (Ok (value_at m.slots slot)) m.stack m u here refl h
+  act_falls timed (Const k) m u here h = operate_falls (Const k) (Ok (numbered_value code.constants k)) m.stack m u here refl h
+  act_falls timed (GLoad slot) m u here h = operate_falls (GLoad slot) (Ok (numbered_value m.slots slot)) m.stack m u here refl h
   act_falls timed (GStore slot) m u here h = store_falls (GStore slot) slot m.stack m u here refl h
   act_falls timed IAdd m u here h = two_falls IAdd sum_of m.stack m u here refl h
   act_falls timed ISub m u here h = two_falls ISub difference_of m.stack m u here refl h

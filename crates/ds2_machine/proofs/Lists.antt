@@ -8,7 +8,7 @@ use Rattle.ds2_value.specs.declared.value.Value.{Value}
 use Rattle.ds2_value.specs.declared.value.Value.TheVariants.{Null}
 use Rattle.ds2_code.specs.declared.program.Role.{Role}
 use Rattle.ds2_code.specs.declared.program.Role.TheVariants as role
-use Rattle.ds2_code.specs.Machine.{value_at, row_of}
+use Rattle.ds2_code.specs.Machine.{numbered_value, row_of}
 use Rattle.ds2_code.specs.Unit.{cleared_slot, cleared}
 use Rattle.ds2_machine.specs.Idle.{all_null}
 use Rattle.ds2_machine.specs.Slots.{cleared_at}
@@ -23,8 +23,8 @@ pub nulls_next : (roles : List Role) (i : ℕ) → i < length roles → all_null
 nulls_next roles i h =
     ap all_null (ap (λ n. take n roles) (add-one i) ∙ take-suc roles i role.Null h) ∙ map-append (λ r. Null) (take i roles) (get_or roles i role.Null ∷ [])
 
-pub row_next : (columns : List ℕ) (slots : List Value) (i slot : ℕ) → i < length columns → slot ≡ get_or columns i slot → row_of (take (i + 1) columns) slots ≡ row_of (take i columns) slots ++ value_at slots slot ∷ []
-row_next columns slots i slot h e = map_more (λ s. value_at slots s) columns i slot h e
+pub row_next : (columns : List ℕ) (slots : List Value) (i slot : ℕ) → i < length columns → slot ≡ get_or columns i slot → row_of (take (i + 1) columns) slots ≡ row_of (take i columns) slots ++ numbered_value slots slot ∷ []
+row_next columns slots i slot h e = map_more (λ s. numbered_value slots s) columns i slot h e
 
 cleared_first : (x : Role) (s : List Value) → cleared (x ∷ []) s ≡ cleared_at x zero s
 cleared_first role.Null [] = refl

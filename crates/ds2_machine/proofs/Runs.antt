@@ -9,7 +9,7 @@ use Rattle.ds2_code.specs.Valid.{IsTimed}
 use Rattle.ds2_machine.specs.declared.state.State.{State}
 use Rattle.ds2_machine.specs.declared.state.Halt.{Halt}
 use Rattle.ds2_machine.specs.declared.state.Halt.TheVariants as halt
-use Rattle.ds2_machine.specs.State.{machine_of, next_of, way_after, IsAfter, ending_of, HasRun}
+use Rattle.ds2_machine.specs.State.{machine_of, next_of, way_after, IsStateAfter, ending_of, HasRun}
 use Rattle.ds2_machine.specs.Work.{work}
 use Rattle.ds2_machine.proofs.Falls.{act_falls}
 
@@ -36,13 +36,13 @@ module _ (code : ProgramCode) where
   finished (suc n) m u e h s = longer n u (Over (suc n) e) (λ w k. finished n w u e k s) (step code (slice_get code.instrs m.at) m) h
 
   -- one instruction of the code's machine
-  pub goes_on : (n : ℕ) (m : Machine) (i : Instr) (old new : State) (way : List Event) (o : Option Halt) → run code n m ≡ Runs (machine_of old way) → slice_get code.instrs old.at ≡ Some i → ((w : List Event) → IsAfter (act code i (machine_of old w)) new o) → o ≡ None → (x : List Event) × (run code (n + 1) m ≡ Runs (machine_of new x))
+  pub goes_on : (n : ℕ) (m : Machine) (i : Instr) (old new : State) (way : List Event) (o : Option Halt) → run code n m ≡ Runs (machine_of old way) → slice_get code.instrs old.at ≡ Some i → ((w : List Event) → IsStateAfter (act code i (machine_of old w)) new o) → o ≡ None → (x : List Event) × (run code (n + 1) m ≡ Runs (machine_of new x))
   goes_on n m i old new way o h here after is =
       let x = act code i (machine_of old way) in
       let goes : x ≡ Goes (machine_of new (way_after x)) = after way ∙ ap (λ z. next_of z new (way_after x)) is in
       (way_after x, ap (λ k. run code k m) (add-one n) ∙ further n m (machine_of old way) (machine_of new (way_after x)) h (ap (λ z. step code z (machine_of old way)) here ∙ goes))
 
-  pub ends_so : (n : ℕ) (m : Machine) (i : Instr) (old new : State) (way : List Event) (o : Option Halt) (e : Halt) → run code n m ≡ Runs (machine_of old way) → slice_get code.instrs old.at ≡ Some i → ((w : List Event) → IsAfter (act code i (machine_of old w)) new o) → o ≡ Some e → HasRun code m (n + 1) e new
+  pub ends_so : (n : ℕ) (m : Machine) (i : Instr) (old new : State) (way : List Event) (o : Option Halt) (e : Halt) → run code n m ≡ Runs (machine_of old way) → slice_get code.instrs old.at ≡ Some i → ((w : List Event) → IsStateAfter (act code i (machine_of old w)) new o) → o ≡ Some e → HasRun code m (n + 1) e new
   ends_so n m i old new way o e h here after is =
       let x = act code i (machine_of old way) in
       let stops : x ≡ Stops (ending_of e new (way_after x)) = after way ∙ ap (λ z. next_of z new (way_after x)) is in
@@ -51,7 +51,7 @@ module _ (code : ProgramCode) where
   pub stuck_so : (n : ℕ) (m : Machine) (old : State) (way : List Event) → run code n m ≡ Runs (machine_of old way) → slice_get code.instrs old.at ≡ None → HasRun code m (n + 1) halt.Stuck old
   stuck_so n m old way h here = (way, rw (add-one n) (finished n m (machine_of old way) Stuck h (ap (λ z. step code z (machine_of old way)) here)))
 
-  pub works_less : IsTimed code.instrs → (i : Instr) (old new : State) (o : Option Halt) → slice_get code.instrs old.at ≡ Some i → ((w : List Event) → IsAfter (act code i (machine_of old w)) new o) → o ≡ None → work code.instrs new.at new.left < work code.instrs old.at old.left
+  pub works_less : IsTimed code.instrs → (i : Instr) (old new : State) (o : Option Halt) → slice_get code.instrs old.at ≡ Some i → ((w : List Event) → IsStateAfter (act code i (machine_of old w)) new o) → o ≡ None → work code.instrs new.at new.left < work code.instrs old.at old.left
   works_less timed i old new o here after is =
       let x = act code i (machine_of old []) in
       act_falls code timed i (machine_of old []) (machine_of new (way_after x)) here (after [] ∙ ap (λ z. next_of z new (way_after x)) is)

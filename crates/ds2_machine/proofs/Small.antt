@@ -9,7 +9,7 @@ use Rattle.ds2_code.specs.declared.instr.Instr.TheVariants.{Jump, JFalse}
 use Rattle.ds2_code.specs.declared.program.ProgramCode.{ProgramCode}
 use Rattle.ds2_code.specs.Machine.{Slots}
 use Rattle.ds2_code.specs.Unit.{RunsUnit}
-use Rattle.ds2_code.specs.Valid.{IsSound, IsValid}
+use Rattle.ds2_code.specs.Valid.{IsSound, IsValidCode}
 use Rattle.ds2_machine.specs.Small.{small_place, small_code}
 
 no_jump : (at target : ℕ) → slice_get small_code.instrs at ≡ Some (Jump target) → ⊥
@@ -38,7 +38,7 @@ sound budget row [] few wide = absurd (omega (arith, few))
 sound budget row (v ∷ []) few wide = ends budget row v
 sound budget row (v ∷ w ∷ slots) few wide = absurd (omega (arith, few))
 
-small_is_valid : IsValid small_code
+small_is_valid : IsValidCode small_code
 small_is_valid = record {
   timed = record { jumps = λ at target h. absurd (no_jump at target h); tests = λ at target h. absurd (no_test at target h) };
   sound = sound;
@@ -46,5 +46,5 @@ small_is_valid = record {
   slots_in_range = lit< tt;
 }
 
-pub valid : (code : ProgramCode) → code ≡ small_code → IsValid code
-valid code is = subst (λ (c : ProgramCode). IsValid c) (sym is) small_is_valid
+pub valid : (code : ProgramCode) → code ≡ small_code → IsValidCode code
+valid code is = subst (λ (c : ProgramCode). IsValidCode c) (sym is) small_is_valid

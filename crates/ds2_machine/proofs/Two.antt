@@ -9,7 +9,7 @@ use Rattle.ds2_code.specs.declared.program.ProgramCode.{ProgramCode}
 use Rattle.ds2_code.specs.Machine.{Machine, Next, operate, on_two, act}
 use Rattle.ds2_machine.specs.declared.state.State.{State}
 use Rattle.ds2_machine.specs.declared.state.Halt.{Halt}
-use Rattle.ds2_machine.specs.State.{machine_of, IsAfter}
+use Rattle.ds2_machine.specs.State.{machine_of, IsStateAfter}
 
 -- an operation does not look at the operands that it leaves out
 operate_same : (o : Result Value Fault) (s t : List Value) (m : State) (way : List Event) → operate o s (machine_of m way) ≡ operate o s (machine_of (record m { operands = t }) way)
@@ -20,8 +20,8 @@ after_two : (f : Value → Value → Result Value Fault) (old mid : State) (x y 
 after_two f old mid x y o e1 e2 e3 way =
     ap (λ s. on_two f s (machine_of old way)) e1 ∙ ap (λ z. operate z mid.operands (machine_of old way)) (sym e3) ∙ operate_same o mid.operands mid.operands old way ∙ ap (λ (m : State). operate o mid.operands (machine_of m way)) (sym e2)
 
-pub two_after : (code : ProgramCode) (i j : Instr) (f : Value → Value → Result Value Fault) (old mid new : State) (x y : Value) (o : Result Value Fault) (r : Result (Option Halt) OutOfMemory) → i ≡ j → ((m : Machine) → act code j m ≡ on_two f m.stack m) → old.operands ≡ y ∷ x ∷ mid.operands → mid ≡ record old { operands = mid.operands } → o ≡ f x y → IfOk r (λ h. (way : List Event) → IsAfter (operate o mid.operands (machine_of mid way)) new h) → IfOk r (λ h. (way : List Event) → IsAfter (act code i (machine_of old way)) new h)
+pub two_after : (code : ProgramCode) (i j : Instr) (f : Value → Value → Result Value Fault) (old mid new : State) (x y : Value) (o : Result Value Fault) (r : Result (Option Halt) OutOfMemory) → i ≡ j → ((m : Machine) → act code j m ≡ on_two f m.stack m) → old.operands ≡ y ∷ x ∷ mid.operands → mid ≡ record old { operands = mid.operands } → o ≡ f x y → IfOk r (λ h. (way : List Event) → IsStateAfter (operate o mid.operands (machine_of mid way)) new h) → IfOk r (λ h. (way : List Event) → IsStateAfter (act code i (machine_of old way)) new h)
 two_after code i j f old mid new x y o (Ok h) is row e1 e2 e3 k =
-    λ way. let G : Next → Type 0 = λ n. IsAfter n new h in
+    λ way. let G : Next → Type 0 = λ n. IsStateAfter n new h in
     subst G (sym (ap (λ z. act code z (machine_of old way)) is ∙ row (machine_of old way) ∙ after_two f old mid x y o e1 e2 e3 way)) (k way)
 two_after code i j f old mid new x y o (Err e) is row e1 e2 e3 k = k

@@ -6,9 +6,11 @@ use Rattle.ds2_code.specs.declared.instr.Instr.TheVariants.{Const, GStore, Tick,
 use Rattle.ds2_code.specs.declared.program.ProgramCode.{ProgramCode}
 use Rattle.ds2_code.specs.declared.program.Role.TheVariants as role
 
+-- where its one step stands
 abbrev pub small_place : Place
 small_place = record { line = 2; column = 3 }
 
+-- the code: a step, the constant 7 into the slot, a row, and the end
 abbrev pub small_code : ProgramCode
 small_code =
     record {

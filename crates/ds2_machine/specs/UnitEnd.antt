@@ -8,23 +8,25 @@ use Rattle.ds2_code.specs.Machine.{Slots}
 use Rattle.ds2_machine.specs.declared.unit_end.OutRow.{OutRow}
 use Rattle.ds2_machine.specs.declared.unit_end.UnitEnd.{UnitEnd}
 
--- a row that was written
+-- a row that was written_rows
 abbrev pub written_of : OutRow → Written
 written_of r = record { output = r.output; row = r.row }
 
-abbrev pub written : List OutRow → List Written
-written rows = map written_of rows
+-- rows that were written, in order
+abbrev pub written_rows : List OutRow → List Written
+written_rows rows = map written_of rows
 
 -- the rows, the ending and the budget left are those of an outcome, and so are the slots after a normal end
 abbrev pub IsToldBy : Outcome Slots → UnitEnd → Slots → Type 0
-IsToldBy (Done slots rest) end now = (written end.rows ≡ rest.rows) × (end.ending ≡ Normal) × (end.left ≡ rest.left) × (now ≡ slots)
-IsToldBy (Stopped fault rest) end now = (written end.rows ≡ rest.rows) × (end.ending ≡ Faulted fault rest.place) × (end.left ≡ rest.left)
+IsToldBy (Done slots rest) end now = (written_rows end.rows ≡ rest.rows) × (end.ending ≡ Normal) × (end.left ≡ rest.left) × (now ≡ slots)
+IsToldBy (Stopped fault rest) end now = (written_rows end.rows ≡ rest.rows) × (end.ending ≡ Faulted fault rest.place) × (end.left ≡ rest.left)
 
--- whether a machine is spent after a unit: where the unit came to no normal end
+-- whether a unit leaves its machine spent: where it came to no normal end
 abbrev pub spent_by : Ending → Bool
 spent_by Normal = false
 spent_by (Faulted fault place) = true
 
+-- whether a machine is spent after a call: where its unit came to no normal end, or memory ran out
 abbrev pub spent_after : Result UnitEnd OutOfMemory → Bool
 spent_after (Ok end) = spent_by end.ending
 spent_after (Err e) = true

@@ -3,7 +3,7 @@ ghost use Rattle.std.specs.Prelude.{◌≡◌, ◌+◌, ◌*◌, ◌≤◌, fals
 ghost use Rattle.ds2_value.specs.Run.{Outcome};
 ghost use Rattle.ds2_code.specs.Machine.{Slots};
 ghost use Rattle.ds2_code.specs.Unit.{RunsUnit};
-ghost use Rattle.ds2_code.specs.Valid.{IsValid};
+ghost use Rattle.ds2_code.specs.Valid.{IsValidCode};
 ghost use Rattle.ds2_machine.specs.Idle.{opened};
 ghost use Rattle.ds2_machine.specs.UnitEnd.{IsToldBy, spent_after};
 ghost use Rattle.ds2_machine.specs.State.{IsEndingOf};
@@ -12,7 +12,7 @@ use crate::UnitEnd;
 use crate::state::{Halt, State};
 use crate::values::{copy_all, nulls};
 use ds2_base::{List, OutOfMemory, Place};
-use ds2_code::ProgramCode;
+use ds2_code::{ProgramCode, laws::one_end};
 use ds2_value::{Ending, Row};
 use std::alloc::Global;
 use std::marker::Model;
@@ -76,7 +76,7 @@ impl Machine {
         row: &Row,
         budget: u64,
     ) -> Result<UnitEnd, OutOfMemory>
-        requires valid { IsValid code.now }
+        requires valid { IsValidCode code.now }
         requires budget { budget ≤ 1000000000 }
         requires slots { length self.old.slots ≡ length code.now.slots }
         requires row { length row.now ≡ length code.now.columns }
@@ -86,6 +86,7 @@ impl Machine {
         ensures number { length self.new.slots ≡ length self.old.slots }
         ensures spent { self.new.spent ≡ spent_after result }
     {
+        one_end();
         self.spent = true;
         self.state.begin(alloc, code, row, budget)?;
         let ran = self.state.run(alloc, code)?;

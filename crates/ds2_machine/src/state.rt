@@ -4,7 +4,7 @@ ghost use Rattle.ds2_value.specs.Run.{Event};
 ghost use Rattle.ds2_code.specs.Machine.{act, operate, on_store, on_test, tick};
 ghost use Rattle.ds2_code.specs.Unit.{begun};
 ghost use Rattle.ds2_code.specs.Valid.{IsTimed};
-ghost use Rattle.ds2_machine.specs.State.{machine_of, IsAfter, HasFewer, HasRun};
+ghost use Rattle.ds2_machine.specs.State.{machine_of, IsStateAfter, HasFewer, HasRun};
 ghost use Rattle.ds2_machine.specs.Work.{work};
 
 use crate::OutRow;
@@ -115,7 +115,7 @@ impl State {
         instr: Instr,
     ) -> Result<Option<Halt>, OutOfMemory>
         requires { self.old.at < 2 ^ 32 }
-        ensures after { IfOk result (λ halt. (way : Items Event) → IsAfter (act code.now instr (machine_of self.old way)) self.new halt) }
+        ensures after { IfOk result (λ halt. (way : Items Event) → IsStateAfter (act code.now instr (machine_of self.old way)) self.new halt) }
         ensures number { length self.new.slots ≡ length self.old.slots }
     {
         match instr {
@@ -161,7 +161,7 @@ impl State {
     #[inline]
     fn operate(&mut self, outcome: Result<Value, Fault>) -> Result<Option<Halt>, OutOfMemory>
         requires { self.old.at < 2 ^ 32 }
-        ensures after { IfOk result (λ halt. (way : Items Event) → IsAfter (operate outcome self.old.operands (machine_of self.old way)) self.new halt) }
+        ensures after { IfOk result (λ halt. (way : Items Event) → IsStateAfter (operate outcome self.old.operands (machine_of self.old way)) self.new halt) }
         ensures number { length self.new.slots ≡ length self.old.slots }
     {
         match outcome {
@@ -189,7 +189,7 @@ impl State {
     #[inline]
     fn store(&mut self, slot: u32) -> Option<Halt>
         requires { self.old.at < 2 ^ 32 }
-        ensures after { (way : Items Event) → IsAfter (on_store slot self.old.operands (machine_of self.old way)) self.new result }
+        ensures after { (way : Items Event) → IsStateAfter (on_store slot self.old.operands (machine_of self.old way)) self.new result }
         ensures number { length self.new.slots ≡ length self.old.slots }
     {
         let Some(value) = self.operands.pop() else {
@@ -204,7 +204,7 @@ impl State {
     #[inline]
     fn test(&mut self, target: u32) -> Option<Halt>
         requires { self.old.at < 2 ^ 32 }
-        ensures after { (way : Items Event) → IsAfter (on_test target self.old.operands (machine_of self.old way)) self.new result }
+        ensures after { (way : Items Event) → IsStateAfter (on_test target self.old.operands (machine_of self.old way)) self.new result }
         ensures number { length self.new.slots ≡ length self.old.slots }
     {
         let Some(value) = self.operands.pop() else {
@@ -221,7 +221,7 @@ impl State {
     #[inline]
     fn tick(&mut self, place: Place) -> Option<Halt>
         requires { self.old.at < 2 ^ 32 }
-        ensures after { (way : Items Event) → IsAfter (tick self.old.left place (machine_of self.old way)) self.new result }
+        ensures after { (way : Items Event) → IsStateAfter (tick self.old.left place (machine_of self.old way)) self.new result }
         ensures number { length self.new.slots ≡ length self.old.slots }
     {
         self.place = place;
@@ -241,7 +241,7 @@ impl State {
         output: u32,
     ) -> Result<Option<Halt>, OutOfMemory>
         requires { self.old.at < 2 ^ 32 }
-        ensures after { IfOk result (λ halt. (way : Items Event) → IsAfter (act code.now (Instr.Output output) (machine_of self.old way)) self.new halt) }
+        ensures after { IfOk result (λ halt. (way : Items Event) → IsStateAfter (act code.now (Instr.Output output) (machine_of self.old way)) self.new halt) }
         ensures number { length self.new.slots ≡ length self.old.slots }
     {
         let row = row_of_slots(alloc, columns_of(code, output), &self.slots)?;

@@ -1,7 +1,7 @@
 //! Lists of values: reading and copying them, and the slots as a unit finds them.
 ghost use Rattle.std.specs.Prelude.{◌≡◌, IfOk, OnOk, length, slice_set};
-ghost use Rattle.ds2_code.specs.Machine.{value_at, row_of, output_slots};
-ghost use Rattle.ds2_code.specs.Unit.{cleared, filled};
+ghost use Rattle.ds2_code.specs.Machine.{numbered_value, row_of, output_slots};
+ghost use Rattle.ds2_code.specs.Unit.{cleared, loaded_slots};
 ghost use Rattle.ds2_machine.specs.Idle.{all_null};
 ghost use Rattle.ds2_machine.specs.Slots.{cleared_at};
 
@@ -13,7 +13,7 @@ use std::alloc::Global;
 /// A copy of the value of this number, null past the end.
 #[inline]
 pub fn copy_at(alloc: Global, values: &List<Value>, number: u32) -> Result<Value, OutOfMemory>
-    ensures { IfOk result (λ value. value ≡ value_at values.now number) }
+    ensures { IfOk result (λ value. value ≡ numbered_value values.now number) }
 {
     match values.get(number as usize) {
         None => Ok(Value::Null),
@@ -108,7 +108,7 @@ pub fn fill(
     row: &Row,
 ) -> Result<(), OutOfMemory>
     requires { length row.now ≡ length columns.now }
-    ensures ok { OnOk result (slots.new ≡ filled columns.now row.now slots.old) }
+    ensures ok { OnOk result (slots.new ≡ loaded_slots columns.now row.now slots.old) }
     ensures number { length slots.new ≡ length slots.old }
 {
     let mut number = columns.len();

@@ -7,7 +7,7 @@ use Rattle.ds2_value.specs.declared.schema.Column.{Column}
 use Rattle.ds2_value.specs.Run.{opening, wrote, Outcome, Done}
 use Rattle.ds2_table.specs.Alone.{ProgramEnd, alone}
 use Rattle.ds2_meaning.specs.Tree.{Stmts}
-use Rattle.ds2_meaning.specs.Meaning.{Contents, World, then_do, exec_all}
+use Rattle.ds2_meaning.specs.Meaning.{DataVector, World, then_do, exec_all}
 
 -- a data program: its declared variables, the columns of its table, and the statements of `run`
 pub record Program : Type 0 where
@@ -15,16 +15,17 @@ pub record Program : Type 0 where
   pub columns : List Column
   pub body : Stmts
 
+-- the names of columns, in their order
 abbrev pub names_of : List Column → List (List ℕ)
 names_of columns = map (λ (c : Column). c.name) columns
 
 -- whether a list of names has a name
-abbrev pub has_name : List (List ℕ) → List ℕ → Bool
-has_name names name = list_any (λ other. bytes_eq other name) names
+abbrev pub lists_name : List (List ℕ) → List ℕ → Bool
+lists_name names name = list_any (λ other. bytes_eq other name) names
 
 -- the columns whose names are not among the declared ones
 abbrev pub not_declared : List (List ℕ) → List Column → List Column
-not_declared declared columns = filter (λ (c : Column). not (has_name declared c.name)) columns
+not_declared declared columns = filter (λ (c : Column). not (lists_name declared c.name)) columns
 
 -- the variables of the program data vector: those that are declared, and then the columns that are not
 abbrev pub variables : Program → List Column
@@ -36,25 +37,26 @@ in_row [] row name = None
 in_row (column ∷ columns) [] name = None
 in_row (column ∷ columns) (v ∷ row) name = if bytes_eq column name then Some v else in_row columns row name
 
--- the variables as a row leaves them: a column has its value of the row, every other variable of the vector is null
+-- a value where there is one, and else another
 abbrev pub or_else : Option Value → Value → Value
 or_else None v = v
 or_else (Some u) v = u
 
-abbrev pub loaded : Program → List Value → Contents → Contents
+-- the variables as a row leaves them: a column has its value of the row, every other variable of the vector is null
+abbrev pub loaded : Program → List Value → DataVector → DataVector
 loaded program row before name =
-    or_else (in_row (names_of program.columns) row name) (if has_name (names_of (variables program)) name then Null else before name)
+    or_else (in_row (names_of program.columns) row name) (if lists_name (names_of (variables program)) name then Null else before name)
 
 -- a row of the output has the variables of the vector in order
-abbrev pub output_row : Program → Contents → List Value
+abbrev pub output_row : Program → DataVector → List Value
 output_row program contents = map (λ (c : Column). contents c.name) (variables program)
 
 -- the implicit output when the body of `run` has ended
-abbrev pub output : Program → World → Outcome Contents
+abbrev pub output : Program → World → Outcome DataVector
 output program w = Done w.contents (wrote 0 (output_row program w.contents) w.rest)
 
 -- the unit `run` on one row, with a budget of steps
-abbrev pub run_unit : Program → ℕ → List Value → Contents → Outcome Contents
+abbrev pub run_unit : Program → ℕ → List Value → DataVector → Outcome DataVector
 run_unit program budget row before =
     then_do (exec_all program.body (record { contents = loaded program row before; rest = opening budget })) (output program)
 

@@ -13,7 +13,7 @@ pub enum Sign {
     Minus,
 }
 
-/// An expression.
+/// An expression. A new one touches the files that docs/ARCHITECTURE.md lists under 'To add a statement'.
 #[derive(Drop)]
 #[cycle(expression)]
 pub enum Expr {
@@ -45,7 +45,7 @@ pub struct Term {
     pub operand: Expr,
 }
 
-/// A statement.
+/// A statement. A new one touches the files that docs/ARCHITECTURE.md lists under 'To add a statement'.
 #[derive(Drop)]
 #[cycle(statement)]
 pub enum Stmt {

@@ -4,11 +4,12 @@ use Rattle.std.specs.Ordering.{nat_cmp}
 use Rattle.std.specs.Cmp.Lexicographic.{slice_cmp}
 use Rattle.std.specs.FinMap.{FinMap, code}
 use Rattle.std.specs.Coded.{Coded, code_by, coded×, coded_ℕ, coded_list}
-use Rattle.ds2_outside.specs.Calls.{next_count, is_to_fail}
+use Rattle.ds2_outside.specs.Calls.{next_call, is_to_fail}
 use Rattle.ds2_outside.specs.Files.{with_file}
 use Rattle.ds2_outside.specs.declared.store.WriteStop.{WriteStop}
 use Rattle.ds2_outside.specs.declared.store.WriteStop.TheVariants.{Failed, OutOfMemory}
 
+-- a store in memory: its files, and its counts of calls and faults
 pub record Memory : Type 0 where
   -- the bytes of each file, by the bytes of its name
   pub files : FinMap (slice_cmp nat_cmp) (List ℕ)
@@ -36,14 +37,14 @@ fails m = is_to_fail m.calls m.failing
 
 -- the store once the next call is counted
 abbrev pub counted : Memory → Memory
-counted m = record m { calls = next_count m.calls }
+counted m = record m { calls = next_call m.calls }
 
 -- the store after `read` or `has`: the call is counted, and its fault where it is to fail
 abbrev pub after_read : Memory → Memory
-after_read m = if fails m then record (counted m) { read_faults = next_count m.read_faults } else counted m
+after_read m = if fails m then record (counted m) { read_faults = next_call m.read_faults } else counted m
 
 -- the store after a write of these bytes with this answer: the file is there, or nothing but the counts has changed
 abbrev pub after_write : Memory → List ℕ → List ℕ → Result (Unit {0}) WriteStop → Memory
 after_write m name bytes (Ok x) = record (counted m) { files = with_file m.files name bytes }
-after_write m name bytes (Err Failed) = record (counted m) { write_faults = next_count m.write_faults }
+after_write m name bytes (Err Failed) = record (counted m) { write_faults = next_call m.write_faults }
 after_write m name bytes (Err OutOfMemory) = counted m

@@ -1,6 +1,6 @@
 //! Calls that are to fail.
 ghost use Rattle.std.specs.Prelude.{◌≡◌, []};
-ghost use Rattle.ds2_outside.specs.Calls.{next_count, is_to_fail};
+ghost use Rattle.ds2_outside.specs.Calls.{next_call, is_to_fail};
 
 use ds2_base::List;
 use std::alloc::Global;
@@ -24,7 +24,7 @@ impl Calls {
 
     /// Counts a call, and says whether it is to fail.
     pub(crate) fn next_fails(&mut self) -> bool
-        ensures counts { self.new ≡ record self.old { made = next_count self.old.made } }
+        ensures counts { self.new ≡ record self.old { made = next_call self.old.made } }
         ensures fails { result ≡ is_to_fail self.old.made self.old.failing }
     {
         self.made = self.made.saturating_add(1);

@@ -3,6 +3,12 @@
 //! Everything above is written against the three traits, whose clauses say what a file system and an output promise.
 //! [`MemStore`] and [`MemSink`] keep these promises in memory and fail at chosen calls. [`FolderStore`] and [`StdSink`]
 //! are the thin edge to the real ones, which tells nothing of contents.
+//!
+//! ```text
+//! let mut store = MemStore::new(alloc);
+//! store.put(alloc, &name, bytes)?;
+//! let read = store.read(alloc, &name, most)?;
+//! ```
 #![tactic(auto)]
 
 mod calls;

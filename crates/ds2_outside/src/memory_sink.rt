@@ -1,7 +1,7 @@
 //! A log in memory, which fails at chosen calls.
 ghost use Rattle.std.specs.Prelude.{◌≡◌, ◌++◌, [], IfSome, IsErrOf, OnOk, OnErr, option_map};
 ghost use Rattle.ds2_outside.specs.Causes.{HasCause};
-ghost use Rattle.ds2_outside.specs.LogView.{LogView, fails, after_write};
+ghost use Rattle.ds2_outside.specs.LogView.{LogView, log_fails, after_log_write};
 ghost use Rattle.ds2_outside.specs.Written.{TakesPart, has_write_failed};
 
 use crate::calls::Calls;
@@ -61,8 +61,8 @@ impl Sink for MemSink {
     ghost faults = { λ s. s.faults };
 
     fn write_all(&mut self, bytes: &Bytes) -> Result<(), WriteStop>
-        ensures failed { has_write_failed result ≡ fails self.old }
-        ensures after { self.new ≡ after_write self.old bytes.now result }
+        ensures failed { has_write_failed result ≡ log_fails self.old }
+        ensures after { self.new ≡ after_log_write self.old bytes.now result }
         ensures cause { HasCause self.old.faults self.new.faults (IsErrOf result WriteStop.Failed) }
     {
         if self.calls.next_fails() {

@@ -12,12 +12,12 @@ use Rattle.ds2_value.specs.Value.{compared_of, truth_of, is_yes}
 use Rattle.ds2_value.specs.Run.{Event, Began, Did, Tested, Failed, Done}
 use Rattle.ds2_meaning.specs.declared.tree.Sign.{Sign}
 use Rattle.ds2_meaning.specs.Tree.{Expr, Constant, Variable, Chain, Compare, Terms, NoTerm, Term, Stmt, Assign, Stmts, Then}
-use Rattle.ds2_meaning.specs.View.{if_else}
-use Rattle.ds2_meaning.specs.Meaning.{World, Evaluated, Gave, Broke, Ending, with_operand, operate, signed, evaluate, evaluate_terms, done, stopped, with_value, then_do, begin, choose, assign, exec, exec_all}
+use Rattle.ds2_meaning.specs.View.{if_with_else}
+use Rattle.ds2_meaning.specs.Meaning.{World, Evaluated, Gave, Broke, StatementEnd, with_operand, operation_end, sum_or_difference, evaluate, evaluate_terms, done, stopped, with_value, then_do, begin, choose, assign, exec, exec_all}
 use Rattle.ds2_reference.specs.declared.evaluator.Evaluator.{Evaluator}
 use Rattle.ds2_reference.specs.declared.variables.Variables.{Variables}
 use Rattle.ds2_reference.specs.Variables.{contents_of, bound}
-use Rattle.ds2_reference.specs.Evaluator.{written, world_of, LeadsTo, Breaks, Stops, HasEnded, Begins, NotBegun, test_step, HasTested, exec_rest}
+use Rattle.ds2_reference.specs.Evaluator.{as_written, world_of, LeadsTo, Breaks, Stops, HasEnded, Begins, NotBegun, test_step, HasTested, exec_rest}
 
 -- an early end is handed on
 pub handed : {T E : Type 0} (P : Result T E → Type 0) (r : Result T E) (e : E) → IsErrAnd r (λ y. y ≡ e) → P (Err e) → P r
@@ -31,11 +31,11 @@ breaks_on : (x y : List Event → Evaluated) (s : Evaluator) (e : Stop Fault) �
 breaks_on x y s (Refused f) a b = leads_on x y (λ way. Broke f (world_of s way)) a b
 breaks_on x y s OutOfMemory a b = tt
 
-pub stops_on : (x y : List Event → Ending) (t : Evaluator) (e : Stop Fault) → LeadsTo x y → Stops y t e → Stops x t e
+pub stops_on : (x y : List Event → StatementEnd) (t : Evaluator) (e : Stop Fault) → LeadsTo x y → Stops y t e → Stops x t e
 stops_on x y t (Refused f) a b = leads_on x y (λ way. stopped f (world_of t way)) a b
 stops_on x y t OutOfMemory a b = tt
 
-pub ends_on : {T : Type 0} (x y : List Event → Ending) (t : Evaluator) (r : Result T (Stop Fault)) → LeadsTo x y → HasEnded y t r → HasEnded x t r
+pub ends_on : {T : Type 0} (x y : List Event → StatementEnd) (t : Evaluator) (r : Result T (Stop Fault)) → LeadsTo x y → HasEnded y t r → HasEnded x t r
 ends_on x y t (Ok v) a b = leads_on x y (λ way. done (world_of t way)) a b
 ends_on x y t (Err e) a b = stops_on x y t e a b
 
@@ -48,11 +48,11 @@ operand_broke : (x : List Event → Evaluated) (go : Value → World → Evaluat
 operand_broke x go s (Refused f) h = λ way. ((h way).0, ap (λ y. with_operand y go) (h way).1)
 operand_broke x go s OutOfMemory h = tt
 
-operated : (want : Result Value Fault) (s : Evaluator) (v : Value) → want ≡ Ok v → LeadsTo (λ way. operate want (world_of s way)) (λ way. Gave v (world_of s way))
-operated want s v h = λ way. (way ++ Did ∷ [], ap (λ y. operate y (world_of s way)) h)
+operated : (want : Result Value Fault) (s : Evaluator) (v : Value) → want ≡ Ok v → LeadsTo (λ way. operation_end want (world_of s way)) (λ way. Gave v (world_of s way))
+operated want s v h = λ way. (way ++ Did ∷ [], ap (λ y. operation_end y (world_of s way)) h)
 
-failed : (want : Result Value Fault) (s : Evaluator) (e : Stop Fault) → Says {T = Value} {R = Fault} (Err e) want → Breaks (λ way. operate want (world_of s way)) s e
-failed want s (Refused f) h = λ way. (way ++ Failed ∷ [], ap (λ y. operate y (world_of s way)) h)
+failed : (want : Result Value Fault) (s : Evaluator) (e : Stop Fault) → Says {T = Value} {R = Fault} (Err e) want → Breaks (λ way. operation_end want (world_of s way)) s e
+failed want s (Refused f) h = λ way. (way ++ Failed ∷ [], ap (λ y. operation_end y (world_of s way)) h)
 failed want s OutOfMemory h = tt
 
 -- the way of an expression
@@ -69,10 +69,10 @@ pub variable_gave : (E : Expr) (s : Evaluator) (name : List ℕ) (p : Place) (v 
 variable_gave E s name p v is e = simple_gave E (Variable name p) s v is (operated (Ok (contents_of s.variables name)) s v (ap (λ x. Ok x) (sym e)))
 
 abbrev chain_go : Sign → Terms → Value → Value → World → Evaluated
-chain_go sign rest x = λ y u. with_operand (operate (signed sign x y) u) (evaluate_terms rest)
+chain_go sign rest x = λ y u. with_operand (operation_end (sum_or_difference sign x y) u) (evaluate_terms rest)
 
 abbrev compare_go : Comparison → Value → Value → World → Evaluated
-compare_go comparison x = λ y v. operate (Ok (compared_of comparison x y)) v
+compare_go comparison x = λ y v. operation_end (Ok (compared_of comparison x y)) v
 
 abbrev left_go : Comparison → Expr → Value → World → Evaluated
 left_go comparison right = λ x u. with_operand (evaluate right u) (compare_go comparison x)
@@ -101,15 +101,15 @@ module _ (E : Expr) (s : Evaluator) where
     with_term : (y : Value) → LeadsTo (value_at operand s) (λ way. Gave y (world_of s way)) → LeadsTo all_of (λ way. chain_go sign rest x y (world_of s way))
     with_term y h = leads_on all_of (terms_at (Term sign operand rest) x) (λ way. chain_go sign rest x y (world_of s way)) at_term (operand_gave (value_at operand s) (chain_go sign rest x) s y h)
 
-    pub term_sign_broke : (y : Value) (e : Stop Fault) → LeadsTo (value_at operand s) (λ way. Gave y (world_of s way)) → Says {T = Value} {R = Fault} (Err e) (signed sign x y) → Breaks all_of s e
+    pub term_sign_broke : (y : Value) (e : Stop Fault) → LeadsTo (value_at operand s) (λ way. Gave y (world_of s way)) → Says {T = Value} {R = Fault} (Err e) (sum_or_difference sign x y) → Breaks all_of s e
     term_sign_broke y e h k =
         breaks_on all_of (λ way. chain_go sign rest x y (world_of s way)) s e (with_term y h)
-        (operand_broke (λ way. operate (signed sign x y) (world_of s way)) (evaluate_terms rest) s e (failed (signed sign x y) s e k))
+        (operand_broke (λ way. operation_end (sum_or_difference sign x y) (world_of s way)) (evaluate_terms rest) s e (failed (sum_or_difference sign x y) s e k))
 
-    pub term_next : (y z : Value) → LeadsTo (value_at operand s) (λ way. Gave y (world_of s way)) → signed sign x y ≡ Ok z → LeadsTo all_of (terms_at rest z)
+    pub term_next : (y z : Value) → LeadsTo (value_at operand s) (λ way. Gave y (world_of s way)) → sum_or_difference sign x y ≡ Ok z → LeadsTo all_of (terms_at rest z)
     term_next y z h k =
         leads_on all_of (λ way. chain_go sign rest x y (world_of s way)) (terms_at rest z) (with_term y h)
-        (operand_gave (λ way. operate (signed sign x y) (world_of s way)) (evaluate_terms rest) s z (operated (signed sign x y) s z k))
+        (operand_gave (λ way. operation_end (sum_or_difference sign x y) (world_of s way)) (evaluate_terms rest) s z (operated (sum_or_difference sign x y) s z k))
 
   pub chain_gave : (left : Terms) (x : Value) → left ≡ NoTerm → LeadsTo all_of (terms_at left x) → LeadsTo all_of (λ way. Gave x (world_of s way))
   chain_gave left x is h = subst (λ z. LeadsTo all_of (terms_at z x)) is h
@@ -132,20 +132,20 @@ module _ (E : Expr) (s : Evaluator) where
 
 -- ---- steps
 
-value_gave : (x : List Event → Evaluated) (go : Value → World → Ending) (s : Evaluator) (v : Value) → LeadsTo x (λ way. Gave v (world_of s way)) → LeadsTo (λ way. with_value (x way) go) (λ way. go v (world_of s way))
+value_gave : (x : List Event → Evaluated) (go : Value → World → StatementEnd) (s : Evaluator) (v : Value) → LeadsTo x (λ way. Gave v (world_of s way)) → LeadsTo (λ way. with_value (x way) go) (λ way. go v (world_of s way))
 value_gave x go s v h = λ way. ((h way).0, ap (λ y. with_value y go) (h way).1)
 
-value_broke : (x : List Event → Evaluated) (go : Value → World → Ending) (s : Evaluator) (e : Stop Fault) → Breaks x s e → Stops (λ way. with_value (x way) go) s e
+value_broke : (x : List Event → Evaluated) (go : Value → World → StatementEnd) (s : Evaluator) (e : Stop Fault) → Breaks x s e → Stops (λ way. with_value (x way) go) s e
 value_broke x go s (Refused f) h = λ way. ((h way).0, ap (λ y. with_value y go) (h way).1)
 value_broke x go s OutOfMemory h = tt
 
-not_begun : (p : Place) (s t : Evaluator) (e : Stop Fault) (go : World → Ending) → NotBegun p s t e → Stops (λ way. begin p (world_of s way) go) t e
+not_begun : (p : Place) (s t : Evaluator) (e : Stop Fault) (go : World → StatementEnd) → NotBegun p s t e → Stops (λ way. begin p (world_of s way) go) t e
 not_begun p s t (Refused f) go h = λ way. (way ++ Failed ∷ [], h way go)
 not_begun p s t OutOfMemory go h = absurd h
 
 -- a step that goes on with the value of an expression
-module _ (p : Place) (e : Expr) (go : Value → World → Ending) (s t : Evaluator) where
-  abbrev pub whole_step : List Event → Ending
+module _ (p : Place) (e : Expr) (go : Value → World → StatementEnd) (s t : Evaluator) where
+  abbrev pub whole_step : List Event → StatementEnd
   whole_step = λ way. begin p (world_of s way) (λ u. with_value (evaluate e u) go)
 
   pub step_not_begun : (stop : Stop Fault) → NotBegun p s t stop → Stops whole_step t stop
@@ -161,12 +161,12 @@ module _ (p : Place) (e : Expr) (go : Value → World → Ending) (s t : Evaluat
   step_gave v h k = leads_on whole_step (λ way. with_value (evaluate e (world_of t way)) go) (λ way. go v (world_of t way)) (step_begun h) (value_gave (value_at e t) go t v k)
 
 -- the way of a statement
-abbrev pub stmt_at : Stmt → Evaluator → List Event → Ending
+abbrev pub stmt_at : Stmt → Evaluator → List Event → StatementEnd
 stmt_at x s = λ way. exec x (world_of s way)
 
 -- ---- an assignment
 
-abbrev pub store_go : List ℕ → Value → World → Ending
+abbrev pub store_go : List ℕ → Value → World → StatementEnd
 store_go target = λ v x. done (assign target v x)
 
 module _ (S : Stmt) (p : Place) (target : List ℕ) (e : Expr) (is : S ≡ Assign p target e) (s t : Evaluator) where
@@ -182,15 +182,15 @@ module _ (S : Stmt) (p : Place) (target : List ℕ) (e : Expr) (is : S ≡ Assig
       let now : Evaluator = record { variables = variables; place = t.place; left = t.left; rows = t.rows } in
       subst (λ x. LeadsTo (stmt_at x s) (λ way. done (world_of now way))) (sym is)
       (leads_on (whole_step p e (store_go target) s t) (λ way. store_go target v (world_of t way)) (λ way. done (world_of now way)) (step_gave p e (store_go target) s t v h k)
-      (λ way. (way ++ Did ∷ [], ap (λ c. Done c (record { place = t.place; left = t.left; way = way ++ Did ∷ []; rows = written t.rows })) (sym same))))
+      (λ way. (way ++ Did ∷ [], ap (λ c. Done c (record { place = t.place; left = t.left; way = way ++ Did ∷ []; rows = as_written t.rows })) (sym same))))
 
 -- ---- a test
 
-chosen : (s : Evaluator) (b : Bool) (x y : World → Ending) → LeadsTo (λ way. choose b (world_of s way) x y) (λ way. cond b x y (world_of s way))
+chosen : (s : Evaluator) (b : Bool) (x y : World → StatementEnd) → LeadsTo (λ way. choose b (world_of s way) x y) (λ way. cond b x y (world_of s way))
 chosen s true x y = λ way. (way ++ Tested true ∷ [], refl)
 chosen s false x y = λ way. (way ++ Tested false ∷ [], refl)
 
-abbrev choose_go : (World → Ending) → (World → Ending) → Value → World → Ending
+abbrev choose_go : (World → StatementEnd) → (World → StatementEnd) → Value → World → StatementEnd
 choose_go a b = λ v w. choose (is_yes (truth_of v)) w a b
 
 module _ (p : Place) (e : Expr) (s t : Evaluator) where
@@ -208,18 +208,18 @@ module _ (p : Place) (e : Expr) (s t : Evaluator) where
 -- ---- an if
 
 -- an if is its test
-if_tests : (p : Place) (e : Expr) (x : Stmt) (o : Option Stmt) (s : Evaluator) (way : List Event) → exec (if_else p e x o) (world_of s way) ≡ test_step p e s (exec x) (exec_rest o) way
+if_tests : (p : Place) (e : Expr) (x : Stmt) (o : Option Stmt) (s : Evaluator) (way : List Event) → exec (if_with_else p e x o) (world_of s way) ≡ test_step p e s (exec x) (exec_rest o) way
 if_tests p e x None s way = refl
 if_tests p e x (Some y) s way = refl
 
 -- the way of an else part
-abbrev pub rest_at : Option Stmt → Evaluator → List Event → Ending
+abbrev pub rest_at : Option Stmt → Evaluator → List Event → StatementEnd
 rest_at o s = λ way. exec_rest o (world_of s way)
 
 -- a run that has come to an if
-module _ (all : List Event → Ending) (a : Option Stmt) (p : Place) (e : Expr) (x : Stmt) (o : Option Stmt) (s t : Evaluator) (is : a ≡ Some (if_else p e x o)) (so_far : LeadsTo all (rest_at a s)) where
+module _ (all : List Event → StatementEnd) (a : Option Stmt) (p : Place) (e : Expr) (x : Stmt) (o : Option Stmt) (s t : Evaluator) (is : a ≡ Some (if_with_else p e x o)) (so_far : LeadsTo all (rest_at a s)) where
   tests : LeadsTo all (test_step p e s (exec x) (exec_rest o))
-  tests = leads_on all (rest_at (Some (if_else p e x o)) s) (test_step p e s (exec x) (exec_rest o)) (subst (λ z. LeadsTo all (rest_at z s)) is so_far) (λ way. (way, if_tests p e x o s way))
+  tests = leads_on all (rest_at (Some (if_with_else p e x o)) s) (test_step p e s (exec x) (exec_rest o)) (subst (λ z. LeadsTo all (rest_at z s)) is so_far) (λ way. (way, if_tests p e x o s way))
 
   tested : (b : Bool) → HasTested p e s t (Ok b) → LeadsTo all (λ way. cond b (exec x) (exec_rest o) (world_of t way))
   tested b h = leads_on all (test_step p e s (exec x) (exec_rest o)) (λ way. cond b (exec x) (exec_rest o) (world_of t way)) tests (h (exec x) (exec_rest o))
@@ -239,17 +239,17 @@ starts S s = λ way. (way, refl)
 
 -- ---- one after the other
 
-abbrev pub all_at : Stmts → Evaluator → List Event → Ending
+abbrev pub all_at : Stmts → Evaluator → List Event → StatementEnd
 all_at x s = λ way. exec_all x (world_of s way)
 
-pub then_done : (x : List Event → Ending) (go : World → Ending) (t : Evaluator) → LeadsTo x (λ way. done (world_of t way)) → LeadsTo (λ way. then_do (x way) go) (λ way. go (world_of t way))
+pub then_done : (x : List Event → StatementEnd) (go : World → StatementEnd) (t : Evaluator) → LeadsTo x (λ way. done (world_of t way)) → LeadsTo (λ way. then_do (x way) go) (λ way. go (world_of t way))
 then_done x go t h = λ way. ((h way).0, ap (λ y. then_do y go) (h way).1)
 
-pub then_stops : (x : List Event → Ending) (go : World → Ending) (t : Evaluator) (e : Stop Fault) → Stops x t e → Stops (λ way. then_do (x way) go) t e
+pub then_stops : (x : List Event → StatementEnd) (go : World → StatementEnd) (t : Evaluator) (e : Stop Fault) → Stops x t e → Stops (λ way. then_do (x way) go) t e
 then_stops x go t (Refused f) h = λ way. ((h way).0, ap (λ y. then_do y go) (h way).1)
 then_stops x go t OutOfMemory h = tt
 
-module _ (all : List Event → Ending) (left : Stmts) (first : Stmt) (rest : Stmts) (s t : Evaluator) (is : left ≡ Then first rest) (so_far : LeadsTo all (all_at left s)) where
+module _ (all : List Event → StatementEnd) (left : Stmts) (first : Stmt) (rest : Stmts) (s t : Evaluator) (is : left ≡ Then first rest) (so_far : LeadsTo all (all_at left s)) where
   at_first : LeadsTo all (all_at (Then first rest) s)
   at_first = subst (λ z. LeadsTo all (all_at z s)) is so_far
 

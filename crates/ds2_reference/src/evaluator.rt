@@ -3,9 +3,9 @@ ghost use Rattle.std.specs.Prelude.{◌≡◌, [], ◌∷◌, ◌++◌, IfOk, On
 ghost use Rattle.ds2_base.specs.Says.{Says};
 ghost use Rattle.ds2_value.specs.Value.{truth_of, is_yes};
 ghost use Rattle.ds2_meaning.specs.View.{expr_tree, stmt_tree, stmts_of};
-ghost use Rattle.ds2_meaning.specs.Meaning.{signed, evaluate, exec, exec_all};
+ghost use Rattle.ds2_meaning.specs.Meaning.{sum_or_difference, evaluate, exec, exec_all};
 ghost use Rattle.ds2_reference.specs.Evaluator.{world_of, HasValue, HasEnded, HasBegun, HasTested};
-ghost use Rattle.ds2_reference.specs.Variables.{contents_of, forgotten, row_of};
+ghost use Rattle.ds2_reference.specs.Variables.{contents_of, forgotten, row_of_vector};
 
 use crate::variables::Variables;
 use ds2_base::{List, OutOfMemory, Place, Stop};
@@ -27,7 +27,7 @@ pub struct Evaluator {
 
 // The sum or the difference of two values.
 fn signed(sign: Sign, x: &Value, y: &Value) -> Result<Value, Stop<Fault>>
-    ensures { Says result (signed sign x.now y.now) }
+    ensures { Says result (sum_or_difference sign x.now y.now) }
 {
     let outcome = match sign {
         Sign::Plus => sum(x, y),
@@ -160,7 +160,7 @@ impl Evaluator {
 
     // The values of these variables as a row.
     fn row(&self, alloc: Global, columns: &[Column]) -> Result<Row, OutOfMemory>
-        ensures { IfOk result (λ row. row ≡ row_of columns.now (contents_of self.now.variables)) }
+        ensures { IfOk result (λ row. row ≡ row_of_vector columns.now (contents_of self.now.variables)) }
     {
         let mut row = List::new(alloc);
         'columns: for column in columns {
@@ -171,7 +171,7 @@ impl Evaluator {
 
     /// Writes the values of these variables as a row.
     pub fn write(&mut self, alloc: Global, columns: &[Column]) -> Result<(), OutOfMemory>
-        ensures { OnOk result (self.new ≡ record self.old { rows = self.old.rows ++ row_of columns.now (contents_of self.old.variables) ∷ [] }) }
+        ensures { OnOk result (self.new ≡ record self.old { rows = self.old.rows ++ row_of_vector columns.now (contents_of self.old.variables) ∷ [] }) }
     {
         let row = self.row(alloc, columns)?;
         self.rows.push(row)

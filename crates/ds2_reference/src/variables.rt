@@ -1,7 +1,7 @@
 //! The variables of a run, by name.
 ghost use Rattle.std.specs.Prelude.{◌≡◌, IfOk, OnOk};
 ghost use Rattle.ds2_meaning.specs.Program.{names_of};
-ghost use Rattle.ds2_reference.specs.Variables.{contents_of, bound, forgotten, cleared, filled};
+ghost use Rattle.ds2_reference.specs.Variables.{contents_of, bound, forgotten, nulled, bound_to_row};
 
 use ds2_base::{List, Name, OutOfMemory};
 use ds2_value::{Column, Value};
@@ -54,7 +54,7 @@ impl Variables {
 
     /// Makes these variables null.
     pub fn clear(&mut self, alloc: Global, variables: &[Column]) -> Result<(), OutOfMemory>
-        ensures { OnOk result (contents_of self.new ≡ cleared (names_of variables.now) (contents_of self.old)) }
+        ensures { OnOk result (contents_of self.new ≡ nulled (names_of variables.now) (contents_of self.old)) }
     {
         'variables: for variable in variables {
             self.set(alloc, &variable.name, Value::Null)?;
@@ -69,7 +69,7 @@ impl Variables {
         columns: &[Column],
         row: &[Value],
     ) -> Result<(), OutOfMemory>
-        ensures { OnOk result (contents_of self.new ≡ filled (names_of columns.now) row.now (contents_of self.old)) }
+        ensures { OnOk result (contents_of self.new ≡ bound_to_row (names_of columns.now) row.now (contents_of self.old)) }
     {
         let [column, more_columns @ ..] = columns else {
             return Ok(());

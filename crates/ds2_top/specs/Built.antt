@@ -6,7 +6,7 @@ use Rattle.ds2_value.specs.declared.schema.Column.{Column}
 use Rattle.ds2_value.specs.declared.ty.Ty.{Ty}
 use Rattle.ds2_value.specs.declared.ty.Ty.TheVariants.{BigInt, Decimal, Char, Varchar}
 use Rattle.ds2_meaning.specs.Names.{first_listed}
-use Rattle.ds2_meaning.specs.Program.{Program, has_name, names_of}
+use Rattle.ds2_meaning.specs.Program.{Program, lists_name, names_of}
 
 -- a type is BIGINT
 abbrev pub is_bigint : Ty → Bool
@@ -21,7 +21,7 @@ other_names columns = names_of (filter (λ (c : Column). not (is_bigint c.ty)) c
 
 -- one of these columns has one of these names
 abbrev pub shares_name : List (List ℕ) → List Column → Bool
-shares_name names columns = list_any (λ (c : Column). has_name names c.name) columns
+shares_name names columns = list_any (λ (c : Column). lists_name names c.name) columns
 
 -- no column that is no BIGINT is declared, and no statement names one: such columns are copied and nothing else
 abbrev pub is_built : Program → Bool

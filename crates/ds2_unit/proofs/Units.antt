@@ -13,7 +13,7 @@ use Rattle.ds2_code.specs.Machine.{Slots}
 use Rattle.ds2_code.specs.Unit.{RunsUnit}
 use Rattle.ds2_machine.specs.declared.unit_end.UnitEnd.{UnitEnd}
 use Rattle.ds2_machine.specs.Idle.{all_null}
-use Rattle.ds2_machine.specs.UnitEnd.{written, IsToldBy, spent_by}
+use Rattle.ds2_machine.specs.UnitEnd.{written_rows, IsToldBy, spent_by}
 use Rattle.ds2_unit.specs.Answer.{HasAnswered}
 
 -- the row at an index, and those after it
@@ -28,8 +28,8 @@ unit_fits budget n executed few short bound =
 
 -- there is an answer with this number of instructions, these rows and this ending
 abbrev pub Answers : ProgramCode → ℕ → List (List Value) → Slots → ℕ → List Written → Ending → Type 0
-Answers code budget rows slots executed written ending =
-    (end : ProgramEnd) × IsAlone (RunsUnit code budget) rows slots executed end × (written ≡ end.rows) × (ending ≡ end.ending)
+Answers code budget rows slots executed written_rows ending =
+    (end : ProgramEnd) × IsAlone (RunsUnit code budget) rows slots executed end × (written_rows ≡ end.rows) × (ending ≡ end.ending)
 
 -- an answer whose rows have been taken
 pub answered : (HasTaken : List Written → Type 0) (code : ProgramCode) (budget : ℕ) (rows : List (List Value)) (executed : ℕ) (taken : List Written) (ending : Ending)
@@ -73,12 +73,12 @@ module _ (code : ProgramCode) (budget : ℕ) where
     stopped n more ending fault rest ran same is =
         leads n more ending (then_end rest (faulted fault rest), (n, Stopped fault rest, ran, (refl, refl)), same ∙ sym (append-nil rest.rows), is)
 
-    pub goes_on : (unit : UnitEnd) (next : Slots) (o : Outcome Slots) → RunsUnit code budget row now unit.executed o → IsToldBy o unit next → spent_by unit.ending ≡ false → Leads code budget rows slots (executed + unit.executed) (before ++ written unit.rows) left next
+    pub goes_on : (unit : UnitEnd) (next : Slots) (o : Outcome Slots) → RunsUnit code budget row now unit.executed o → IsToldBy o unit next → spent_by unit.ending ≡ false → Leads code budget rows slots (executed + unit.executed) (before ++ written_rows unit.rows) left next
     goes_on unit next (Done s rest) ran told normal =
         let P : Slots → Type 0 = λ z. RunsUnit code budget row now unit.executed (Done z rest) in
-        done unit.executed next (written unit.rows) rest (subst P (sym told.3) ran) told.0
+        done unit.executed next (written_rows unit.rows) rest (subst P (sym told.3) ran) told.0
     goes_on unit next (Stopped fault rest) ran told normal = let spent : spent_by unit.ending ≡ true = ap spent_by told.1 in absurd cc
 
-    pub stops : (unit : UnitEnd) (next : Slots) (o : Outcome Slots) → RunsUnit code budget row now unit.executed o → IsToldBy o unit next → spent_by unit.ending ≡ true → Answers code budget rows slots (executed + unit.executed) (before ++ written unit.rows) unit.ending
+    pub stops : (unit : UnitEnd) (next : Slots) (o : Outcome Slots) → RunsUnit code budget row now unit.executed o → IsToldBy o unit next → spent_by unit.ending ≡ true → Answers code budget rows slots (executed + unit.executed) (before ++ written_rows unit.rows) unit.ending
     stops unit next (Done s rest) ran told spent = let normal : spent_by unit.ending ≡ false = ap spent_by told.1 in absurd cc
-    stops unit next (Stopped fault rest) ran told spent = stopped unit.executed (written unit.rows) unit.ending fault rest ran told.0 told.1
+    stops unit next (Stopped fault rest) ran told spent = stopped unit.executed (written_rows unit.rows) unit.ending fault rest ran told.0 told.1

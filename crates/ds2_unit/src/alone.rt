@@ -1,8 +1,8 @@
 //! The units of a program, one after the other.
 ghost use Rattle.std.specs.Prelude.{◌≡◌, ◌≤◌, [], length, IfOk};
 ghost use Rattle.std.specs.List.{All};
-ghost use Rattle.ds2_code.specs.Valid.{IsValid};
-ghost use Rattle.ds2_unit.specs.Answer.{HasAnswered, IsAnswer};
+ghost use Rattle.ds2_code.specs.Valid.{IsValidCode};
+ghost use Rattle.ds2_unit.specs.Answer.{HasAnswered, IsCodeAnswer};
 
 use crate::RowSink;
 use crate::row_sink::take_all;
@@ -34,7 +34,7 @@ pub fn run_into<S: RowSink + Drop>(
     budget: u64,
     mut sink: S,
 ) -> Result<ProgramEnd<S>, OutOfMemory>
-    requires valid { IsValid code.now }
+    requires valid { IsValidCode code.now }
     requires budget { budget ≤ 1000000000 }
     requires rows { All (λ row. length row ≡ length code.now.columns) rows.now }
     requires fresh { S.has_taken sink sink [] }
@@ -68,10 +68,10 @@ pub fn run_alone(
     rows: &[Row],
     budget: u64,
 ) -> Result<ProgramEnd<List<OutRow>>, OutOfMemory>
-    requires valid { IsValid code.now }
+    requires valid { IsValidCode code.now }
     requires budget { budget ≤ 1000000000 }
     requires rows { All (λ row. length row ≡ length code.now.columns) rows.now }
-    ensures { IfOk result (λ end. IsAnswer code.now budget rows.now end.rows end.executed end.ending) }
+    ensures { IfOk result (λ end. IsCodeAnswer code.now budget rows.now end.rows end.executed end.ending) }
 {
     run_into(alloc, code, rows, budget, List::new(alloc))
 }

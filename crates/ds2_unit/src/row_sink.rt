@@ -1,7 +1,7 @@
 //! What takes the rows that a program writes.
 ghost use Rattle.std.specs.Prelude.{◌≡◌, ◌++◌, ◌∷◌, [], List as Items, IfOk};
 ghost use Rattle.ds2_value.specs.Run.{Written};
-ghost use Rattle.ds2_machine.specs.UnitEnd.{written_of, written};
+ghost use Rattle.ds2_machine.specs.UnitEnd.{written_of, written_rows};
 
 use ds2_base::{List, OutOfMemory};
 use ds2_machine::OutRow;
@@ -20,9 +20,9 @@ pub trait RowSink: Sized {
 
 impl RowSink for List<OutRow> {
     ghost use Rattle.std.specs.Prelude.{◌≡◌, ◌++◌};
-    ghost use Rattle.ds2_machine.specs.UnitEnd.{written};
+    ghost use Rattle.ds2_machine.specs.UnitEnd.{written_rows};
 
-    ghost has_taken = { λ from rows taken. written rows ≡ written from ++ taken };
+    ghost has_taken = { λ from rows taken. written_rows rows ≡ written_rows from ++ taken };
 
     fn take(mut self, alloc: Global, row: OutRow) -> Result<List<OutRow>, OutOfMemory> {
         self.push(row)?;
@@ -36,7 +36,7 @@ pub(crate) fn take_all<S: RowSink + Drop>(
     mut sink: S,
     rows: List<OutRow>,
 ) -> Result<S, OutOfMemory>
-    ensures { (from : S) (taken : Items Written) → S.has_taken from sink taken → IfOk result (λ all. S.has_taken from all (taken ++ written rows)) }
+    ensures { (from : S) (taken : Items Written) → S.has_taken from sink taken → IfOk result (λ all. S.has_taken from all (taken ++ written_rows rows)) }
 {
     for row in rows.into_vec() {
         sink = sink.take(alloc, row)?;

@@ -13,4 +13,4 @@ returns-clause-valid c =
     (subst (λ n. n < 2 ^ 32) c.len-2.ensures c.in_ok-number-2.ensures.small)
 
 pub returns-clause-same : goal.returns-clause-same
-returns-clause-same c = same (program_of c.args.program.now) _ c.in_ok-code.ensures c.requires.known
+returns-clause-same c = same (program_of c.args.program.now) _ c.in_ok-code.ensures c.one_end.ensures c.requires.known

@@ -7,7 +7,7 @@ use Rattle.ds2_machine.proofs.machine.Machine.call_run.Goals as goal
 pub ending-ending-requires : goal.ending-ending-requires
 ending-ending-requires c =
     let begins = c.in_ok-begin.ensures.ok ∙ ap (λ s. begun c.args.code.now c.args.budget c.args.row.now s) (ap (λ (z : Idle). z.slots) c.self.view_is) in
-    never_stuck c.args.code.now c.args.budget c.args.row.now c.args.self.now.slots c.begin.new.self begins c.in_ok-ran.ran.executed c.in_ok-ran.ran.halt c.run.new.self c.requires.valid.sound c.requires.slots c.requires.row c.in_ok-ran.ensures.ran
+    never_stuck c.args.code.now c.args.budget c.args.row.now c.args.self.now.slots c.begin.new.self begins c.one_end.ensures c.in_ok-ran.ran.executed c.in_ok-ran.ran.halt c.run.new.self c.requires.valid.sound c.requires.slots c.requires.row c.in_ok-ran.ensures.ran
 
 pub returns-clause-ran : goal.returns-clause-ran
 returns-clause-ran c =
@@ -19,4 +19,4 @@ returns-clause-bound c =
     let begins = c.in_ok-begin.ensures.ok ∙ ap (λ s. begun c.args.code.now c.args.budget c.args.row.now s) (ap (λ (z : Idle). z.slots) c.self.view_is) in
     few_enough c.args.code.now c.args.budget c.args.row.now c.args.self.now.slots c.begin.new.self begins c.in_ok-ran.ran.executed
     (c.in_ok-ran.ensures.bound
-    (never_stuck c.args.code.now c.args.budget c.args.row.now c.args.self.now.slots c.begin.new.self begins c.in_ok-ran.ran.executed c.in_ok-ran.ran.halt c.run.new.self c.requires.valid.sound c.requires.slots c.requires.row c.in_ok-ran.ensures.ran))
+    (never_stuck c.args.code.now c.args.budget c.args.row.now c.args.self.now.slots c.begin.new.self begins c.one_end.ensures c.in_ok-ran.ran.executed c.in_ok-ran.ran.halt c.run.new.self c.requires.valid.sound c.requires.slots c.requires.row c.in_ok-ran.ensures.ran))
