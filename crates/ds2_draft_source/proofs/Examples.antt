@@ -2,8 +2,8 @@
 use Rattle.std.proofs.Common.{◌≡◌, ℕ, zero, suc, Bool, true, false, codes, pos, List, [], ◌∷◌, ◌++◌, Some, None, is_some, refl}
 use Rattle.ds2_value.specs.declared.value.Value.TheVariants.{Int}
 use Rattle.ds2_value.specs.declared.comparison.Comparison.TheVariants.{Less, NotEqual}
-use Rattle.ds2_meaning.specs.declared.tree.Sign.TheVariants.{Plus, Minus}
-use Rattle.ds2_meaning.specs.Tree.{Constant, Variable, Chain, Compare, NoTerm, Term, Assign, If, IfElse, NoStmt, Then}
+use Rattle.ds2_draft_meaning.specs.declared.tree.Sign.TheVariants.{Plus, Minus}
+use Rattle.ds2_draft_meaning.specs.Tree.{Constant, Variable, Chain, Compare, NoTerm, Term, Assign, If, IfElse, NoStmt, Then}
 use Rattle.ds2_draft_source.specs.Reserved.{is_reserved_word}
 use Rattle.ds2_draft_source.specs.Tokens.{tokens_of, lexeme, mark_of_one, mark_of_two}
 use Rattle.ds2_draft_source.specs.Grammar.{repeated, a_name, name, begins_name, operand, begins_sign, sign, term, sum, word_comparison, comparison, condition, assignment, if_place, if_branch, begins_else_if, else_if, else_part, conditional, statement_of, nested, statement, statements}

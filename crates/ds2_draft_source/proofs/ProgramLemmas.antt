@@ -1,6 +1,6 @@
 -- A program from its parts.
 use Rattle.std.proofs.Common.{◌≡◌, ℕ, ◌<◌, ◌≤◌, List, [], ◌∷◌, length, Some, None, refl, arith}
-use Rattle.ds2_meaning.specs.Tree.{Stmt}
+use Rattle.ds2_draft_meaning.specs.Tree.{Stmt}
 use Rattle.ds2_draft_source.specs.declared.token.Token.{Token}
 use Rattle.ds2_draft_source.specs.Grammar.{statements, stmts_tree}
 use Rattle.ds2_draft_source.specs.Source.{header, declarations, method_run, set_table, closing, whole, program}

@@ -7,14 +7,14 @@ use Rattle.ds2_value.specs.declared.value.Value.TheVariants.{Int}
 use Rattle.ds2_base.specs.declared.place.Place.{Place}
 use Rattle.ds2_value.specs.declared.comparison.Comparison.{Comparison}
 use Rattle.ds2_value.specs.declared.comparison.Comparison.TheVariants.{Equal}
-use Rattle.ds2_meaning.specs.declared.tree.Sign.{Sign}
-use Rattle.ds2_meaning.specs.Tree.{Expr, Constant, Compare, Stmt, Assign}
+use Rattle.ds2_draft_meaning.specs.declared.tree.Sign.{Sign}
+use Rattle.ds2_draft_meaning.specs.Tree.{Expr, Constant, Compare, Stmt, Assign}
 use Rattle.ds2_draft_source.specs.declared.token.Token.{Token}
 use Rattle.ds2_draft_source.specs.declared.token.Named.{Named}
 use Rattle.ds2_draft_source.specs.declared.token.Kind.{Kind}
 use Rattle.ds2_draft_source.specs.declared.token.Kind.TheVariants.{Word, Number, Operator, Comparator, Semicolon, Open, Close}
 use Rattle.ds2_draft_source.specs.Reserved.{is_reserved_word}
-use Rattle.ds2_meaning.specs.View.{if_with_else}
+use Rattle.ds2_draft_meaning.specs.View.{if_with_else}
 use Rattle.ds2_draft_source.specs.Grammar.{Reading, is_this_word, is_semicolon, is_open, is_close, is_equal, after, begins, many, repeated, named_by, name_of_kind, a_name, name, begins_name, integer_of_kind, integer_or, variable, operand, begins_sign, sign, term, terms_tree, sum_tree, sum, word_comparison, comparison, compared_with, condition, assignment, Branch, if_place, if_branch, begins_else_if, else_if, else_part, others_tree, conditional, statement_of, nested, statement, stmts_tree, statements}
 use Rattle.ds2_draft_source.specs.Source.{Source, header, is_empty, repeats, declaration, declarations, method_run, set_table, closing, whole, program, source_of}
 use Rattle.ds2_draft_source.specs.Tokens.{tokens_of}

@@ -3,15 +3,15 @@ use Rattle.std.proofs.Common.{◌≡◌, ◌<◌, List, [], ◌∷◌, length, m
 use Rattle.std.specs.declared.boxed.Box.{Box}
 use Rattle.std.specs.declared.alloc.Global.{Global}
 use Rattle.ds2_base.specs.declared.place.Place.{Place}
-use Rattle.ds2_meaning.specs.declared.tree.Term as code_term
-use Rattle.ds2_meaning.specs.declared.tree.Expr as code
-use Rattle.ds2_meaning.specs.declared.tree.Expr.TheVariants as expr
-use Rattle.ds2_meaning.specs.declared.tree.Arm as code_arm
-use Rattle.ds2_meaning.specs.declared.tree.Stmt as code_stmt
-use Rattle.ds2_meaning.specs.declared.tree.Stmt.TheVariants as stmt
-use Rattle.ds2_meaning.specs.Tree.{Chain, Terms, Term, Stmt, Stmts, Then}
-use Rattle.ds2_meaning.specs.View.{expr_tree, terms_of, stmt_tree, if_with_else, arms_of, else_tree, stmts_of}
-use Rattle.ds2_meaning.proofs.Rows.{chain_tree, if_tree}
+use Rattle.ds2_draft_meaning.specs.declared.tree.Term as code_term
+use Rattle.ds2_draft_meaning.specs.declared.tree.Expr as code
+use Rattle.ds2_draft_meaning.specs.declared.tree.Expr.TheVariants as expr
+use Rattle.ds2_draft_meaning.specs.declared.tree.Arm as code_arm
+use Rattle.ds2_draft_meaning.specs.declared.tree.Stmt as code_stmt
+use Rattle.ds2_draft_meaning.specs.declared.tree.Stmt.TheVariants as stmt
+use Rattle.ds2_draft_meaning.specs.Tree.{Chain, Terms, Term, Stmt, Stmts, Then}
+use Rattle.ds2_draft_meaning.specs.View.{expr_tree, terms_of, stmt_tree, if_with_else, arms_of, else_tree, stmts_of}
+use Rattle.ds2_draft_meaning.proofs.Rows.{chain_tree, if_tree}
 use Rattle.ds2_draft_source.specs.Grammar.{terms_tree, sum_tree, others_tree, stmts_tree}
 use Rattle.ds2_draft_source.specs.Views.{term_pair, branch_tree}
 

@@ -5,9 +5,9 @@ use Rattle.ds2_base.specs.declared.place.Place.{Place}
 use Rattle.ds2_value.specs.declared.value.Value.TheVariants.{Int}
 use Rattle.ds2_value.specs.declared.comparison.Comparison.{Comparison}
 use Rattle.ds2_value.specs.declared.comparison.Comparison.TheVariants as compare
-use Rattle.ds2_meaning.specs.declared.tree.Sign.{Sign}
-use Rattle.ds2_meaning.specs.Tree.{Expr, Constant, Variable, Chain, Compare, Terms, NoTerm, Term, Stmt, Assign, Stmts, NoStmt, Then}
-use Rattle.ds2_meaning.specs.View.{if_with_else}
+use Rattle.ds2_draft_meaning.specs.declared.tree.Sign.{Sign}
+use Rattle.ds2_draft_meaning.specs.Tree.{Expr, Constant, Variable, Chain, Compare, Terms, NoTerm, Term, Stmt, Assign, Stmts, NoStmt, Then}
+use Rattle.ds2_draft_meaning.specs.View.{if_with_else}
 use Rattle.ds2_draft_source.specs.declared.token.Token.{Token}
 use Rattle.ds2_draft_source.specs.declared.token.Kind.{Kind}
 use Rattle.ds2_draft_source.specs.declared.token.Kind.TheVariants.{Word, Number, Operator, Comparator, Semicolon, Open, Close}

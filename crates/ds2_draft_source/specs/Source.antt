@@ -2,8 +2,8 @@
 use Rattle.std.specs.Prelude.{ℕ, Bool, true, false, ◌||◌, if◌then◌else◌, codes, List, [], ◌∷◌, Option, Some, None}
 use Rattle.std.specs.Str.{bytes_eq}
 use Rattle.std.specs.List.{list_any}
-use Rattle.ds2_meaning.specs.Tree.{Stmts}
-use Rattle.ds2_meaning.specs.View.{stmts_of}
+use Rattle.ds2_draft_meaning.specs.Tree.{Stmts}
+use Rattle.ds2_draft_meaning.specs.View.{stmts_of}
 use Rattle.ds2_draft_source.specs.declared.program.Source as code
 use Rattle.ds2_draft_source.specs.declared.token.Token.{Token}
 use Rattle.ds2_draft_source.specs.Tokens.{tokens_of}

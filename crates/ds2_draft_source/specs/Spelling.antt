@@ -5,7 +5,7 @@ use Rattle.ds2_value.specs.declared.value.Value.{Value}
 use Rattle.ds2_value.specs.declared.value.Value.TheVariants.{Int}
 use Rattle.ds2_value.specs.declared.comparison.Comparison.{Comparison}
 use Rattle.ds2_value.specs.declared.comparison.Comparison.TheVariants.{Equal}
-use Rattle.ds2_meaning.specs.Tree.{Expr, Constant, Variable, Chain, Compare, Terms, NoTerm, Term, Stmt, Assign, If, IfElse, Stmts, NoStmt, Then}
+use Rattle.ds2_draft_meaning.specs.Tree.{Expr, Constant, Variable, Chain, Compare, Terms, NoTerm, Term, Stmt, Assign, If, IfElse, Stmts, NoStmt, Then}
 use Rattle.ds2_draft_source.specs.declared.token.Token.{Token}
 use Rattle.ds2_draft_source.specs.declared.token.Kind.{Kind}
 use Rattle.ds2_draft_source.specs.declared.token.Kind.TheVariants.{Word, Number, Operator, Comparator, Semicolon, Open, Close}

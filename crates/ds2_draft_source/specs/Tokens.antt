@@ -7,7 +7,7 @@ use Rattle.ds2_base.specs.Name.{name_of}
 use Rattle.ds2_base.specs.Place.{start_place, place_after}
 use Rattle.ds2_base.specs.declared.place.Place.{Place}
 use Rattle.ds2_value.specs.declared.comparison.Comparison.TheVariants.{Equal, NotEqual, Less, LessOrEqual, Greater, GreaterOrEqual}
-use Rattle.ds2_meaning.specs.declared.tree.Sign.TheVariants.{Plus, Minus}
+use Rattle.ds2_draft_meaning.specs.declared.tree.Sign.TheVariants.{Plus, Minus}
 use Rattle.ds2_draft_source.specs.declared.token.Token.{Token}
 use Rattle.ds2_draft_source.specs.declared.token.Lexeme.{Lexeme}
 use Rattle.ds2_draft_source.specs.declared.token.Kind.{Kind}

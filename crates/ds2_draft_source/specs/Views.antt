@@ -1,9 +1,9 @@
 -- What a rule reads, seen as plain data.
-use Rattle.ds2_meaning.specs.declared.tree.Term as code_term
-use Rattle.ds2_meaning.specs.declared.tree.Arm as code_arm
-use Rattle.ds2_meaning.specs.declared.tree.Sign.{Sign}
-use Rattle.ds2_meaning.specs.Tree.{Expr}
-use Rattle.ds2_meaning.specs.View.{expr_tree, stmt_tree}
+use Rattle.ds2_draft_meaning.specs.declared.tree.Term as code_term
+use Rattle.ds2_draft_meaning.specs.declared.tree.Arm as code_arm
+use Rattle.ds2_draft_meaning.specs.declared.tree.Sign.{Sign}
+use Rattle.ds2_draft_meaning.specs.Tree.{Expr}
+use Rattle.ds2_draft_meaning.specs.View.{expr_tree, stmt_tree}
 use Rattle.ds2_draft_source.specs.Grammar.{Branch}
 
 -- an operand behind its sign

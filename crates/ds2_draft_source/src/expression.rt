@@ -1,7 +1,7 @@
 //! Expressions.
 ghost use Rattle.std.specs.Prelude.{◌≡◌, ◌<◌, ◌≤◌, length, map, IfOk, IfSome};
 ghost use Rattle.std.specs.Option.{option_map};
-ghost use Rattle.ds2_meaning.specs.View.{expr_tree};
+ghost use Rattle.ds2_draft_meaning.specs.View.{expr_tree};
 ghost use Rattle.ds2_draft_source.specs.Grammar.{operand, begins_sign, term, repeated, sum, word_comparison, comparison_of_kind, comparison, condition};
 ghost use Rattle.ds2_draft_source.specs.Reads.{RuleReads};
 ghost use Rattle.ds2_draft_source.specs.Views.{term_pair};
@@ -9,7 +9,7 @@ ghost use Rattle.ds2_draft_source.specs.Views.{term_pair};
 use crate::rule::{OtherForm, named};
 use crate::token::{Kind, Named, Token};
 use ds2_base::{List, Stop};
-use ds2_meaning::{Expr, Term};
+use ds2_draft_meaning::{Expr, Term};
 use ds2_value::{Comparison, Value};
 use std::alloc::Global;
 

@@ -7,7 +7,7 @@ ghost use Rattle.ds2_draft_source.specs.Tokens.{is_gap, starts_word, is_word_byt
 
 use crate::token::{Kind, Lexeme, Token};
 use ds2_base::{List, Name, OutOfMemory, Place, Stop};
-use ds2_meaning::Sign;
+use ds2_draft_meaning::Sign;
 use ds2_value::Comparison;
 use std::alloc::Global;
 

@@ -12,7 +12,7 @@ use crate::rule::{
 use crate::statement::statements;
 use crate::token::Token;
 use ds2_base::{List, Name, OutOfMemory, Stop};
-use ds2_meaning::Stmt;
+use ds2_draft_meaning::Stmt;
 use std::alloc::Global;
 
 /// A data program that reads one table row by row, as its source spells it.

@@ -1,6 +1,6 @@
 //! Statements.
 ghost use Rattle.std.specs.Prelude.{◌≡◌, ◌<◌, ◌≤◌, length, map, not, IfOk};
-ghost use Rattle.ds2_meaning.specs.View.{else_tree, stmt_tree};
+ghost use Rattle.ds2_draft_meaning.specs.View.{else_tree, stmt_tree};
 ghost use Rattle.ds2_draft_source.specs.Grammar.{repeated, assignment, if_place, if_branch, begins_else_if, else_if, else_part, conditional, nested, statement, statements};
 ghost use Rattle.ds2_draft_source.specs.Reads.{RuleReads, ReadsAlways};
 ghost use Rattle.ds2_draft_source.specs.Views.{branch_tree};
@@ -11,7 +11,7 @@ use crate::rule::{
 };
 use crate::token::{Named, Token};
 use ds2_base::{List, Place, Stop};
-use ds2_meaning::{Arm, Stmt};
+use ds2_draft_meaning::{Arm, Stmt};
 use std::alloc::Global;
 
 /// How many levels the statements within a statement may open.

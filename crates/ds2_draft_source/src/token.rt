@@ -1,7 +1,7 @@
 //! Tokens of a source.
 
 use ds2_base::{Name, Place};
-use ds2_meaning::Sign;
+use ds2_draft_meaning::Sign;
 use ds2_value::Comparison;
 
 /// What a token is.

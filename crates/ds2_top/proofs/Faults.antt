@@ -5,8 +5,8 @@ use Rattle.ds2_base.specs.declared.place.Place.{Place}
 use Rattle.ds2_value.specs.declared.fault.Fault.{Fault}
 use Rattle.ds2_value.specs.declared.fault.Ending.{Ending}
 use Rattle.ds2_value.specs.declared.fault.Ending.TheVariants.{Normal, Faulted}
-use Rattle.ds2_meaning.specs.Names.{first_unknown}
-use Rattle.ds2_meaning.specs.Program.{Program, one_thread_answer}
+use Rattle.ds2_draft_meaning.specs.Names.{first_unknown}
+use Rattle.ds2_draft_meaning.specs.Program.{Program, one_thread_answer}
 use Rattle.ds2_table.specs.Table.{Contents}
 use Rattle.ds2_csv.specs.Reads.{reads}
 use Rattle.ds2_csv.specs.declared.refusal.CsvRefusal.{CsvRefusal}

@@ -4,12 +4,12 @@ use Rattle.std.proofs.lemmas.List.{length-map}
 use Rattle.ds2_value.specs.declared.value.Value.{Value}
 use Rattle.ds2_table.specs.Alone.{ProgramEnd}
 use Rattle.ds2_value.specs.declared.schema.Column.{Column}
-use Rattle.ds2_meaning.specs.Program.{Program, one_thread_answer, variables}
-use Rattle.ds2_code.specs.declared.program.ProgramCode.{ProgramCode}
-use Rattle.ds2_gen.specs.Correct.{Same, Simulates}
+use Rattle.ds2_draft_meaning.specs.Program.{Program, one_thread_answer, variables}
+use Rattle.ds2_draft_code.specs.declared.program.ProgramCode.{ProgramCode}
+use Rattle.ds2_draft_gen.specs.Correct.{Same, Simulates}
 use Rattle.ds2_value.specs.declared.fault.Ending.{Ending}
 use Rattle.ds2_value.specs.Run.{Written}
-use Rattle.ds2_unit.specs.Answer.{HasAnswered}
+use Rattle.ds2_draft_unit.specs.Answer.{HasAnswered}
 use Rattle.ds2_csv.specs.Text as csv
 use Rattle.ds2_top.specs.declared.output_text.OutputText.{OutputText}
 use Rattle.ds2_top.specs.Answer.{IsEndOf, output_rows, rows_of}

@@ -13,8 +13,8 @@ use Rattle.ds2_table.specs.Table.{Contents}
 use Rattle.ds2_csv.specs.Reads.{reads}
 use Rattle.ds2_csv.specs.Text as csv
 use Rattle.ds2_csv.specs.declared.refusal.CsvRefusal.{CsvRefusal}
-use Rattle.ds2_meaning.specs.Names.{first_unknown}
-use Rattle.ds2_meaning.specs.Program.{Program, variables, one_thread_answer}
+use Rattle.ds2_draft_meaning.specs.Names.{first_unknown}
+use Rattle.ds2_draft_meaning.specs.Program.{Program, variables, one_thread_answer}
 use Rattle.ds2_draft_source.specs.Source.{Source, source_of}
 use Rattle.ds2_outside.specs.Files.{Files}
 use Rattle.ds2_top.specs.declared.lines.SourceKind.TheVariants.{NotBuilt, UnknownName}

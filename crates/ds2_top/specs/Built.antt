@@ -5,8 +5,8 @@ use Rattle.std.specs.Option.{is_none}
 use Rattle.ds2_value.specs.declared.schema.Column.{Column}
 use Rattle.ds2_value.specs.declared.ty.Ty.{Ty}
 use Rattle.ds2_value.specs.declared.ty.Ty.TheVariants.{BigInt, Decimal, Char, Varchar}
-use Rattle.ds2_meaning.specs.Names.{first_listed}
-use Rattle.ds2_meaning.specs.Program.{Program, lists_name, names_of}
+use Rattle.ds2_draft_meaning.specs.Names.{first_listed}
+use Rattle.ds2_draft_meaning.specs.Program.{Program, lists_name, names_of}
 
 -- a type is BIGINT
 abbrev pub is_bigint : Ty → Bool

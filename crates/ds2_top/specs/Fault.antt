@@ -5,8 +5,8 @@ use Rattle.ds2_value.specs.declared.fault.Fault.{Fault}
 use Rattle.ds2_value.specs.declared.fault.Ending.TheVariants.{Faulted}
 use Rattle.ds2_table.specs.Table.{Contents}
 use Rattle.ds2_csv.specs.Reads.{reads}
-use Rattle.ds2_meaning.specs.Names.{first_unknown}
-use Rattle.ds2_meaning.specs.Program.{one_thread_answer}
+use Rattle.ds2_draft_meaning.specs.Names.{first_unknown}
+use Rattle.ds2_draft_meaning.specs.Program.{one_thread_answer}
 use Rattle.ds2_draft_source.specs.Source.{Source, source_of}
 use Rattle.ds2_outside.specs.Files.{Files, file}
 use Rattle.ds2_top.specs.declared.words.Command.TheVariants.{Run}

@@ -1,11 +1,11 @@
 //! Which programs are built so far, by the types of the columns of their table.
 ghost use Rattle.std.specs.Prelude.{◌≡◌, ◌++◌, IfOk};
-ghost use Rattle.ds2_meaning.specs.View.{program_of};
+ghost use Rattle.ds2_draft_meaning.specs.View.{program_of};
 ghost use Rattle.ds2_top.specs.Built.{is_bigint, other_names, shares_name, is_built};
 
 use ds2_base::OutOfMemory;
-use ds2_layout::{NameTable, first_listed};
-use ds2_meaning::TypedData;
+use ds2_draft_layout::{NameTable, first_listed};
+use ds2_draft_meaning::TypedData;
 use ds2_value::{Column, Ty};
 use std::alloc::Global;
 

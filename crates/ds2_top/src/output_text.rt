@@ -1,13 +1,13 @@
 //! The text of an output, made as its rows are written.
 ghost use Rattle.std.specs.Prelude.{◌≡◌, [], length, IfOk, List as Items};
 ghost use Rattle.ds2_value.specs.Run.{Written};
-ghost use Rattle.ds2_machine.specs.UnitEnd.{written_of};
+ghost use Rattle.ds2_draft_machine.specs.UnitEnd.{written_of};
 ghost use Rattle.ds2_csv.specs.Text.{text};
 
 use ds2_base::{Bytes, List, OutOfMemory};
 use ds2_csv::TableWriter;
-use ds2_machine::OutRow;
-use ds2_unit::RowSink;
+use ds2_draft_machine::OutRow;
+use ds2_draft_unit::RowSink;
 use ds2_value::Column;
 use std::alloc::Global;
 

@@ -1,21 +1,21 @@
 //! The program of a source over its table, and its one-thread answer.
 ghost use Rattle.std.specs.Prelude.{◌≡◌, ◌≤◌, IfOk, All, length, map};
 ghost use Rattle.ds2_value.specs.declared.ty.Ty.TheVariants.{BigInt};
-ghost use Rattle.ds2_meaning.specs.Names.{AllKnown};
-ghost use Rattle.ds2_meaning.specs.Program.{one_thread_answer};
-ghost use Rattle.ds2_meaning.specs.View.{program_of};
-ghost use Rattle.ds2_layout.specs.Slots.{slot_names};
+ghost use Rattle.ds2_draft_meaning.specs.Names.{AllKnown};
+ghost use Rattle.ds2_draft_meaning.specs.Program.{one_thread_answer};
+ghost use Rattle.ds2_draft_meaning.specs.View.{program_of};
+ghost use Rattle.ds2_draft_layout.specs.Slots.{slot_names};
 ghost use Rattle.ds2_draft_source.specs.Source.{tree_of};
 ghost use Rattle.ds2_top.specs.declared.words.TheConstants.{MOST_BUDGET};
 ghost use Rattle.ds2_top.specs.Answer.{IsEndOf, program_over};
 
 use crate::output_text::OutputText;
 use ds2_base::{Bytes, List, Name, OutOfMemory};
+use ds2_draft_gen::generate;
+use ds2_draft_layout::{Layout, variables};
+use ds2_draft_meaning::TypedData;
 use ds2_draft_source::Source;
-use ds2_gen::generate;
-use ds2_layout::{Layout, variables};
-use ds2_meaning::TypedData;
-use ds2_unit::run_into;
+use ds2_draft_unit::run_into;
 use ds2_value::{Column, Ending, Row, Ty};
 use std::alloc::Global;
 

@@ -1,8 +1,8 @@
 //! What a line of words does to a store, and the text that it gives for the log.
 ghost use Rattle.std.specs.Prelude.{◌≡◌, ◌≤◌, true, All, IfOk, IsTrue, length};
-ghost use Rattle.ds2_meaning.specs.Names.{AllKnown};
-ghost use Rattle.ds2_meaning.specs.View.{program_of};
-ghost use Rattle.ds2_layout.specs.Slots.{slot_names};
+ghost use Rattle.ds2_draft_meaning.specs.Names.{AllKnown};
+ghost use Rattle.ds2_draft_meaning.specs.View.{program_of};
+ghost use Rattle.ds2_draft_layout.specs.Slots.{slot_names};
 ghost use Rattle.ds2_draft_source.specs.Source.{source_of, tree_of};
 ghost use Rattle.ds2_csv.specs.Reads.{reads};
 ghost use Rattle.ds2_top.specs.declared.words.Command.TheVariants.{Run};
@@ -21,9 +21,9 @@ use crate::words::{Command, read_words};
 use crate::{Halt, Status};
 use ds2_base::{Bytes, Place, Stop, Text};
 use ds2_csv::read_table;
+use ds2_draft_layout::{Layout, first_unknown, lay_out};
+use ds2_draft_meaning::TypedData;
 use ds2_draft_source::{Source, read_source};
-use ds2_layout::{Layout, first_unknown, lay_out};
-use ds2_meaning::TypedData;
 use ds2_outside::Store;
 use ds2_table::Table;
 use ds2_value::{Row, copy_columns};

@@ -1,5 +1,5 @@
 use Rattle.std.proofs.Common.{Some, ap, ◌∙◌}
-use Rattle.ds2_meaning.specs.Tree.{Stmts}
+use Rattle.ds2_draft_meaning.specs.Tree.{Stmts}
 use Rattle.ds2_draft_source.proofs.ProgramLemmas.{program_parts, whole-end, whole-more}
 use Rattle.ds2_draft_source.proofs.TreeLemmas.{stmts_same}
 use Rattle.ds2_draft_source.proofs.program.program.Goals as goal

@@ -1,5 +1,5 @@
 use Rattle.std.proofs.Common.{length, not, codes}
-use Rattle.ds2_meaning.specs.View.{stmt_tree}
+use Rattle.ds2_draft_meaning.specs.View.{stmt_tree}
 use Rattle.ds2_draft_source.specs.Grammar.{begins, is_this_word, statement}
 use Rattle.ds2_draft_source.proofs.RepeatedLemmas.{IsRead}
 use Rattle.ds2_draft_source.proofs.statement.statements.Given as goal

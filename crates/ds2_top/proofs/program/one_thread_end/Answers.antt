@@ -1,6 +1,6 @@
 use Rattle.std.proofs.Common.{◌≡◌, ◌∙◌}
-use Rattle.ds2_meaning.specs.Program.{variables}
-use Rattle.ds2_meaning.specs.View.{program_of}
+use Rattle.ds2_draft_meaning.specs.Program.{variables}
+use Rattle.ds2_draft_meaning.specs.View.{program_of}
 use Rattle.ds2_top.proofs.OneThread.{answer_is, fits_code}
 use Rattle.ds2_top.proofs.program.one_thread_end.Goals as goal
 

@@ -1,7 +1,7 @@
 use Rattle.std.proofs.Common.{◌≡◌, length, get_or, ap, sym, ◌∙◌, subst, ◌<◌, List}
 use Rattle.ds2_value.specs.declared.schema.Column.{Column}
 use Rattle.ds2_value.specs.declared.value.Value.{Value}
-use Rattle.ds2_meaning.specs.Program.{Program}
+use Rattle.ds2_draft_meaning.specs.Program.{Program}
 use Rattle.ds2_top.proofs.Tables.{rows_are_even}
 use Rattle.ds2_top.proofs.run.run_table.Goals as goal
 
