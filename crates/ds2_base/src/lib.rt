@@ -1,6 +1,11 @@
 //! What every other crate stands on: lists, texts, names, places, and the two ways in which a call stops.
 //!
 //! A contract sees a [`List`] as the list of its items, and a [`Text`] or a [`Name`] as the list of its UTF-8 bytes.
+//!
+//! ```text
+//! let mut names = List::new(alloc);
+//! names.push(Name::new(alloc, "total")?)?;
+//! ```
 #![tactic(auto)]
 
 mod characters;

@@ -4,6 +4,11 @@
 //! (`specs/Arithmetic.antt`) and computed within 128 bits: long division goes by groups of digits, and a group is found by
 //! an estimate where the rest and the group's power of ten have more than 38 digits together. No call takes memory. A [`Dec`]
 //! takes 24 bytes.
+//!
+//! ```text
+//! let price = Dec::new(1250, 2)?;
+//! let total = price.add(tax)?;
+//! ```
 #![tactic(auto)]
 
 mod dec;

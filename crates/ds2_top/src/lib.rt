@@ -1,4 +1,10 @@
 //! The top call: what a line of words does to a store of files and a log.
+//!
+//! [`ds2_alone`] and [`ds2`] do a command and answer a [`Status`]. Their one clause is `Headline` (`specs/Headline.antt`).
+//!
+//! ```text
+//! let status = ds2_alone(alloc, words, &mut store, &mut log);
+//! ```
 #![tactic(auto)]
 
 mod built;
@@ -12,8 +18,6 @@ mod report;
 mod run;
 mod status;
 mod steps;
-#[cfg(test)]
-mod tests;
 #[cfg(test)]
 mod tests;
 mod top;

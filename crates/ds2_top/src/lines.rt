@@ -1,4 +1,5 @@
-//! The lines of the log. Each ends with a line feed.
+//! The lines of the log. Each ends with a line feed. A new line touches the files that docs/ARCHITECTURE.md lists under 'To add a
+//! log line'.
 ghost use Rattle.std.specs.Prelude.{◌≡◌, ◌++◌, IfOk, OnOk, string_bytes};
 ghost use Rattle.ds2_top.specs.Lines.{error_line, fault_line, fault_text, file_line, source_kind_text, source_line, table_kind_text, table_line};
 
@@ -8,7 +9,7 @@ use ds2_csv::{CsvKind, CsvRefusal};
 use ds2_value::Fault;
 use std::alloc::{AllocError, Global};
 
-/// Why a source is refused.
+/// Why a source is refused. A new reason touches the files that docs/ARCHITECTURE.md lists under 'To add a refusal'.
 #[derive(Clone, Copy, Debug, PartialEq, Eq)]
 pub enum SourceKind {
     /// It is in a form that isn't built yet.

@@ -12,7 +12,7 @@ use ds2_csv::CsvRefusal;
 use ds2_outside::{ReadStop, Store};
 use std::alloc::Global;
 
-/// Why a file is refused.
+/// Why a file is refused. A new reason touches the files that docs/ARCHITECTURE.md lists under 'To add a refusal'.
 #[derive(Clone, Copy, Debug, PartialEq, Eq)]
 pub enum FileKind {
     /// There is no file of this name.

@@ -2,7 +2,7 @@
 
 use ds2_base::Place;
 
-/// Why a run ends early.
+/// Why a run ends early. A new one touches the files that docs/ARCHITECTURE.md lists under 'To add a fault'.
 #[derive(Clone, Copy, Debug, PartialEq, Eq)]
 pub enum Fault {
     /// A number has more digits than its type.

@@ -1,6 +1,10 @@
 //! Values, their types, their order and functions, and what ends a run.
 //!
 //! A contract sees a [`Value`] with the plain data in it: a number as a whole number, a text as its UTF-8 bytes.
+//!
+//! ```text
+//! let total = sum(&Value::Int(119), &Value::Null)?;
+//! ```
 #![tactic(auto)]
 
 mod arithmetic;
