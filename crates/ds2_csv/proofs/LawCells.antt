@@ -4,7 +4,7 @@ use Rattle.std.specs.Prelude.{◌==◌, nat_lt, nat_le, replicate, codes, ℤ, p
 use Rattle.std.specs.Char.{is_ascii_digit}
 use Rattle.std.specs.Fmt.{decimal, signed_decimal}
 use Rattle.std.specs.Result.{result_ok}
-use Rattle.std.specs.Str.{all_ascii_digits}
+use Rattle.std.specs.Str.{all_ascii_digits, is_utf8}
 use Rattle.std.proofs.Math.IntN.{*ℤ-one, one}
 use Rattle.std.proofs.Math.Nat.{pow-zero}
 use Rattle.std.proofs.lemmas.Bool.{and_parts, eqb-true, le-leb, ltb-true}
@@ -167,8 +167,8 @@ value-read law (Char n) (Dec d) fit held = cc fit
 value-read law (Varchar n) (Dec d) fit held = cc fit
 value-read law BigInt (Txt t) fit held = cc fit
 value-read law (DecimalOf p s) (Txt t) fit held = cc fit
-value-read law (Char n) (Txt t) fit held = ap (char_value n) (text-back t) ∙ char-read n t fit
-value-read law (Varchar n) (Txt t) fit held = ap (varchar_value n) (text-back t) ∙ varchar-read n t fit
+value-read law (Char n) (Txt t) fit held = ap (char_value n) (text-back t) ∙ char-read n t (and_parts (is_utf8 t) (char_count t == n) fit).1
+value-read law (Varchar n) (Txt t) fit held = ap (varchar_value n) (text-back t) ∙ varchar-read n t (and_parts (is_utf8 t) (nat_le (char_count t) n) fit).1
 
 -- ---- cells are texts
 

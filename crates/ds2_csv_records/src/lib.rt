@@ -14,4 +14,4 @@ mod write;
 pub use cell::{Cell, unquoted};
 pub use part::cut;
 pub use read::{Record, next_record, without_mark};
-pub use write::{add_field, end_record};
+pub use write::{add_field, add_separator, end_record};

@@ -1,7 +1,7 @@
 //! The text of records.
-ghost use Rattle.std.specs.Prelude.{◌≡◌, ◌++◌, ◌∷◌, ◌==◌, [], length, OnOk, if◌then◌else◌};
+ghost use Rattle.std.specs.Prelude.{◌≡◌, ◌++◌, ◌∷◌, ◌==◌, [], length, OnOk};
 ghost use Rattle.csv.specs.Writing.{default_writer, escaped, needs_byte, needs_quotes};
-ghost use Rattle.ds2_csv_records.specs.Records.{field_of};
+ghost use Rattle.ds2_csv_records.specs.Records.{field_of, record_end, separator};
 
 use ds2_base::{Bytes, OutOfMemory};
 
@@ -60,9 +60,19 @@ pub fn add_field(out: &mut Bytes, cell: &[u8]) -> Result<(), OutOfMemory>
     }
 }
 
+/// Adds the comma before a cell that is not the first of its record.
+pub fn add_separator(out: &mut Bytes, first: bool) -> Result<(), OutOfMemory>
+    ensures { OnOk result (out.new ≡ out.old ++ separator first) }
+{
+    if !first {
+        out.push(b',')?;
+    }
+    Ok(())
+}
+
 /// Ends a record that began at `start`. One that shows no byte gets two quotes, which stand for its one empty cell.
 pub fn end_record(out: &mut Bytes, start: usize) -> Result<(), OutOfMemory>
-    ensures { OnOk result (out.new ≡ out.old ++ ((if length out.old == start then 34 ∷ 34 ∷ [] else []) ++ 10 ∷ [])) }
+    ensures { OnOk result (out.new ≡ out.old ++ record_end (length out.old == start)) }
 {
     if out.len() == start {
         out.append(b"\"\"")?;
