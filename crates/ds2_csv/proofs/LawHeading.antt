@@ -15,7 +15,7 @@ use Rattle.ds2_value.specs.Types.{in_bounds}
 use Rattle.ds2_value.specs.declared.schema.Column.{Column}
 use Rattle.ds2_value.specs.declared.ty.Ty.{Ty}
 use Rattle.ds2_csv.specs.Header.{is_blank, last_place, without_last_blanks, without_blanks, typed_heading, heading_by, plain_heading, heading_of_text, heading_of, type_spelled}
-use Rattle.ds2_csv.specs.Law.{IsNamed}
+use Rattle.ds2_csv.proofs.Writable.{IsNamed}
 use Rattle.ds2_csv.specs.Text.{type_text, heading_text}
 use Rattle.ds2_csv.proofs.LawSeq.{last-behind, last-here}
 use Rattle.ds2_csv.proofs.LawTypes.{IsWord, type-word, type-some, spelled}

@@ -12,7 +12,7 @@ use Rattle.ds2_value.specs.Types.{in_bounds}
 use Rattle.ds2_value.specs.declared.schema.Column.{Column}
 use Rattle.ds2_csv.specs.Columns.{columns_from}
 use Rattle.ds2_csv.specs.Header.{is_taken, distinct_heading, and_headings, headings_after, headings_of}
-use Rattle.ds2_csv.specs.Law.{IsNamed}
+use Rattle.ds2_csv.proofs.Writable.{IsNamed}
 use Rattle.ds2_csv.specs.Records.{Rows}
 use Rattle.ds2_csv.specs.Refusals.{of_column}
 use Rattle.ds2_csv.specs.Text.{heading_text}

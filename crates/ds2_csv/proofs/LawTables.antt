@@ -8,15 +8,16 @@ use Rattle.std.proofs.lemmas.List.{length-map}
 use Rattle.std.proofs.lemmas.Str.{is_utf8-from_IsUtf8}
 use Rattle.csv.specs.Reading.{strip_bom}
 use Rattle.ds2_decimal.specs.Laws.{ReadsWritten as ReadsDecimal}
-use Rattle.ds2_table.specs.Table.{Contents, rows_fit}
-use Rattle.ds2_value.specs.Keeping.{IsHeld}
+use Rattle.ds2_table.specs.Table.{Contents, rows_fit, IsTable}
+use Rattle.ds2_value.specs.Keeping.{IsHeld, FittingIsHeld}
 use Rattle.ds2_value.specs.Schema.{distinct_names, types_in_bounds, row_fits}
-use Rattle.ds2_value.specs.Types.{fits}
+use Rattle.ds2_value.specs.Types.{fits, in_bounds}
 use Rattle.ds2_value.specs.declared.schema.Column.{Column}
 use Rattle.ds2_value.specs.declared.value.Value.{Value}
 use Rattle.ds2_csv.specs.Columns.{columns_from}
 use Rattle.ds2_csv.specs.Header.{headings_of}
-use Rattle.ds2_csv.specs.Law.{IsNamed, IsWritable, ReadsWritten}
+use Rattle.ds2_csv.proofs.Writable.{IsNamed, IsWritable}
+use Rattle.ds2_csv.specs.Law.{IsWithinLimits}
 use Rattle.ds2_csv.specs.Reads.{table_of, under_columns, of_even_rows, of_rows, under_header, of_records, reads}
 use Rattle.ds2_csv.specs.Records.{Rows, records_of, odd_from, text_of_rows}
 use Rattle.ds2_csv.specs.Refusals.{of_file, with_first}
@@ -28,8 +29,9 @@ use Rattle.ds2_csv.specs.declared.refusal.CsvRefusal.{CsvRefusal}
 use Rattle.ds2_csv.proofs.LawCells.{value-read, cell-text}
 use Rattle.ds2_csv.proofs.LawHeading.{heading-begins}
 use Rattle.ds2_csv.proofs.LawHeadings.{heading, headings-read, columns-read, header-text}
-use Rattle.ds2_csv.proofs.LawRecords.{HasCell, no-mark, records-written}
-use Rattle.ds2_csv.proofs.LawUtf8.{rows-text}
+use Rattle.ds2_csv_records.specs.Laws.{HasCell, ReadsRecords}
+use Rattle.ds2_csv.proofs.LawUtf8.{rows-text, no-mark}
+use Rattle.ds2_csv.specs.declared.limits.TheConstants.{MOST_BYTES, MOST_CELLS, MOST_COLUMNS}
 
 -- ---- rows
 
@@ -90,12 +92,12 @@ rows-read law cs row (vs ∷ rows) fit held =
 
 -- the table of even rows under the headings of its columns
 even-read : ReadsDecimal → (cs : List Column) (rows : List (List Value)) → rows_fit rows cs ≡ true → AllByRecursion (AllByRecursion IsHeld) rows
-    → length rows * length cs ≤ 4000000 → of_even_rows (map heading cs) (map (cells_text cs) rows) ≡ Ok (record { columns = cs; rows = rows })
+    → length rows * length cs ≤ MOST_CELLS → of_even_rows (map heading cs) (map (cells_text cs) rows) ≡ Ok (record { columns = cs; rows = rows })
 unfolding of_even_rows
 even-read law cs rows fit held few =
     let cells : Rows = map (cells_text cs) rows in
     let size : length cells * length (map heading cs) ≡ length rows * length cs = ap (λ n. n * length (map heading cs)) (length-map rows (cells_text cs)) ∙ ap (λ n. length rows * n) (length-map cs heading) in
-    let within : nat_lt 4000000 (length cells * length (map heading cs)) ≡ false = ap (λ n. nat_lt 4000000 n) size ∙ le-ltb 4000000 (length rows * length cs) few in
+    let within : nat_lt MOST_CELLS (length cells * length (map heading cs)) ≡ false = ap (λ n. nat_lt MOST_CELLS n) size ∙ le-ltb MOST_CELLS (length rows * length cs) few in
     ap (λ b. if b then Err (of_file TooLarge) else under_columns (columns_from 0 (map heading cs) cells) cells) within
     ∙ ap (λ (columns : List Column). under_columns columns cells) (columns-read 0 cs cells)
     ∙ ap (λ (r : Result (List (List Value)) CsvRefusal). table_of cs r) (rows-read law cs 1 rows fit held)
@@ -106,7 +108,7 @@ records-read law t w =
     let cs : List Column = t.columns in
     let cells : Rows = map (cells_text cs) t.rows in
     let s = and_parts (distinct_names cs) (types_in_bounds cs) w.schema in
-    let few : nat_lt 256 (length (map heading_text cs)) ≡ false = ap (λ n. nat_lt 256 n) (length-map cs heading_text) ∙ le-ltb 256 (length cs) w.few_columns in
+    let few : nat_lt MOST_COLUMNS (length (map heading_text cs)) ≡ false = ap (λ n. nat_lt MOST_COLUMNS n) (length-map cs heading_text) ∙ le-ltb MOST_COLUMNS (length cs) w.few_columns in
     ap (λ b. if b then Err (of_file TooLarge) else under_header (headings_of (map heading_text cs)) cells) few
     ∙ ap (λ (r : Result (List Heading) CsvRefusal). under_header r cells) (headings-read cs w.names s.1 s.0)
     ∙ ap (λ n. of_rows (odd_from n 1 cells) (map heading cs) cells) (length-map cs heading)
@@ -121,9 +123,9 @@ plain-start (c ∷ cs) rows some named =
     let b = heading-begins c named.0 in
     no-mark b.first (heading_text c) b.more (map heading_text cs) rows b.text_is b.no_mark
 
-pub tables-read : ReadsDecimal → ReadsWritten
+pub tables-read : ReadsDecimal → ReadsRecords → (t : Contents) → IsWritable t → reads (text t) ≡ Ok t
 unfolding reads text
-tables-read law t w =
+tables-read law records_law t w =
     let cs : List Column = t.columns in
     let records : Rows = map heading_text cs ∷ map (cells_text cs) t.rows in
     let s = and_parts (distinct_names cs) (types_in_bounds cs) w.schema in
@@ -131,7 +133,37 @@ tables-read law t w =
     let full : AllByRecursion HasCell records = (some, rows-cells cs t.rows w.some_column w.rows) in
     let utf8 : AllByRecursion (AllByRecursion IsUtf8) records = (header-text cs w.names s.1, rows-texts cs t.rows w.values) in
     let bytes : List ℕ = text_of_rows records in
-    ap (λ b. if b then Err (of_file TooLarge) else if not (is_utf8 bytes) then Err (of_file NotUtf8) else of_records (records_of bytes)) (le-ltb 67108864 (length bytes) w.few_bytes)
+    ap (λ b. if b then Err (of_file TooLarge) else if not (is_utf8 bytes) then Err (of_file NotUtf8) else of_records (records_of bytes)) (le-ltb MOST_BYTES (length bytes) w.few_bytes)
     ∙ ap (λ b. if not b then Err (of_file NotUtf8) else of_records (records_of bytes)) (is_utf8-from_IsUtf8 bytes (rows-text records utf8))
-    ∙ ap of_records (records-written records full (plain-start cs (map (cells_text cs) t.rows) w.some_column w.names))
+    ∙ ap of_records (records_law records (record { full = full; plain = plain-start cs (map (cells_text cs) t.rows) w.some_column w.names }))
     ∙ records-read law t w
+
+-- ---- a table as it is held
+
+row-held : FittingIsHeld → (vs : List Value) (cs : List Column) → types_in_bounds cs ≡ true → row_fits vs cs ≡ true → AllByRecursion IsHeld vs
+row-held held [] cs bounds fit = tt
+row-held held (v ∷ vs) [] bounds fit = cc fit
+row-held held (v ∷ vs) (c ∷ cs) bounds fit =
+    let b = and_parts (in_bounds c.ty) (types_in_bounds cs) bounds in
+    let f = and_parts (fits v c.ty) (row_fits vs cs) fit in
+    (held v c.ty b.0 f.0, row-held held vs cs b.1 f.1)
+
+rows-held : FittingIsHeld → (rows : List (List Value)) (cs : List Column) → types_in_bounds cs ≡ true → rows_fit rows cs ≡ true → AllByRecursion (AllByRecursion IsHeld) rows
+rows-held held [] cs bounds fit = tt
+rows-held held (vs ∷ rows) cs bounds fit =
+    let f = and_parts (row_fits vs cs) (rows_fit rows cs) fit in
+    (row-held held vs cs bounds f.0, rows-held held rows cs bounds f.1)
+
+pub writable : FittingIsHeld → (t : Contents) → IsTable t → IsWithinLimits t → IsWritable t
+writable held t table limits =
+    let s = and_parts (distinct_names t.columns) (types_in_bounds t.columns) table.schema.rules in
+    record {
+      names = table.schema.names;
+      schema = table.schema.rules;
+      values = rows-held held t.rows t.columns s.1 table.rows;
+      rows = table.rows;
+      some_column = limits.some_column;
+      few_columns = limits.few_columns;
+      few_cells = limits.few_cells;
+      few_bytes = limits.few_bytes;
+    }

@@ -1,5 +1,5 @@
 -- The text of rows of texts is a text, and begins with no byte order mark.
-use Rattle.std.proofs.Common.{◌≡◌, ◌≢◌, ◌<◌, ◌≤◌, ◌==◌, ◌∷◌, ◌++◌, [], ℕ, suc, List, Bool, true, false, length, get_or, refl, sym, ap, ◌∙◌, arith, IsUtf8, inl, inr}
+use Rattle.std.proofs.Common.{◌≡◌, ◌≢◌, ◌<◌, ◌≤◌, ◌==◌, ◌∷◌, ◌++◌, [], ℕ, suc, List, Bool, true, false, length, get_or, refl, sym, ap, ◌∙◌, arith, IsUtf8, inl, inr, append_assoc, lit<}
 use Rattle.std.specs.Prelude.{if◌then◌else◌, ◌&&◌, nat_lt}
 use Rattle.std.specs.List.{AllByRecursion, list_all}
 use Rattle.std.proofs.Math.Utf8.{scalar, scalars, encode, encodes, low_scalar}
@@ -117,3 +117,19 @@ keeps-start c (a ∷ b ∷ d ∷ rest) r h k = by (is_bom a b d) refl
     by : (z : Bool) → is_bom a b d ≡ z → (if z then rest else a ∷ b ∷ d ∷ rest) ≡ a ∷ b ∷ d ∷ rest
     by true e = absurd (k (encode_same c 65279 r rest (sym h ∙ mark-bytes a b d rest e)).0)
     by false e = refl
+
+-- a text that begins with a cell that begins with a character, or with a quote
+starts : (b : Bool) (c : ℕ) (cell more inside cells tail rows : List ℕ) → cell ≡ encode c ++ more → c ≢ 65279
+    → strip_bom ((((if b then 34 ∷ inside else cell) ++ cells) ++ tail) ++ rows) ≡ (((if b then 34 ∷ inside else cell) ++ cells) ++ tail) ++ rows
+starts true c cell more inside cells tail rows e other =
+    let rest : List ℕ = ((inside ++ cells) ++ tail) ++ rows in
+    keeps-start 34 (34 ∷ rest) rest (ap (λ (t : List ℕ). t ++ rest) (sym (encode_ascii 34 (lit< tt)))) (λ n. absurd (omega arith))
+starts false c cell more inside cells tail rows e other =
+    keeps-start c (((cell ++ cells) ++ tail) ++ rows) (more ++ (cells ++ (tail ++ rows))) (ap (λ (t : List ℕ). ((t ++ cells) ++ tail) ++ rows) e ∙ simp append_assoc) other
+
+pub no-mark : (c : ℕ) (cell more : List ℕ) (cells : List (List ℕ)) (rows : Rows) → cell ≡ encode c ++ more → c ≢ 65279
+    → strip_bom (text_of_rows ((cell ∷ cells) ∷ rows)) ≡ text_of_rows ((cell ∷ cells) ∷ rows)
+unfolding text_of_rows
+no-mark c cell more cells rows e other =
+    starts (needs_quotes default_writer cell) c cell more (escaped default_writer cell ++ (34 ∷ [])) (fields_text default_writer cells)
+    ((if is_blank default_writer (cell ∷ cells) then 34 ∷ 34 ∷ [] else []) ++ (10 ∷ [])) (text_of_rows rows) e other

@@ -3,13 +3,12 @@ pub mod CellLemmas
 pub mod ColumnLemmas
 pub mod HeaderLemmas
 pub mod Inferring
+pub mod Knowing
 pub mod LawCells
 pub mod LawDecimals
-pub mod LawExamples
 pub mod LawHeading
 pub mod LawHeadings
 pub mod LawNumbers
-pub mod LawRecords
 pub mod LawSeq
 pub mod LawTables
 pub mod LawTypes
@@ -18,8 +17,9 @@ pub mod NumberLemmas
 pub mod ReadLemmas
 pub mod Reading
 pub mod SchemaLemmas
-pub mod Sheets
+pub mod Spelled
 pub mod ShortLemmas
 pub mod Spellings
 pub mod ValueLemmas
+pub mod Writable
 pub mod Writing

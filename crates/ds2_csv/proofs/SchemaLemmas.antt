@@ -10,7 +10,7 @@ use Rattle.std.proofs.lemmas.List.Folds.{list_all-append}
 use Rattle.ds2_base.specs.Name.{name_of}
 use Rattle.ds2_base.specs.declared.name.BadName.{BadName}
 use Rattle.ds2_decimal.specs.Text.{read}
-use Rattle.ds2_value.specs.Schema.{has_column, distinct_names, types_in_bounds, is_schema}
+use Rattle.ds2_value.specs.Schema.{has_column, distinct_names, types_in_bounds, is_schema, schema_of}
 use Rattle.ds2_value.specs.Types.{in_bounds, is_from_one}
 use Rattle.ds2_value.specs.declared.schema.Column.{Column}
 use Rattle.ds2_value.specs.declared.ty.Ty.{Ty}
@@ -193,3 +193,13 @@ columns-typed column (h ∷ hs) a b all =
     by : (o : Option Ty) → is_some o ≡ true → unwrap_or o (type_of_cells (cells_of column a)) ≡ unwrap_or o (type_of_cells (cells_of column b))
     by None e = cc e
     by (Some ty) e = refl
+
+-- columns of a schema are one
+pub schema-some : (columns whole : List Column) → columns ≡ whole → is_schema whole ≡ true → schema_of columns ≡ None → ⊥
+schema-some columns whole is good none =
+    let apart = (both (distinct_names whole) (types_in_bounds whole) good).0 in
+    by (distinct_names columns) (ap distinct_names is ∙ apart) none
+  where
+    by : (b : Bool) → b ≡ true → (if b then Some columns else None) ≡ None → ⊥
+    by true e f = cc f
+    by false e f = cc e

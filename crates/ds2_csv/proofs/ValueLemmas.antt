@@ -21,8 +21,6 @@ use Rattle.ds2_table.specs.Table.{Contents}
 use Rattle.ds2_csv.specs.Reads.{table_of, under_columns}
 use Rattle.ds2_csv.specs.Typed.{with_values, and_row}
 use Rattle.ds2_csv.proofs.ColumnLemmas.{drop-item, drop-none}
-use Rattle.ds2_csv.proofs.Sheets.{field_at-get, get-drop}
-use Rattle.csv.specs.Records.{field_at}
 
 -- items that are done before those to come
 abbrev pub with_front : {X : Type 0} → List X → Result (List X) CsvRefusal → Result (List X) CsvRefusal
@@ -38,24 +36,6 @@ cell-item : (cells : List (List ℕ)) (i : ℕ) → i < length cells → drop i 
 cell-item [] i h = absurd (omega arith)
 cell-item (x ∷ xs) zero h = refl
 cell-item (x ∷ xs) (suc i) h = let n : suc i + 1 ≡ suc (i + 1) = omega arith in cell-item xs i (omega arith) ∙ ap (λ k. cell_at i xs ∷ drop k (x ∷ xs)) (sym n)
-
--- a field behind a place
-pub found : (cells : List (List ℕ)) (from i : ℕ) (cell : List ℕ) → Some cell ≡ field_at cells (from + i) → cell ≡ cell_at i (drop from cells)
-found cells from i cell is = ap (λ (o : Option (List ℕ)). unwrap_or o []) (is ∙ field_at-get cells (from + i) ∙ sym (get-drop cells from i))
-
-pub enough-cells : (cells : List (List ℕ)) (from n : ℕ) → from + n ≤ length cells → n ≤ length (drop from cells)
-enough-cells cells from n h = omega (arith, length-drop from cells)
-
--- columns read no more cells than they are
-pub values-front : (row column width : ℕ) (columns : List Column) (cells : List (List ℕ)) → length columns ≤ width → values_from row column columns (take width cells) ≡ values_from row column columns cells
-unfolding values_from
-values-front row column width [] cells h = refl
-values-front row column zero (c ∷ cs) cells h = absurd (omega arith)
-values-front row column (suc width) (c ∷ cs) [] h = refl
-values-front row column (suc width) (c ∷ cs) (x ∷ xs) h = ap (λ (r : Result (List Value) CsvRefusal). with_first (value_at row column (value_of c.ty x)) r) (values-front row (column + 1) width cs xs (omega arith))
-
-pub values-row : (number width : ℕ) (columns : List Column) (cells row : List (List ℕ)) → take width cells ≡ row → length columns ≤ width → values_from number 1 columns cells ≡ values_from number 1 columns row
-values-row number width columns cells row is h = sym (values-front number 1 width columns cells h) ∙ ap (λ (t : List (List ℕ)). values_from number 1 columns t) is
 
 step : (row i : ℕ) (columns : List Column) (cells : List (List ℕ)) (c : Column) → i < length columns → length columns ≤ length cells → c ≡ get_or columns i c
     → values_from row (i + 1) (drop i columns) (drop i cells) ≡ with_first (value_at row (i + 1) (value_of c.ty (cell_at i cells))) (values_from row (i + 1 + 1) (drop (i + 1) columns) (drop (i + 1) cells))

@@ -3,9 +3,10 @@ pub mod Cells
 pub mod Columns
 pub mod Header
 pub mod Inferred
+pub mod Known
 pub mod Law
+pub mod NextRow
 pub mod Number
-pub mod Reader
 pub mod Reads
 pub mod Records
 pub mod Refusals

@@ -1,14 +1,17 @@
 //! The value of a cell.
 ghost use Rattle.ds2_csv.specs.Added.{IsAdded};
-ghost use Rattle.std.specs.Prelude.{◌≡◌, ◌≤◌, IfOk, IfSome, IsTrue, nat_le, option_map};
+ghost use Rattle.std.specs.Prelude.{◌≡◌, ◌≤◌, IfOk, IfSome, IsTrue, true, nat_le, option_map};
 ghost use Rattle.ds2_csv.specs.Cells.{is_null_mark, is_missing, unescaped, decoded, decimal_in, filled, char_value, varchar_value, value_of};
 ghost use Rattle.std.specs.Str.{is_utf8};
+ghost use Rattle.ds2_value.specs.declared.value.Value.TheVariants as Value;
 ghost use Rattle.ds2_base.specs.Characters.{char_count};
+ghost use Rattle.ds2_csv_records.specs.Cells.{spelled};
 ghost use Rattle.ds2_value.specs.Types.{in_bounds, fits};
 
 use crate::decimal::decimal;
 use crate::number::integer;
 use ds2_base::{OutOfMemory, Text, char_count};
+use ds2_csv_records::{Cell, unquoted};
 use ds2_value::{Row, Ty, Value};
 use std::alloc::Global;
 
@@ -48,6 +51,15 @@ fn filled(alloc: Global, text: &str, n: usize, count: usize) -> Result<Text, Out
     Ok(Text::from_string(filled))
 }
 
+fn text_value(text: Text) -> Value
+    ensures value { result ≡ Value.Txt text }
+    ensures utf8 { is_utf8 text ≡ true }
+{
+    let _bytes = text.as_bytes();
+    Value::Txt(text)
+}
+
+#[tactic(auto, using(crate::proofs::CellLemmas::both_hold))]
 fn char_value(alloc: Global, n: u16, cell: &str) -> Result<Option<Value>, OutOfMemory>
     ensures value { IfOk result (λ v. v ≡ char_value n (decoded cell.now)) }
     ensures fit { IfOk result (λ v. IfSome v (λ x. IsTrue (fits x (Ty.Char n)))) }
@@ -57,7 +69,7 @@ fn char_value(alloc: Global, n: u16, cell: &str) -> Result<Option<Value>, OutOfM
         Some(text) => {
             let count = char_count(text);
             if count <= n as usize {
-                Ok(Some(Value::Txt(filled(alloc, text, n as usize, count)?)))
+                Ok(Some(text_value(filled(alloc, text, n as usize, count)?)))
             } else {
                 Ok(None)
             }
@@ -72,6 +84,7 @@ fn is_short(text: &str, n: usize) -> bool
     text.len() <= n || char_count(text) <= n
 }
 
+#[tactic(auto, using(crate::proofs::CellLemmas::both_hold))]
 fn varchar_value(alloc: Global, n: u16, cell: &str) -> Result<Option<Value>, OutOfMemory>
     ensures value { IfOk result (λ v. v ≡ varchar_value n (decoded cell.now)) }
     ensures fit { IfOk result (λ v. IfSome v (λ x. IsTrue (fits x (Ty.Varchar n)))) }
@@ -80,7 +93,7 @@ fn varchar_value(alloc: Global, n: u16, cell: &str) -> Result<Option<Value>, Out
         None => Ok(Some(Value::Null)),
         Some(text) => {
             if is_short(text, n as usize) {
-                Ok(Some(Value::Txt(Text::of(alloc, text)?)))
+                Ok(Some(text_value(Text::of(alloc, text)?)))
             } else {
                 Ok(None)
             }
@@ -144,9 +157,9 @@ fn add_decimal(values: &mut Row, p: u8, s: u8, cell: &str) -> Result<bool, OutOf
     }
 }
 
-/// Adds the value of a cell in a column of a type at the end, and says whether there is one.
+/// Adds the value of a cell's text in a column of a type at the end, and says whether there is one.
 #[tactic(auto, unfolding(crate::specs::Cells::value_of))]
-pub fn add_value(alloc: Global, values: &mut Row, ty: Ty, cell: &str) -> Result<bool, OutOfMemory>
+fn add_value(alloc: Global, values: &mut Row, ty: Ty, cell: &str) -> Result<bool, OutOfMemory>
     requires { IsTrue (in_bounds ty) }
     ensures added { IfOk result (λ good. IsAdded good values.old values.new (value_of ty cell.now)) }
     ensures fit { IfOk result (λ good. IfSome (value_of ty cell.now) (λ v. IsTrue (fits v ty))) }
@@ -156,5 +169,25 @@ pub fn add_value(alloc: Global, values: &mut Row, ty: Ty, cell: &str) -> Result<
         Ty::Decimal { p, s } => add_decimal(values, p, s, cell),
         Ty::Char { n } => add(values, char_value(alloc, n, cell)?),
         Ty::Varchar { n } => add(values, varchar_value(alloc, n, cell)?),
+    }
+}
+
+/// The same of a cell as it stands in the text.
+pub fn add_cell(
+    alloc: Global,
+    values: &mut Row,
+    ty: Ty,
+    cell: Cell,
+) -> Result<bool, OutOfMemory>
+    requires { IsTrue (in_bounds ty) }
+    ensures added { IfOk result (λ good. IsAdded good values.old values.new (value_of ty (spelled cell.entry))) }
+    ensures fit { IfOk result (λ good. IfSome (value_of ty (spelled cell.entry)) (λ v. IsTrue (fits v ty))) }
+{
+    match cell {
+        Cell::Plain(text) => add_value(alloc, values, ty, text),
+        Cell::Quoted(raw) => {
+            let text = unquoted(alloc, raw)?;
+            add_value(alloc, values, ty, text.as_str())
+        }
     }
 }

@@ -3,7 +3,7 @@ ghost use Rattle.std.specs.Prelude.{◌≡◌, ◌≤◌, length};
 ghost use Rattle.ds2_decimal.specs.Text.{read_unsigned, read};
 
 use crate::number::{begins_well, number_behind};
-use crate::part::cut;
+use ds2_csv_records::cut;
 use ds2_decimal::Dec;
 
 // The decimal that a text without a sign spells.

@@ -1,17 +1,19 @@
 //! The header.
-ghost use Rattle.std.specs.Prelude.{◌≡◌, ◌≤◌, ◌+◌, length};
-ghost use Rattle.csv.specs.Records.{fields_of};
+ghost use Rattle.std.specs.Prelude.{◌≡◌, ◌≤◌, ◌+◌, length, map};
+ghost use Rattle.ds2_csv_records.specs.Cells.{spelled};
 ghost use Rattle.ds2_base.specs.Name.{name_of};
 ghost use Rattle.ds2_base.specs.Says.{Says};
+ghost use Rattle.ds2_csv.specs.declared.limits.TheConstants.{MOST_COLUMNS};
 ghost use Rattle.ds2_csv.specs.Refusals.{of_column};
 ghost use Rattle.ds2_csv.specs.Header.{plain_heading, heading_of_text, heading_of, is_taken, distinct_heading, headings_of};
 
 use crate::blanks::{last_blank, without_blanks};
 use crate::heading::Heading;
+use crate::items::item;
 use crate::spelling::type_spelled;
 use crate::{CsvKind, CsvRefusal};
-use csv::StringRecord;
 use ds2_base::{BadName, List, Name, Stop};
+use ds2_csv_records::{Cell, unquoted};
 use std::alloc::Global;
 
 fn plain_heading(alloc: Global, text: &str) -> Result<Heading, Stop<CsvKind>>
@@ -93,17 +95,33 @@ fn distinct_heading(
     }
 }
 
+// The same of a cell as it stands in the text.
+fn cell_heading(
+    alloc: Global,
+    before: &[Heading],
+    cell: Cell,
+    column: u32,
+) -> Result<Heading, Stop<CsvRefusal>>
+    ensures { Says result (distinct_heading before.now column (heading_of (spelled cell.entry))) }
+{
+    match cell {
+        Cell::Plain(text) => distinct_heading(alloc, before, text, column),
+        Cell::Quoted(raw) => {
+            let text = unquoted(alloc, raw)?;
+            distinct_heading(alloc, before, text.as_str(), column)
+        }
+    }
+}
+
 /// The headings of header cells, at most 256, or the first refusal from the left.
-pub fn headings(alloc: Global, header: &StringRecord) -> Result<List<Heading>, Stop<CsvRefusal>>
-    requires { length (fields_of header.now) ≤ 256 }
-    ensures { Says result (headings_of (fields_of header.now)) }
+pub fn headings(alloc: Global, header: &[Cell]) -> Result<List<Heading>, Stop<CsvRefusal>>
+    requires { length header.now ≤ MOST_COLUMNS }
+    ensures { Says result (headings_of (map spelled header.now)) }
 {
     let mut headings = List::of(Vec::with_capacity(alloc, header.len())?);
-    'cells: for i in 0..header.len() {
-        let Some(cell) = header.get(i) else {
-            return Ok(headings);
-        };
-        let heading = distinct_heading(alloc, headings.as_slice(), cell, i as u32 + 1)?;
+    'cells: for (i, _) in header.iter().enumerate() {
+        let cell = item(header, i);
+        let heading = cell_heading(alloc, headings.as_slice(), cell, i as u32 + 1)?;
         headings.push(heading)?;
     }
     Ok(headings)

@@ -10,7 +10,7 @@ ghost use Rattle.ds2_csv.specs.Inferred.{IsInferred};
 use crate::cell::{decoded, is_missing};
 use crate::decimal::decimal;
 use crate::number::integer;
-use crate::part::cut;
+use ds2_csv_records::cut;
 use ds2_base::char_count;
 use ds2_value::Ty;
 

@@ -5,17 +5,16 @@ mod blanks;
 mod cell;
 mod column;
 mod decimal;
-mod grid;
 mod header;
 mod heading;
 mod inference;
+mod items;
 pub mod laws;
+mod limits;
 mod number;
-mod part;
 mod read;
 mod records;
 mod refusal;
-mod rows;
 mod spelling;
 #[cfg(test)]
 mod tests;
@@ -24,6 +23,7 @@ mod values;
 mod write;
 mod writer;
 
+pub use limits::{MOST_BYTES, MOST_CELLS, MOST_COLUMNS};
 pub use read::read_table;
 pub use refusal::{CsvKind, CsvRefusal};
 pub use write::{write_rows, write_table};

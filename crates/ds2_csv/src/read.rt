@@ -1,26 +1,25 @@
 //! Reading of a table.
-ghost use Rattle.std.specs.Prelude.{◌≡◌, ◌≤◌, length, Some, IsTrue, IfOk};
-ghost use Rattle.csv.specs.Reading.{expected_len};
+ghost use Rattle.std.specs.Prelude.{◌≡◌, ◌≤◌, length, IsTrue, IfOk};
 ghost use Rattle.ds2_base.specs.Says.{Says};
+ghost use Rattle.ds2_csv_records.specs.Reading.{records_left};
 ghost use Rattle.ds2_csv.specs.Columns.{columns_from};
-ghost use Rattle.ds2_csv.specs.Reader.{IsBetween, records_left};
+ghost use Rattle.ds2_csv.specs.Known.{AreInferred};
+ghost use Rattle.ds2_csv.specs.declared.limits.TheConstants.{MOST_COLUMNS};
 ghost use Rattle.ds2_csv.specs.Reads.{of_records, reads};
 ghost use Rattle.ds2_csv.specs.Records.{Rows, records_of};
 ghost use Rattle.ds2_csv.specs.Typed.{are_typed, under_headings};
 ghost use Rattle.ds2_value.specs.Schema.{is_schema};
 
-use crate::column::columns;
-use crate::grid::Grid;
+use crate::column::{columns, known_columns, nothing_known};
 use crate::header::headings;
 use crate::heading::Heading;
-use crate::records::{Headed, first_record};
+use crate::inference::Inference;
+use crate::limits::{MOST_BYTES, MOST_COLUMNS};
 use crate::refusal::of_file;
-use crate::rows::rows_below;
 use crate::typed::typed_table;
-use crate::values::table;
 use crate::{CsvKind, CsvRefusal};
-use csv::Reader;
 use ds2_base::{Bytes, OutOfMemory, Stop};
+use ds2_csv_records::{Record, next_record, without_mark};
 use ds2_table::Table;
 use ds2_value::Schema;
 use std::alloc::Global;
@@ -32,54 +31,54 @@ fn are_typed(headings: &[Heading]) -> bool
     headings.iter().all(|heading| heading.ty.is_some())
 }
 
-// The schema of headings over rows.
-fn schema(alloc: Global, headings: &[Heading], grid: &Grid) -> Result<Schema, OutOfMemory>
-    requires { IsTrue (is_schema (columns_from 0 headings.now grid.now.rows)) }
-    ensures { IfOk result (λ schema. schema ≡ columns_from 0 headings.now grid.now.rows) }
+// The schema of headings over rows of which this is known.
+fn schema(alloc: Global, headings: &[Heading], known: &[Inference]) -> Result<Schema, OutOfMemory>
+    requires count { length known.now ≡ length headings.now }
+    requires schema { (rows : Rows) → IsTrue (is_schema (columns_from 0 headings.now rows)) }
+    requires known { (rows : Rows) × AreInferred known.now rows }
+    ensures { (rows : Rows) → AreInferred known.now rows → IfOk result (λ schema. schema ≡ columns_from 0 headings.now rows) }
 {
-    match Schema::new(columns(alloc, headings, grid)?) {
+    match Schema::new(columns(alloc, headings, known)?) {
         Some(schema) => Ok(schema),
         None => unreachable!(),
     }
 }
 
-// The table of the rows below a header that was read.
+// The table of the rows below a header that was read. Where the header does not tell each type, the rows are read twice: for
+// the types, and for the values.
 fn under_headings(
     alloc: Global,
     headings: &[Heading],
-    below: Reader<&[u8]>,
+    below: &str,
 ) -> Result<Table, Stop<CsvRefusal>>
     requires schema { (rows : Rows) → IsTrue (is_schema (columns_from 0 headings.now rows)) }
-    requires few { length headings.now ≤ 256 }
-    requires between { IsBetween below }
-    requires expects { expected_len below ≡ Some (length headings.now) }
-    ensures { Says result (under_headings headings.now (records_left below.entry)) }
+    requires few { length headings.now ≤ MOST_COLUMNS }
+    ensures { Says result (under_headings headings.now (records_left below.now)) }
 {
     if are_typed(headings) {
-        let schema = schema(alloc, headings, &Grid::new(alloc, headings.len()))?;
-        return typed_table(alloc, below, schema);
+        let known = nothing_known(alloc, headings.len())?;
+        let schema = schema(alloc, headings, known.as_slice())?;
+        return typed_table(alloc, below, schema, headings.len());
     }
-    let grid = rows_below(alloc, below, headings.len())?;
-    let schema = schema(alloc, headings, &grid)?;
-    table(alloc, schema, &grid)
+    let known = known_columns(alloc, below, headings.len())?;
+    let schema = schema(alloc, headings, known.as_slice())?;
+    typed_table(alloc, below, schema, headings.len())
 }
 
 // The table of the records of a text.
 fn of_records(alloc: Global, text: &str) -> Result<Table, Stop<CsvRefusal>>
     ensures { Says result (of_records (records_of text.now)) }
 {
-    let Some(Headed { header, below }) = first_record(alloc, text)? else {
+    let mut header = Record::new(alloc);
+    let Some(below) = next_record(without_mark(text), &mut header, MOST_COLUMNS)? else {
         return Err(Stop::Refused(of_file(CsvKind::NoHeader)));
     };
-    if header.len() > 256 {
+    if header.count > MOST_COLUMNS {
         return Err(Stop::Refused(of_file(CsvKind::TooLarge)));
     }
-    let headings = headings(alloc, &header)?;
+    let headings = headings(alloc, header.cells.as_slice())?;
     under_headings(alloc, headings.as_slice(), below)
 }
-
-/// The most bytes that a table may have.
-const MOST_BYTES: usize = 67_108_864;
 
 /// The table that bytes spell, or the first refusal, in the order of [`CsvKind`]; the limits on bytes and columns come before
 /// all that is said of cells, and that on cells before BadCell.

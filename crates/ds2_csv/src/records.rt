@@ -1,62 +1,68 @@
-//! Reading of records.
-ghost use Rattle.std.specs.Prelude.{◌≡◌, IfOk, IsSome};
-ghost use Rattle.csv.specs.Reading.{expected_len};
-ghost use Rattle.csv.specs.Records.{fields_of};
-ghost use Rattle.ds2_csv.specs.Reader.{IsBetween, IsHeaded, IsNext};
-ghost use Rattle.ds2_csv.specs.Records.{records_of};
+//! The rows of a file, one after the other.
+ghost use Rattle.std.specs.Prelude.{◌≡◌, ◌*◌, nat_lt, IfOk};
+ghost use Rattle.ds2_csv.specs.NextRow.{IsNextRow};
+ghost use Rattle.ds2_csv.specs.declared.limits.TheConstants.{MOST_CELLS};
 
-use csv::{ErrorKind, Reader, ReaderBuilder, StringRecord};
+use crate::limits::MOST_CELLS;
 use ds2_base::OutOfMemory;
+use ds2_csv_records::{Record, next_record};
 use std::alloc::Global;
 
-/// A text of which the first record was read.
-#[derive(Drop)]
-pub struct Headed<'t> {
-    pub header: StringRecord,
-    /// The reader of the records below the header.
-    pub below: Reader<&'t [u8]>,
-}
-
-/// What a reader finds.
+/// What a text has next.
+#[derive(Clone, Copy)]
 pub enum Next {
-    /// One more record, as long as the first.
+    /// One more row of so many cells.
     Row,
-    /// A record of another length.
+    /// A row of another length.
     Odd,
-    /// No more records.
+    /// No more rows.
     End,
 }
 
-/// The first record of a text; None where there is none. The bytes are UTF-8, so that no record is refused for its bytes: what a
-/// read of one may still answer, besides a record of another length, is want of memory.
-pub fn first_record(alloc: Global, text: &str) -> Result<Option<Headed<'_>>, OutOfMemory>
-    ensures { IfOk result (λ headed. IsHeaded headed (records_of text.now)) }
-{
-    let mut below = ReaderBuilder::new()
-        .has_headers(false)
-        .from_reader(alloc, text.as_bytes());
-    let mut header = StringRecord::new(alloc);
-    match below.read_record(&mut header) {
-        Ok(true) => Ok(Some(Headed { header, below })),
-        Ok(false) => Ok(None),
-        Err(_) => Err(OutOfMemory),
+/// The rows of a text, each of which is to have so many cells.
+#[derive(Drop)]
+pub struct RowReader<'t> {
+    /// The text behind the rows that were read.
+    pub text: &'t str,
+    /// The row that was read last.
+    pub row: Record<'t>,
+    pub width: usize,
+}
+
+impl<'t> RowReader<'t> {
+    /// A reader that has read no row. Takes no memory.
+    pub fn new(alloc: Global, text: &'t str, width: usize) -> RowReader<'t>
+        ensures text { result.text.now ≡ text.now }
+        ensures width { result.width ≡ width }
+    {
+        RowReader {
+            text,
+            row: Record::new(alloc),
+            width,
+        }
+    }
+
+    /// Reads the next row.
+    pub fn next(&mut self) -> Result<Next, OutOfMemory>
+        ensures { IfOk result (λ next. IsNextRow next self.old self.new) }
+    {
+        match next_record(self.text, &mut self.row, self.width)? {
+            Some(rest) => {
+                if self.row.count == self.width {
+                    self.text = rest;
+                    Ok(Next::Row)
+                } else {
+                    Ok(Next::Odd)
+                }
+            }
+            None => Ok(Next::End),
+        }
     }
 }
 
-/// Reads the next record into `row`.
-pub fn next_record(reader: &mut Reader<&[u8]>, row: &mut StringRecord) -> Result<Next, OutOfMemory>
-    requires between { IsBetween reader.old }
-    requires expects { IsSome (expected_len reader.old) }
-    ensures { IfOk result (λ next. IsNext next (fields_of row.new) reader.old reader.new) }
+/// Whether so many rows of `width` cells have more cells than a table may have.
+pub fn is_large(rows: u64, width: usize) -> bool
+    ensures { result ≡ nat_lt MOST_CELLS (rows * width) }
 {
-    match reader.read_record(row) {
-        Ok(true) => Ok(Next::Row),
-        Ok(false) => Ok(Next::End),
-        Err(e) => {
-            if let ErrorKind::UnequalLengths { .. } = e.into_kind() {
-                return Ok(Next::Odd);
-            }
-            Err(OutOfMemory)
-        }
-    }
+    rows as u128 * width as u128 > MOST_CELLS as u128
 }

@@ -2,7 +2,7 @@
 ghost use Rattle.std.specs.Prelude.{◌≡◌, ◌≤◌, min, option_map, IfSome};
 ghost use Rattle.ds2_csv.specs.Header.{inside, number_of, decimal_of, char_of, varchar_of, bounded, type_spelled};
 
-use crate::part::cut;
+use ds2_csv_records::cut;
 use ds2_value::Ty;
 
 // The number that digits spell, and 1,025 for every greater one.

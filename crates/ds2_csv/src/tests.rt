@@ -6,7 +6,7 @@ mod limits;
 mod records;
 
 use crate::number::integer;
-use crate::part::cut;
+use ds2_csv_records::cut;
 use crate::{read_table, write_table};
 use ds2_base::{Bytes, List, OutOfMemory, Stop};
 use std::alloc::Global;

@@ -1,21 +1,20 @@
 //! The rows of a file under columns that its header tells.
-ghost use Rattle.std.specs.Prelude.{◌≡◌, ◌≤◌, ◌*◌, length, nat_lt, Some, Err, OnOk, if◌then◌else◌};
+ghost use Rattle.std.specs.Prelude.{◌≡◌, ◌≤◌, ◌*◌, length, map, nat_lt, Err, OnOk, if◌then◌else◌};
+ghost use Rattle.ds2_csv.specs.declared.limits.TheConstants.{MOST_CELLS, MOST_COLUMNS};
 ghost use Rattle.ds2_csv.specs.Refusals.{of_file};
-ghost use Rattle.csv.specs.Reading.{expected_len};
-ghost use Rattle.csv.specs.Records.{fields_of};
 ghost use Rattle.ds2_base.specs.Says.{Says};
-ghost use Rattle.ds2_csv.specs.Reader.{IsBetween, records_left};
+ghost use Rattle.ds2_csv_records.specs.Cells.{spelled};
+ghost use Rattle.ds2_csv_records.specs.Reading.{records_left};
 ghost use Rattle.ds2_csv.specs.Reads.{under_columns};
 ghost use Rattle.ds2_csv.specs.Sheet.{sheet_of, of_sheet};
 ghost use Rattle.ds2_csv.specs.Typed.{so_far, and_row};
 
-use crate::records::{Next, next_record};
+use crate::records::{Next, RowReader, is_large};
 use crate::refusal::{of_file, of_row};
-use crate::rows::is_large;
 use crate::values::row_values;
 use crate::{CsvKind, CsvRefusal};
-use csv::{Reader, StringRecord};
 use ds2_base::{OutOfMemory, Stop};
+use ds2_csv_records::Cell;
 use ds2_table::Table;
 use ds2_value::Schema;
 use std::alloc::Global;
@@ -29,11 +28,11 @@ struct Typed {
 
 impl Typed {
     // One more row, which has this number. Where that would be too many cells, or a cell was bad before, it is left out.
-    fn add(&mut self, alloc: Global, row: &StringRecord, number: u64) -> Result<(), OutOfMemory>
-        requires few { length self.old.table.columns ≤ 256 }
-        requires wide { length (fields_of row.now) ≡ length self.old.table.columns }
+    fn add(&mut self, alloc: Global, row: &[Cell], number: u64) -> Result<(), OutOfMemory>
+        requires few { length self.old.table.columns ≤ MOST_COLUMNS }
+        requires wide { length row.now ≡ length self.old.table.columns }
         ensures columns { OnOk result (self.new.table.columns ≡ self.old.table.columns) }
-        ensures rows { OnOk result (number * length self.old.table.columns ≤ 4000000 → so_far self.new ≡ and_row number (fields_of row.now) (so_far self.old)) }
+        ensures rows { OnOk result (number * length self.old.table.columns ≤ MOST_CELLS → so_far self.new ≡ and_row number (map spelled row.now) (so_far self.old)) }
     {
         if self.bad.is_some() || is_large(number, row.len()) {
             return Ok(());
@@ -42,7 +41,6 @@ impl Typed {
             alloc,
             self.table.schema().columns().as_slice(),
             row,
-            0,
             number,
         ) {
             Ok(values) => self.table.push(values)?,
@@ -54,7 +52,7 @@ impl Typed {
 
     // What so many rows make, at the end.
     fn end(self, count: u64) -> Result<Table, Stop<CsvRefusal>>
-        ensures { Says result (if nat_lt 4000000 (count * length self.table.columns) then Err (of_file CsvKind.TooLarge) else so_far self) }
+        ensures { Says result (if nat_lt MOST_CELLS (count * length self.table.columns) then Err (of_file CsvKind.TooLarge) else so_far self) }
     {
         let Typed { table, bad } = self;
         if is_large(count, table.schema().columns().len()) {
@@ -67,26 +65,25 @@ impl Typed {
     }
 }
 
-/// The table of the rows below a header whose cells tell the columns of `schema`.
+/// The table of the rows below a header whose cells tell the columns of `schema`, `width` in number.
 pub fn typed_table(
     alloc: Global,
-    below: Reader<&[u8]>,
+    below: &str,
     schema: Schema,
+    width: usize,
 ) -> Result<Table, Stop<CsvRefusal>>
-    requires few { length schema ≤ 256 }
-    requires between { IsBetween below }
-    requires expects { expected_len below ≡ Some (length schema) }
-    ensures { Says result (of_sheet (under_columns schema) (sheet_of (length schema) (records_left below.entry))) }
+    requires few { length schema ≤ MOST_COLUMNS }
+    requires wide { length schema ≡ width }
+    ensures { Says result (of_sheet (under_columns schema) (sheet_of (length schema) (records_left below.now))) }
 {
-    let mut reader = below;
-    let mut row = StringRecord::new(alloc);
+    let mut reader = RowReader::new(alloc, below, width);
     let mut typed = Typed {
         table: Table::new(alloc, schema),
         bad: None,
     };
     'rows: for number in 1..u64::MAX {
-        match next_record(&mut reader, &mut row)? {
-            Next::Row => typed.add(alloc, &row, number)?,
+        match reader.next()? {
+            Next::Row => typed.add(alloc, reader.row.cells.as_slice(), number)?,
             Next::Odd => return Err(Stop::Refused(of_row(CsvKind::BadRecord, number))),
             Next::End => return typed.end(number - 1),
         }

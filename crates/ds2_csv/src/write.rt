@@ -1,11 +1,13 @@
 //! Writing of a table.
-ghost use Rattle.std.specs.Prelude.{◌≡◌, ◌++◌, ◌∷◌, [], map, OnOk, IfOk, string_bytes};
-ghost use Rattle.csv.specs.Records.{fields_of};
+ghost use Rattle.std.specs.Prelude.{◌≡◌, ◌++◌, map, OnOk, IfOk, string_bytes};
+ghost use Rattle.std.specs.Fmt.{signed_decimal};
+ghost use Rattle.csv.specs.Writing.{default_writer, row_body, row_text};
+ghost use Rattle.ds2_csv_records.specs.Records.{field_of};
 ghost use Rattle.ds2_csv.specs.Text.{type_text, heading_text, null_text, escaped, cell_text, cells_text, text};
 
 use crate::TableWriter;
-use csv::StringRecord;
 use ds2_base::{Bytes, OutOfMemory};
+use ds2_csv_records::{add_field, add_separator, end_record};
 use ds2_table::Table;
 use ds2_value::{Column, Row, Ty, Value, write_dec};
 use itoa::Buffer;
@@ -43,83 +45,113 @@ fn null_text(ty: Ty) -> &'static str
     }
 }
 
-// Adds a text, with one more backslash where it begins with one.
-fn add_text(alloc: Global, cells: &mut StringRecord, text: &str) -> Result<(), OutOfMemory>
-    ensures { OnOk result (fields_of cells.new ≡ fields_of cells.old ++ escaped text.now ∷ []) }
+// Adds the text of a cell that holds a text, with one more backslash where it begins with one.
+fn add_text(alloc: Global, out: &mut Bytes, text: &str) -> Result<(), OutOfMemory>
+    ensures { OnOk result (out.new ≡ out.old ++ field_of (escaped text.now)) }
 {
     match text.as_bytes() {
         [b'\\', ..] => {
             let longer = format!(in alloc; "\\{text}")?;
-            cells.push_field(longer.as_str())?;
+            add_field(out, longer.as_bytes())?;
+            Ok(())
         }
-        _ => cells.push_field(text)?,
+        bytes => {
+            add_field(out, bytes)?;
+            Ok(())
+        }
     }
+}
+
+// Adds the text of a cell that holds an integer, which needs no quotes.
+fn add_integer(out: &mut Bytes, i: i64) -> Result<(), OutOfMemory>
+    ensures { OnOk result (out.new ≡ out.old ++ field_of (signed_decimal i)) }
+{
+    let mut buffer = Buffer::new();
+    out.append(buffer.format(i).as_bytes())?;
     Ok(())
 }
 
-// Adds what a value is written as in a column of a type.
+// Adds the text of a cell that holds a value in a column of a type.
 #[tactic(auto, unfolding(crate::specs::Text::cell_text))]
-fn add_cell(
-    alloc: Global,
-    cells: &mut StringRecord,
-    ty: Ty,
-    value: &Value,
-) -> Result<(), OutOfMemory>
-    ensures { OnOk result (fields_of cells.new ≡ fields_of cells.old ++ cell_text ty value.now ∷ []) }
+fn add_cell(alloc: Global, out: &mut Bytes, ty: Ty, value: &Value) -> Result<(), OutOfMemory>
+    ensures { OnOk result (out.new ≡ out.old ++ field_of (cell_text ty value.now)) }
 {
     match value {
-        Value::Null => cells.push_field(null_text(ty))?,
-        Value::Int(i) => {
-            let mut buffer = Buffer::new();
-            cells.push_field(buffer.format(*i))?;
-        }
+        Value::Null => add_field(out, null_text(ty).as_bytes()),
+        Value::Int(i) => add_integer(out, *i),
         Value::Dec(d) => {
             let number = write_dec(alloc, *d)?;
-            cells.push_field(number.as_str())?;
+            add_field(out, number.as_bytes())
         }
-        Value::Txt(t) => add_text(alloc, cells, t.as_str())?,
+        Value::Txt(t) => add_text(alloc, out, t.as_str()),
     }
-    Ok(())
 }
 
-/// Adds the cells of the header.
-pub fn add_header(
-    alloc: Global,
-    cells: &mut StringRecord,
-    columns: &[Column],
-) -> Result<(), OutOfMemory>
-    ensures { OnOk result (fields_of cells.new ≡ fields_of cells.old ++ map heading_text columns.now) }
+// Adds the cells of the header, with commas between them.
+fn header_cells(alloc: Global, out: &mut Bytes, columns: &[Column]) -> Result<(), OutOfMemory>
+    ensures { OnOk result (out.new ≡ out.old ++ row_body default_writer (map heading_text columns.now)) }
 {
     let mut rest = columns;
+    let mut first = true;
     'columns: while let [column, others @ ..] = rest {
         let cell = heading_text(alloc, column)?;
-        cells.push_field(cell.as_str())?;
+        add_separator(out, first)?;
+        add_field(out, cell.as_bytes())?;
         rest = others;
+        first = false;
     }
     Ok(())
 }
 
-/// Adds the cells of a row under its columns.
-pub fn add_row(
+// Adds the cells of a row under its columns, with commas between them.
+fn row_cells(
     alloc: Global,
-    cells: &mut StringRecord,
+    out: &mut Bytes,
     columns: &[Column],
     row: &[Value],
 ) -> Result<(), OutOfMemory>
-    ensures { OnOk result (fields_of cells.new ≡ fields_of cells.old ++ cells_text columns.now row.now) }
+    ensures { OnOk result (out.new ≡ out.old ++ row_body default_writer (cells_text columns.now row.now)) }
 {
     let mut later = columns;
     let mut rest = row;
+    let mut first = true;
     'cells: while let [column, after @ ..] = later {
         match rest {
             [] => return Ok(()),
             [value, others @ ..] => {
-                add_cell(alloc, cells, column.ty, value)?;
+                add_separator(out, first)?;
+                add_cell(alloc, out, column.ty, value)?;
                 later = after;
                 rest = others;
+                first = false;
             }
         }
     }
+    Ok(())
+}
+
+/// Adds the record of the header.
+pub fn add_header(alloc: Global, out: &mut Bytes, columns: &[Column]) -> Result<(), OutOfMemory>
+    ensures { OnOk result (out.new ≡ out.old ++ row_text default_writer (map heading_text columns.now)) }
+{
+    let start = out.len();
+    header_cells(alloc, out, columns)?;
+    end_record(out, start)?;
+    Ok(())
+}
+
+/// Adds the record of a row under its columns.
+pub fn add_row(
+    alloc: Global,
+    out: &mut Bytes,
+    columns: &[Column],
+    row: &[Value],
+) -> Result<(), OutOfMemory>
+    ensures { OnOk result (out.new ≡ out.old ++ row_text default_writer (cells_text columns.now row.now)) }
+{
+    let start = out.len();
+    row_cells(alloc, out, columns, row)?;
+    end_record(out, start)?;
     Ok(())
 }
 

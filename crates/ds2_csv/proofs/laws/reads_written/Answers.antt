@@ -1,5 +1,5 @@
-use Rattle.ds2_csv.proofs.LawTables.{tables-read}
+use Rattle.ds2_csv.proofs.LawTables.{tables-read, writable}
 use Rattle.ds2_csv.proofs.laws.reads_written.Goals as goal
 
 pub returns : goal.returns
-returns c = tables-read c.reads_written.ensures
+returns c = tables-read c.reads_written.ensures c.reads_records.ensures c.args.table.now (writable c.fitting_is_held.ensures c.args.table.now c.is_table.ensures c.requires)

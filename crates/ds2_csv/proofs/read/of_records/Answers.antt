@@ -1,54 +1,56 @@
-use Rattle.std.proofs.Common.{◌≡◌, ◌≤◌, ◌<◌, ap, sym, ◌∙◌, arith, length, ℕ, List, Some, None}
+use Rattle.std.proofs.Common.{◌≡◌, ◌≤◌, ap, sym, ◌∙◌, arith, length, map, ℕ, List, Some, None}
 use Rattle.std.specs.Prelude.{Err}
-use Rattle.csv.specs.Records.{fields_of}
-use Rattle.ds2_csv.specs.Reader.{IsHeaded, records_left}
+use Rattle.ds2_csv_records.specs.Cells.{spelled}
+use Rattle.ds2_csv_records.specs.Reading.{IsNext, records_left}
+use Rattle.ds2_csv_records.specs.declared.cell.Cell.{Cell}
 use Rattle.ds2_csv.specs.Reads.{of_records}
 use Rattle.ds2_csv.specs.Records.{records_of}
 use Rattle.ds2_csv.specs.declared.heading.Heading.{Heading}
+use Rattle.ds2_csv.specs.declared.limits.TheConstants.{MOST_COLUMNS}
 use Rattle.ds2_csv.specs.declared.refusal.CsvRefusal.{CsvRefusal}
 use Rattle.ds2_csv.proofs.HeaderLemmas.{handed_on}
-use Rattle.ds2_csv.proofs.ReadLemmas.{none-read, wide-read, stopped-read, under-read}
+use Rattle.ds2_csv.proofs.ReadLemmas.{no-header, wide-header, read-header, stopped-read, under-read}
 use Rattle.ds2_csv.proofs.SchemaLemmas.{headings-count, headings-schema}
 use Rattle.ds2_csv.proofs.read.of_records.Goals as goal
 
 pub returns-in_default : goal.returns-in_default
 returns-in_default c =
-    let none : IsHeaded None (records_of c.args.text.now) = rw c.in_default.is at c.in_ok-header.ensures in
-    none-read (records_of c.args.text.now) none ∙ ap (λ (r : CsvRefusal). Err r) (sym c.of_file.ensures)
+    let none : IsNext None c.next_record.new.row MOST_COLUMNS c.without_mark.result.now = rw c.in_default.is at c.in_ok-below.ensures in
+    no-header c.args.text.now c.without_mark.result.now c.without_mark.ensures none ∙ ap (λ (r : CsvRefusal). Err r) (sym c.of_file.ensures)
 
-pub returns-then-len-gt256 : goal.returns-then-len-gt256
-returns-then-len-gt256 c =
-    let headed : IsHeaded (Some c.in-Some.field-0) (records_of c.args.text.now) = rw c.in-Some.is at c.in_ok-header.ensures in
-    let many : 256 < length (fields_of c.in-Some.field-0.header) = rw c.len.ensures at c.if-len-gt256.true in
-    wide-read (fields_of c.in-Some.field-0.header) (records_left c.in-Some.field-0.below) (records_of c.args.text.now) headed.0 many ∙ ap (λ (r : CsvRefusal). Err r) (sym c.of_file-then-len-gt256.ensures)
+pub returns-then-header-gt-MOST_COLUMNS : goal.returns-then-header-gt-MOST_COLUMNS
+returns-then-header-gt-MOST_COLUMNS c =
+    let next : IsNext (Some c.in-Some.below) c.next_record.new.row MOST_COLUMNS c.without_mark.result.now = rw c.in-Some.is at c.in_ok-below.ensures in
+    wide-header c.args.text.now c.without_mark.result.now c.next_record.new.row c.in-Some.below c.without_mark.ensures next c.if-header-gt-MOST_COLUMNS.true
+    ∙ ap (λ (r : CsvRefusal). Err r) (sym c.of_file-then-header-gt-MOST_COLUMNS.ensures)
+
+pub headings-requires : goal.headings-requires
+headings-requires c =
+    let next : IsNext (Some c.in-Some.below) c.next_record.new.row MOST_COLUMNS c.without_mark.result.now = rw c.in-Some.is at c.in_ok-below.ensures in
+    (read-header c.args.text.now c.without_mark.result.now c.next_record.new.row c.as_slice.result.now c.in-Some.below c.without_mark.ensures next c.if-header-gt-MOST_COLUMNS.false c.as_slice.ensures).few
 
 pub returns-in_err-headings : goal.returns-in_err-headings
 returns-in_err-headings c =
-    let headed : IsHeaded (Some c.in-Some.field-0) (records_of c.args.text.now) = rw c.in-Some.is at c.in_ok-header.ensures in
-    let few : length (fields_of c.in-Some.field-0.header) ≤ 256 = rw c.len.ensures at c.if-len-gt256.false in
+    let next : IsNext (Some c.in-Some.below) c.next_record.new.row MOST_COLUMNS c.without_mark.result.now = rw c.in-Some.is at c.in_ok-below.ensures in
+    let header = read-header c.args.text.now c.without_mark.result.now c.next_record.new.row c.as_slice.result.now c.in-Some.below c.without_mark.ensures next c.if-header-gt-MOST_COLUMNS.false c.as_slice.ensures in
     handed_on c.from_residual-in_err-headings.result c.in_err-headings.field-0.0 _ c.from_residual-in_err-headings.ensures.1
-    (stopped-read (fields_of c.in-Some.field-0.header) (records_left c.in-Some.field-0.below) (records_of c.args.text.now) c.in_err-headings.field-0.0 headed.0 few c.in_err-headings.ensures)
+    (stopped-read (map spelled c.as_slice.result.now) (records_left c.in-Some.below.now) (records_of c.args.text.now) c.in_err-headings.field-0.0 header.records header.few_cells c.in_err-headings.ensures)
 
 pub under_headings-requires-clause-schema : goal.under_headings-requires-clause-schema
-under_headings-requires-clause-schema c rows = rw c.as_slice.ensures (headings-schema (fields_of c.in-Some.field-0.header) c.in_ok-headings.headings rows c.in_ok-headings.ensures)
+under_headings-requires-clause-schema c rows = rw c.as_slice-2.ensures (headings-schema (map spelled c.as_slice.result.now) c.in_ok-headings.headings rows c.in_ok-headings.ensures)
 
 pub under_headings-requires-clause-few : goal.under_headings-requires-clause-few
 under_headings-requires-clause-few c =
-    let few : length (fields_of c.in-Some.field-0.header) ≤ 256 = rw c.len.ensures at c.if-len-gt256.false in
-    let same : length c.as_slice.result.now ≡ length (fields_of c.in-Some.field-0.header) =
-    ap (λ (t : List Heading). length t) c.as_slice.ensures ∙ headings-count (fields_of c.in-Some.field-0.header) c.in_ok-headings.headings c.in_ok-headings.ensures in
+    let next : IsNext (Some c.in-Some.below) c.next_record.new.row MOST_COLUMNS c.without_mark.result.now = rw c.in-Some.is at c.in_ok-below.ensures in
+    let header = read-header c.args.text.now c.without_mark.result.now c.next_record.new.row c.as_slice.result.now c.in-Some.below c.without_mark.ensures next c.if-header-gt-MOST_COLUMNS.false c.as_slice.ensures in
+    let same : length c.as_slice-2.result.now ≡ length (map spelled c.as_slice.result.now) =
+    ap (λ (t : List Heading). length t) c.as_slice-2.ensures ∙ headings-count (map spelled c.as_slice.result.now) c.in_ok-headings.headings c.in_ok-headings.ensures in
+    let few = header.few_cells in
     omega (arith, same, few)
-
-pub under_headings-requires-clause-expects : goal.under_headings-requires-clause-expects
-under_headings-requires-clause-expects c =
-    let headed : IsHeaded (Some c.in-Some.field-0) (records_of c.args.text.now) = rw c.in-Some.is at c.in_ok-header.ensures in
-    let same : length c.as_slice.result.now ≡ length (fields_of c.in-Some.field-0.header) =
-    ap (λ (t : List Heading). length t) c.as_slice.ensures ∙ headings-count (fields_of c.in-Some.field-0.header) c.in_ok-headings.headings c.in_ok-headings.ensures in
-    headed.2 ∙ ap (λ (n : ℕ). Some n) (sym same)
 
 pub returns : goal.returns
 returns c =
-    let headed : IsHeaded (Some c.in-Some.field-0) (records_of c.args.text.now) = rw c.in-Some.is at c.in_ok-header.ensures in
-    let few : length (fields_of c.in-Some.field-0.header) ≤ 256 = rw c.len.ensures at c.if-len-gt256.false in
-    let whole = ap of_records headed.0 ∙ under-read (fields_of c.in-Some.field-0.header) (records_left c.in-Some.field-0.below) c.in_ok-headings.headings few c.in_ok-headings.ensures in
-    rw whole (rw c.as_slice.ensures at c.under_headings.ensures)
+    let next : IsNext (Some c.in-Some.below) c.next_record.new.row MOST_COLUMNS c.without_mark.result.now = rw c.in-Some.is at c.in_ok-below.ensures in
+    let header = read-header c.args.text.now c.without_mark.result.now c.next_record.new.row c.as_slice.result.now c.in-Some.below c.without_mark.ensures next c.if-header-gt-MOST_COLUMNS.false c.as_slice.ensures in
+    let whole = ap of_records header.records ∙ under-read (map spelled c.as_slice.result.now) (records_left c.in-Some.below.now) c.in_ok-headings.headings header.few_cells c.in_ok-headings.ensures in
+    rw whole (rw c.as_slice-2.ensures at c.under_headings.ensures)

@@ -1,0 +1,4 @@
+pub mod Cells
+pub mod LawRecords
+pub mod Reading
+pub mod Writing

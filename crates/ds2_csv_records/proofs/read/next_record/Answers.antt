@@ -1,0 +1,41 @@
+use Rattle.std.proofs.Common.{◌≡◌, ◌∙◌, ◌++◌, ◌∷◌, ◌<◌, ap, sym, List, ℕ, length, drop, arith, [], refl}
+use Rattle.std.specs.List.{prefix_len}
+use Rattle.csv.specs.declared.parser.State.TheVariants as st
+use Rattle.ds2_csv_records.specs.Cells.{ends_line, spelled}
+use Rattle.ds2_csv_records.specs.Reading.{rest_of, rest_behind}
+use Rattle.ds2_csv_records.proofs.Cells.{lines-cut}
+use Rattle.ds2_csv_records.proofs.Reading.{start-is, no-more, some-more, still-left, record-ends, holds-none, goes-on, goes-out}
+use Rattle.ds2_csv_records.proofs.read.next_record.Goals as goal
+
+pub split_at-requires : goal.split_at-requires
+split_at-requires c = rw (← c.as_bytes.ensures.value) (lines-cut c.as_bytes.result.now c.line_ends.result c.as_bytes.ensures.utf8 c.line_ends.ensures.within c.line_ends.ensures.mark)
+
+pub returns-then-is_empty : goal.returns-then-is_empty
+returns-then-is_empty c =
+    let start = start-is c.args.text.now c.split_at.result.1.now c.as_bytes.result.now c.line_ends.result c.line_ends.ensures.len c.as_bytes.ensures.value c.split_at.ensures.back in
+    no-more c.args.text.now c.split_at.result.1.now c.is_empty.result start c.is_empty.ensures c.if-is_empty.true
+
+pub cells-init : goal.cells-init
+cells-init c =
+    let start = start-is c.args.text.now c.split_at.result.1.now c.as_bytes.result.now c.line_ends.result c.line_ends.ensures.len c.as_bytes.ensures.value c.split_at.ensures.back in
+    ([], rw c.truncate.ensures (holds-none c.args.most), ap (λ (t : List ℕ). rest_of st.StartField [] [] t) (sym start) ∙ c.take_cell-taken.ensures.taken [])
+
+pub cells-preserved : goal.cells-preserved
+cells-preserved c =
+    let inv = c.cells.invariant in
+    let cells : List (List ℕ) = inv.0 ++ (spelled c.cells.taken.cell ∷ []) in (
+      cells,
+      c.in_ok-add.ensures inv.0 inv.1,
+      goes-on _ inv.0 c.cells.taken c.take_cell-taken-in-cells.result c.cells-test.true inv.2 (c.take_cell-taken-in-cells.ensures.taken cells),
+    )
+
+pub cells-smaller : goal.cells-smaller
+cells-smaller c = still-left c.cells.taken.more c.take_cell-taken-in-cells.result.more (length c.cells.taken.rest.now) (length c.take_cell-taken-in-cells.result.rest.now) c.cells-test.true c.take_cell-taken-in-cells.ensures.shorter
+
+pub returns : goal.returns
+returns c =
+    let inv = c.cells.invariant in
+    let start = start-is c.args.text.now c.split_at.result.1.now c.as_bytes.result.now c.line_ends.result c.line_ends.ensures.len c.as_bytes.ensures.value c.split_at.ensures.back in
+    record-ends c.args.text.now c.cells.taken.rest.now (inv.0 ++ (spelled c.cells.taken.cell ∷ [])) c.add-2.new.self c.args.most
+    (some-more c.args.text.now c.split_at.result.1.now c.is_empty.result start c.is_empty.ensures c.if-is_empty.false)
+    (goes-out _ inv.0 c.cells.taken c.cells-test.false inv.2) (c.in_ok-add-2.ensures inv.0 inv.1)

@@ -1,0 +1,4 @@
+pub mod Cells
+pub mod Records
+pub mod Reading
+pub mod Laws
