@@ -1,5 +1,5 @@
 -- From a file that was read to the rest of a script.
-use Rattle.std.proofs.Common.{◌≡◌, ◌≢◌, ◌<◌, ◌≤◌, ◌+◌, ◌-◌, ◌∙◌, ◌&&◌, IsTrue, IsErrAnd, inl, inr, if◌then◌else◌, take, option_map, unwrap_or, Bool, true, false, ℕ, List, [], ◌∷◌, ◌++◌, length, drop, codes, nat_lt, nat_eq, Option, Some, None, Result, Ok, Err, IfSome, refl, sym, ap, subst, arith, length-append, length-take}
+use Rattle.std.proofs.Common.{◌≡◌, ◌≢◌, ◌<◌, ◌≤◌, ◌+◌, ◌-◌, ◌∙◌, ◌&&◌, IsTrue, IsErrAnd, inl, inr, if◌then◌else◌, take, option_map, unwrap_or, Bool, true, false, ℕ, List, [], ◌∷◌, ◌++◌, length, drop, codes, nat_eq, Option, Some, None, Result, Ok, Err, IfSome, refl, sym, ap, subst, arith, length-append, length-take}
 use Rattle.std.specs.declared.cmp.Ordering.{Ordering}
 use Rattle.std.specs.declared.cmp.Ordering.TheVariants.{Less, Equal, Greater}
 use Rattle.std.specs.Ordering.{nat_cmp, is_eq}
@@ -123,7 +123,7 @@ load_then None between now limit name bytes go said text log result same (read, 
       files = files;
       told_is = tt;
       holds = found limit name bytes files (go files) said text None between result log now (own_bytes o.files name bytes) read.within text_is between_is
-      (subst (λ (script : Script). DoesAll script text between result log now) (sym (same o.files)) o.holds);
+          (subst (λ (script : Script). DoesAll script text between result log now) (sym (same o.files)) o.holds);
     }
 load_then (Some held) between now limit name bytes go said text log result same (read, text_is, between_is) o =
     let files_are : held ≡ o.files = subst (λ (f : Option Files). IfSome f (λ h. h ≡ o.files)) between_is o.told_is in
@@ -131,7 +131,7 @@ load_then (Some held) between now limit name bytes go said text log result same 
       files = held;
       told_is = refl;
       holds = found limit name bytes held (go held) said text (Some held) between result log now read.held read.within text_is between_is
-      (subst (λ (files : Files). DoesAll (go files bytes) text between result log now) (sym files_are) o.holds);
+          (subst (λ (files : Files). DoesAll (go files bytes) text between result log now) (sym files_are) o.holds);
     }
 
 -- the reading of a file has ended the command
@@ -144,7 +144,7 @@ load_ends told now limit name wanted go said halt log (Err e) named is o =
       files = o.files;
       told_is = o.told_is;
       holds = subst (λ (n : List ℕ). Halts (load_one limit n o.files (go o.files)) said told e log now) named
-      (subst (λ (h : Halt). Halts (load_one limit name o.files (go o.files)) said told h log now) (sym is) (o.holds (go o.files)));
+          (subst (λ (h : Halt). Halts (load_one limit name o.files (go o.files)) said told h log now) (sym is) (o.holds (go o.files)));
     }
 
 too_long : (limit : ℕ) (bytes : List ℕ) → limit < length bytes → within_limit limit (Some bytes) ≡ Err TooLarge

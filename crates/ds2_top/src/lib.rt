@@ -14,8 +14,6 @@ mod status;
 mod steps;
 #[cfg(test)]
 mod tests;
-#[cfg(test)]
-mod tests;
 mod top;
 mod words;
 

@@ -55,12 +55,7 @@ fn write_file<S: Store>(
 }
 
 // Does one step.
-fn do_step<S: Store>(
-    alloc: Global,
-    step: &Step,
-    log: &mut Bytes,
-    store: &mut S,
-) -> Result<(), Halt>
+fn do_step<S: Store>(alloc: Global, step: &Step, log: &mut Bytes, store: &mut S) -> Result<(), Halt>
     ensures does { (rest : Script) → Does (front step.now rest) (λ _. rest) log.old (S.files store.old) result log.new (S.files store.new) }
     ensures read { Caused Status.Read result (S.read_faults store.old) (S.read_faults store.new) }
     ensures write { Caused Status.Write result (S.write_faults store.old) (S.write_faults store.new) }
