@@ -3,6 +3,7 @@ ghost use Rattle.std.specs.Prelude.{◌≡◌, ◌∷◌, [], IfOk, map};
 ghost use Rattle.ds2_meaning.specs.Names.{AllKnown};
 ghost use Rattle.ds2_meaning.specs.Program.{names_of};
 ghost use Rattle.ds2_meaning.specs.View.{program_of, stmts_of};
+ghost use Rattle.ds2_layout.specs.Slots.{slot_names};
 ghost use Rattle.ds2_code.specs.Valid.{IsValidCode};
 ghost use Rattle.ds2_gen.specs.Code.{constants_in_all, body_instrs, role_among, slots_among, IsCodeOf};
 ghost use Rattle.ds2_gen.specs.Correct.{Simulates, Same};
@@ -11,7 +12,7 @@ use crate::emit::{Emitted, emit_all};
 use crate::size::number;
 use ds2_base::{List, OutOfMemory};
 use ds2_code::{Instr, ProgramCode, Role, laws::one_end};
-use ds2_layout::{Layout, NameTable, lay_out, variables};
+use ds2_layout::{Layout, NameTable, variables};
 use ds2_meaning::{Stmt, TypedData};
 use ds2_value::Column;
 use std::alloc::Global;
@@ -80,17 +81,21 @@ fn only<T: Drop>(alloc: Global, item: T) -> Result<List<T>, OutOfMemory>
 }
 
 // The parts of the code of a program.
-fn assemble(alloc: Global, program: &TypedData) -> Result<ProgramCode, OutOfMemory>
+fn assemble(
+    alloc: Global,
+    program: &TypedData,
+    layout: &Layout,
+) -> Result<ProgramCode, OutOfMemory>
+    requires layout { layout.now ≡ slot_names (program_of program.now) }
     ensures { IfOk result (IsCodeOf (program_of program.now)) }
 {
-    let layout = lay_out(alloc, program)?;
     let variables = variables(alloc, program)?;
     let table = table_of(alloc, program.columns.as_slice())?;
     let roles = roles(alloc, &table, variables.as_slice())?;
-    let columns = slots(alloc, &layout, program.columns.as_slice())?;
-    let output = slots(alloc, &layout, variables.as_slice())?;
+    let columns = slots(alloc, layout, program.columns.as_slice())?;
+    let output = slots(alloc, layout, variables.as_slice())?;
     let outputs = only(alloc, output)?;
-    let Emitted { instrs, constants } = body_code(alloc, &layout, program.body.as_slice())?;
+    let Emitted { instrs, constants } = body_code(alloc, layout, program.body.as_slice())?;
     Ok(ProgramCode {
         slots: roles,
         constants,
@@ -101,16 +106,21 @@ fn assemble(alloc: Global, program: &TypedData) -> Result<ProgramCode, OutOfMemo
 }
 
 /// The code of a program, which does what the program means. Each name of the program is a
-/// variable of its vector. Code of more than `u32::MAX` instructions, constants or slots is want
-/// of memory.
-pub fn generate(alloc: Global, program: &TypedData) -> Result<ProgramCode, OutOfMemory>
+/// variable of its vector, and the layout is that of the program. Code of more than `u32::MAX`
+/// instructions, constants or slots is want of memory.
+pub fn generate(
+    alloc: Global,
+    program: &TypedData,
+    layout: &Layout,
+) -> Result<ProgramCode, OutOfMemory>
+    requires layout { layout.now ≡ slot_names (program_of program.now) }
     requires known { AllKnown (program_of program.now) }
     ensures simulates { IfOk result (Simulates (program_of program.now)) }
     ensures valid { IfOk result IsValidCode }
     ensures same { IfOk result (Same (program_of program.now)) }
 {
     one_end();
-    let code = assemble(alloc, program)?;
+    let code = assemble(alloc, program, layout)?;
     number(code.instrs.len())?;
     number(code.slots.len())?;
     Ok(code)

@@ -2,7 +2,7 @@
 use crate::generate;
 use ds2_base::{List, Name, OutOfMemory, Place};
 use ds2_code::{Instr, ProgramCode, Role};
-use ds2_layout::first_unknown;
+use ds2_layout::{first_unknown, lay_out};
 use ds2_meaning::{Expr, Sign, Stmt, Term, TypedData};
 use ds2_value::{Column, Ty, Value};
 use std::alloc::Global;
@@ -81,9 +81,10 @@ fn is_wanted(code: &ProgramCode) -> bool {
 
 fn holds(alloc: Global) -> Result<bool, OutOfMemory> {
     let program = program(alloc)?;
-    match first_unknown(alloc, &program)? {
+    let layout = lay_out(alloc, &program)?;
+    match first_unknown(&layout, &program) {
         Some(_) => Ok(false),
-        None => Ok(is_wanted(&generate(alloc, &program)?)),
+        None => Ok(is_wanted(&generate(alloc, &program, &layout)?)),
     }
 }
 

@@ -1,12 +1,12 @@
 //! The names that a program uses.
-ghost use Rattle.std.specs.Prelude.{◌≡◌, IfOk};
+ghost use Rattle.std.specs.Prelude.{◌≡◌};
+ghost use Rattle.ds2_layout.specs.Slots.{slot_names};
 ghost use Rattle.ds2_meaning.specs.View.{expr_tree, stmt_tree, stmts_of, program_of};
 ghost use Rattle.ds2_meaning.specs.Names.{is_sought, sought, sought_in, sought_in_stmt, sought_in_all, first_listed, first_unknown};
 
-use crate::{NameTable, lay_out};
-use ds2_base::{Name, OutOfMemory, Place};
+use crate::{Layout, NameTable};
+use ds2_base::{Name, Place};
 use ds2_meaning::{Expr, Stmt, TypedData};
-use std::alloc::Global;
 
 // Whether a name is sought: where it is listed, or where it is not.
 fn is_sought(listed: bool, names: &NameTable, name: &Name) -> bool
@@ -122,10 +122,10 @@ pub fn first_listed(names: &NameTable, stmts: &[Stmt]) -> Option<Place>
 }
 
 /// The place of the first name of a program, in the order of its source, that is neither declared
-/// nor a column of its table; None where there is none.
-pub fn first_unknown(alloc: Global, program: &TypedData) -> Result<Option<Place>, OutOfMemory>
-    ensures { IfOk result (λ place. place ≡ first_unknown (program_of program.now)) }
+/// nor a column of its table; None where there is none. The layout is that of the program.
+pub fn first_unknown(layout: &Layout, program: &TypedData) -> Option<Place>
+    requires { layout.now ≡ slot_names (program_of program.now) }
+    ensures { result ≡ first_unknown (program_of program.now) }
 {
-    let layout = lay_out(alloc, program)?;
-    Ok(sought_in_all(false, layout.names(), program.body.as_slice()))
+    sought_in_all(false, layout.names(), program.body.as_slice())
 }

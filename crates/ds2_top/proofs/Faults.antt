@@ -1,5 +1,5 @@
 -- A command that ends in a runtime fault ends in the first of the one-thread meaning.
-use Rattle.std.proofs.Common.{◌≡◌, ℕ, Bool, true, false, List, length, refl, sym, ap, ◌∙◌, subst, Option, Some, None, Result, Ok, Err, IfSome}
+use Rattle.std.proofs.Common.{◌≡◌, ℕ, Bool, true, false, List, length, refl, sym, ap, ◌∙◌, subst, Option, Some, None, Result, Ok, Err}
 use Rattle.std.proofs.lemmas.List.{append-nil}
 use Rattle.ds2_base.specs.declared.place.Place.{Place}
 use Rattle.ds2_value.specs.declared.fault.Fault.{Fault}
@@ -13,24 +13,25 @@ use Rattle.ds2_csv.specs.declared.refusal.CsvRefusal.{CsvRefusal}
 use Rattle.ds2_draft_source.specs.Source.{Source, source_of}
 use Rattle.ds2_outside.specs.Files.{Files, file}
 use Rattle.ds2_top.specs.declared.load.FileKind.{FileKind}
-use Rattle.ds2_top.specs.declared.status.Status.{Status}
+use Rattle.ds2_top.specs.declared.run.TheConstants.{SOURCE_LIMIT, TABLE_LIMIT}
 use Rattle.ds2_top.specs.declared.status.Status.TheVariants as ended
 use Rattle.ds2_top.specs.declared.words.Command.{Command}
 use Rattle.ds2_top.specs.declared.words.Command.TheVariants.{Run}
-use Rattle.ds2_top.specs.Actions.{actions, after, status_of, text}
-use Rattle.ds2_top.specs.Answer.{answer, on_command, on_built, on_ending, on_names, on_source, on_table, output_rows, output_text, program_over, source_limit, table_file, table_limit}
+use Rattle.ds2_top.specs.Actions.{actions, files_left, log_text, status_of}
+use Rattle.ds2_top.specs.Answer.{answer, on_command, on_built, on_ending, on_names, on_source, on_table, output_rows, output_text, program_over, table_file}
 use Rattle.ds2_top.specs.Built.{is_built}
 use Rattle.ds2_top.specs.Fault.{FirstFault, LeavesFault}
-use Rattle.ds2_top.specs.Leaves.{Gained, Leaves}
+use Rattle.ds2_top.specs.Leaves.{Leaves}
+use Rattle.ds2_top.specs.Outside.{Outside, Gained}
 use Rattle.ds2_top.specs.Lines.{error_line, fault_text}
-use Rattle.ds2_top.specs.Load.{bounded, next_file}
+use Rattle.ds2_top.specs.Load.{next_file, within_limit}
 use Rattle.ds2_top.specs.Script.{Script, Reads}
 use Rattle.ds2_top.specs.Words.{command_of}
 
 -- a script that says the line of this fault and writes nothing
 record Faulting (script : Script) (files : Files) (fault : Fault) (place : Place) : Type 0 where
-  pub text_is : text (actions script) ≡ error_line (fault_text fault) place
-  pub files_are : after (actions script) files ≡ files
+  pub text_is : log_text (actions script) ≡ error_line (fault_text fault) place
+  pub files_are : files_left (actions script) files ≡ files
 
 -- a script that says the line of the first fault and writes nothing
 record Faults (words : List (List ℕ)) (files : Files) (script : Script) : Type 0 where
@@ -51,8 +52,8 @@ of_read words files name rest f =
     record { fault = f.fault; place = f.place; first = f.first; faulting = record { text_is = f.faulting.text_is; files_are = f.faulting.files_are } }
 
 module _ (words : List (List ℕ)) (files : Files) (name : List ℕ) (budget : ℕ) (command_is : command_of words ≡ Some (Run name budget)) where
-  module _ (source_text : List ℕ) (text_is : bounded source_limit (file files name) ≡ Ok source_text) (source : Source) (source_is : source_of source_text ≡ Some source) where
-    module _ (bytes : List ℕ) (bytes_are : bounded table_limit (file files (table_file source.table)) ≡ Ok bytes) where
+  module _ (source_text : List ℕ) (text_is : within_limit SOURCE_LIMIT (file files name) ≡ Ok source_text) (source : Source) (source_is : source_of source_text ≡ Some source) where
+    module _ (bytes : List ℕ) (bytes_are : within_limit TABLE_LIMIT (file files (table_file source.table)) ≡ Ok bytes) where
       of_names : (table : Contents) → reads bytes ≡ Ok table → is_built (program_over source table.columns) ≡ true → (unknown : Option Place) → first_unknown (program_over source table.columns) ≡ unknown
           → status_of (on_names unknown source.output (program_over source table.columns) table.rows budget) ≡ ended.Fault
           → Faults words files (on_names unknown source.output (program_over source table.columns) table.rows budget)
@@ -93,20 +94,20 @@ module _ (words : List (List ℕ)) (files : Files) (name : List ℕ) (budget : �
       of_table (Err refusal) is fault = absurd (cc)
       of_table (Ok table) is fault = of_built table is (is_built (program_over source table.columns)) refl fault
 
-    of_bytes : (result : Result (List ℕ) FileKind) → bounded table_limit (file files (table_file source.table)) ≡ result
+    of_bytes : (result : Result (List ℕ) FileKind) → within_limit TABLE_LIMIT (file files (table_file source.table)) ≡ result
         → status_of (next_file (table_file source.table) result (λ bytes. on_table source budget (reads bytes))) ≡ ended.Fault
         → Faults words files (next_file (table_file source.table) result (λ bytes. on_table source budget (reads bytes)))
     of_bytes (Err kind) is fault = absurd (cc)
     of_bytes (Ok bytes) is fault = of_table bytes is (reads bytes) refl fault
 
-  of_source : (source_text : List ℕ) → bounded source_limit (file files name) ≡ Ok source_text → (result : Option Source) → source_of source_text ≡ result
+  of_source : (source_text : List ℕ) → within_limit SOURCE_LIMIT (file files name) ≡ Ok source_text → (result : Option Source) → source_of source_text ≡ result
       → status_of (on_source result budget files) ≡ ended.Fault → Faults words files (on_source result budget files)
   of_source source_text text_is None is fault = absurd (cc)
   of_source source_text text_is (Some source) is fault =
-      of_read words files (table_file source.table) (next_file (table_file source.table) (bounded table_limit (file files (table_file source.table))) (λ bytes. on_table source budget (reads bytes)))
-      (of_bytes source_text text_is source is (bounded table_limit (file files (table_file source.table))) refl fault)
+      of_read words files (table_file source.table) (next_file (table_file source.table) (within_limit TABLE_LIMIT (file files (table_file source.table))) (λ bytes. on_table source budget (reads bytes)))
+      (of_bytes source_text text_is source is (within_limit TABLE_LIMIT (file files (table_file source.table))) refl fault)
 
-  of_text : (result : Result (List ℕ) FileKind) → bounded source_limit (file files name) ≡ result
+  of_text : (result : Result (List ℕ) FileKind) → within_limit SOURCE_LIMIT (file files name) ≡ result
       → status_of (next_file name result (λ source_text. on_source (source_of source_text) budget files)) ≡ ended.Fault
       → Faults words files (next_file name result (λ source_text. on_source (source_of source_text) budget files))
   of_text (Err kind) is fault = absurd (cc)
@@ -115,30 +116,20 @@ module _ (words : List (List ℕ)) (files : Files) (name : List ℕ) (budget : �
 of_command : (words : List (List ℕ)) (files : Files) (result : Option Command) → command_of words ≡ result → status_of (on_command result files) ≡ ended.Fault → Faults words files (on_command result files)
 of_command words files None is fault = absurd (cc)
 of_command words files (Some (Run name budget)) is fault =
-    of_read words files name (next_file name (bounded source_limit (file files name)) (λ source_text. on_source (source_of source_text) budget files))
-    (of_text words files name budget is (bounded source_limit (file files name)) refl fault)
+    of_read words files name (next_file name (within_limit SOURCE_LIMIT (file files name)) (λ source_text. on_source (source_of source_text) budget files))
+    (of_text words files name budget is (within_limit SOURCE_LIMIT (file files name)) refl fault)
 
 of_answer : (words : List (List ℕ)) (files : Files) → status_of (answer words files) ≡ ended.Fault → Faults words files (answer words files)
 of_answer words files fault = of_command words files (command_of words) refl fault
 
 -- what a command leaves that has ended in a fault
-fault_left : (words : List (List ℕ)) (files : Files) (reads writes rose : Type 0) (before : List ℕ) (now : Option Files) (logged : Option (List ℕ))
-    → Leaves (actions (answer words files)) (status_of (answer words files)) files ended.Fault reads writes rose before now logged → LeavesFault words files rose before now logged
-fault_left words files reads writes rose before now logged (did, gained) =
+pub fault_left : (words : List (List ℕ)) (files : Files) (before now : Outside) → Leaves (answer words files) files before now ended.Fault → LeavesFault words files before now
+fault_left words files before now (did, gained) =
     let f = of_answer words files (sym did.status_is) in
     record {
       fault = f.fault;
       place = f.place;
       first = f.first;
-      now_is = did.now_is ∙ ap (λ (a : Files). Some a) f.faulting.files_are;
-      gained = subst (λ (x : List ℕ). Gained x rose before logged) f.faulting.text_is gained;
+      files_are = λ tells. did.files_are tells ∙ ap (λ (a : Files). Some a) f.faulting.files_are;
+      gained = subst (λ (x : List ℕ). Gained x before now) f.faulting.text_is gained;
     }
-
-pub fault_leaves : (told now : Option Files) (written logged : Option (List ℕ)) (words : List (List ℕ)) (result : Status) (reads writes rose : Type 0)
-    → IfSome told (λ files. IfSome written (λ before. Leaves (actions (answer words files)) (status_of (answer words files)) files result reads writes rose before now logged))
-    → IfSome told (λ files. IfSome written (λ before. result ≡ ended.Fault → LeavesFault words files rose before now logged))
-fault_leaves None now written logged words result reads writes rose left = tt
-fault_leaves (Some files) now None logged words result reads writes rose left = tt
-fault_leaves (Some files) now (Some before) logged words result reads writes rose left =
-    λ is. fault_left words files reads writes rose before now logged
-    (subst (λ (s : Status). Leaves (actions (answer words files)) (status_of (answer words files)) files s reads writes rose before now logged) is left)

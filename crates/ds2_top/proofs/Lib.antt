@@ -1,9 +1,9 @@
-pub mod Answered
-pub mod Courses
 pub mod Faults
+pub mod Leading
+pub mod Loads
 pub mod Numbers
 pub mod OneThread
 pub mod Plain
+pub mod Promises
 pub mod Refusals
-pub mod Loads
 pub mod Tables

@@ -5,11 +5,11 @@ use Rattle.std.specs.List.{list_all}
 use Rattle.std.specs.Str.Parse.{ParsesUnsigned}
 use Rattle.std.proofs.lemmas.Bool.Decides.{nat_tests}
 use Rattle.std.proofs.lemmas.Str.Parse.{IsNumeralModel, numerals_by_fold, parse_digits}
-use Rattle.ds2_top.specs.Words.{is_number, number_from, number_within}
+use Rattle.ds2_top.specs.Words.{is_number, decimal_from, number_within}
 
 -- digits and their number are those of std
-digits : IsNumeralModel (λ ds. list_all is_ascii_digit ds ≡ true) (number_from 0)
-digits = numerals_by_fold _ (search rules) number_from (search rules)
+digits : IsNumeralModel (λ ds. list_all is_ascii_digit ds ≡ true) (decimal_from 0)
+digits = numerals_by_fold _ (search rules) decimal_from (search rules)
 
 picked : (b c : Bool) (v : ℕ) → b ≡ true → c ≡ true → Some v ≡ cond (b && c) (Some v) None
 picked true true v p q = refl
@@ -39,14 +39,14 @@ above m n high = grind (arith, nat_tests)
 
 pub number_found : (most number : ℕ) (word : List ℕ) → ParsesUnsigned {E = ℕ} 64 10 word (Ok number) → is_number word ≡ true → number ≤ most → Some number ≡ number_within most word
 number_found most number word parsed is low =
-    let same : number ≡ number_from 0 word = (parse_digits digits {E = ℕ} 64 word (Ok number) parsed (are_digits word is)).1 in
+    let same : number ≡ decimal_from 0 word = (parse_digits digits {E = ℕ} 64 word (Ok number) parsed (are_digits word is)).1 in
     subst (λ (n : ℕ). Some n ≡ number_within most word) (sym same)
-    (picked (is_number word) (nat_le (number_from 0 word) most) (number_from 0 word) is (below (number_from 0 word) most (subst (λ (n : ℕ). n ≤ most) same low)))
+    (picked (is_number word) (nat_le (decimal_from 0 word) most) (decimal_from 0 word) is (below (decimal_from 0 word) most (subst (λ (n : ℕ). n ≤ most) same low)))
 
 pub number_above : (most number : ℕ) (word : List ℕ) → ParsesUnsigned {E = ℕ} 64 10 word (Ok number) → is_number word ≡ true → most < number → None ≡ number_within most word
 number_above most number word parsed is high =
-    let same : number ≡ number_from 0 word = (parse_digits digits {E = ℕ} 64 word (Ok number) parsed (are_digits word is)).1 in
-    missed (is_number word) (nat_le (number_from 0 word) most) (number_from 0 word) (above (number_from 0 word) most (subst (λ (n : ℕ). most < n) same high))
+    let same : number ≡ decimal_from 0 word = (parse_digits digits {E = ℕ} 64 word (Ok number) parsed (are_digits word is)).1 in
+    missed (is_number word) (nat_le (decimal_from 0 word) most) (decimal_from 0 word) (above (decimal_from 0 word) most (subst (λ (n : ℕ). most < n) same high))
 
 too_large : (n most : ℕ) → most < 2 ^ 64 → (n < 2 ^ 64 → ⊥) → nat_le n most ≡ false
 too_large n most fits absent = grind (arith, nat_tests)
@@ -54,5 +54,5 @@ too_large n most fits absent = grind (arith, nat_tests)
 -- a number that is not parsed has no place in 64 bits
 pub number_wrong : (most : ℕ) (word : List ℕ) → ParsesUnsigned {E = ℕ} 64 10 word (Err 0) → is_number word ≡ true → most < 2 ^ 64 → None ≡ number_within most word
 number_wrong most word parsed is fits =
-    missed (is_number word) (nat_le (number_from 0 word) most) (number_from 0 word)
-    (too_large (number_from 0 word) most fits (λ small. parse_digits digits {E = ℕ} 64 word (Err 0) parsed (are_digits word is) (is_long word is, small)))
+    missed (is_number word) (nat_le (decimal_from 0 word) most) (decimal_from 0 word)
+    (too_large (decimal_from 0 word) most fits (λ small. parse_digits digits {E = ℕ} 64 word (Err 0) parsed (are_digits word is) (is_long word is, small)))

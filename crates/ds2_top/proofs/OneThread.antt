@@ -12,7 +12,7 @@ use Rattle.ds2_value.specs.Run.{Written}
 use Rattle.ds2_unit.specs.Answer.{HasAnswered}
 use Rattle.ds2_csv.specs.Text as csv
 use Rattle.ds2_top.specs.declared.output_text.OutputText.{OutputText}
-use Rattle.ds2_top.specs.Answer.{IsAnswer, output_rows, rows_of}
+use Rattle.ds2_top.specs.Answer.{IsEndOf, output_rows, rows_of}
 
 -- an output has taken these rows
 abbrev pub HasTaken : OutputText → OutputText → List Written → Type 0
@@ -22,7 +22,7 @@ HasTaken from output taken = (output.columns ≡ from.columns) × (output.writer
 pub answer_is : (program : Program) (instrs : ProgramCode) (budget executed : ℕ) (rows : List (List Value)) (from output : OutputText) (table : List ℕ) (ending : Ending)
     → Same program instrs → All (λ row. length row ≡ length program.columns) rows → HasAnswered (HasTaken from output) instrs budget rows executed ending
     → from.columns ≡ variables program → table ≡ output.writer
-    → IsAnswer program (record { text = table; rows = output.rows; ending = ending }) (one_thread_answer program rows budget)
+    → IsEndOf program (record { text = table; rows = output.rows; ending = ending }) (one_thread_answer program rows budget)
 answer_is program instrs budget executed rows from output table ending same even (answer, alone, taken, ending_is) columns_are table_is =
     let means : answer ≡ one_thread_answer program rows budget = same rows budget executed answer even alone in
     let P : List Column → ProgramEnd → Type 0 = λ columns end. table ≡ csv.text (record { columns = columns; rows = output_rows end }) in

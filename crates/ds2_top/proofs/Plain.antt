@@ -1,15 +1,15 @@
--- From an outcome of a script to what the top call promises.
-use Rattle.std.proofs.Common.{◌≡◌, ◌⊎◌, inl, inr, ℕ, ◌≤◌, length, List, [], ◌∷◌, ◌++◌, codes, refl, sym, ap, ◌∙◌, subst, arith, append_assoc, Option, Some, None, IfSome}
-use Rattle.std.proofs.lemmas.List.{take_all}
-use Rattle.ds2_outside.specs.Files.{Files, with_file}
-use Rattle.ds2_outside.specs.Written.{TakesPart}
+-- From what came of a script to what a command leaves.
+use Rattle.std.proofs.Common.{◌≡◌, ◌⊎◌, inl, inr, ℕ, List, [], ◌∷◌, ◌++◌, codes, refl, sym, ap, ◌∙◌, subst, append_assoc, Option, Some, None, IfSome, IsSome}
+use Rattle.ds2_outside.specs.Files.{Files, LeavesPart, with_file}
 use Rattle.ds2_top.specs.declared.status.Status.{Status}
 use Rattle.ds2_top.specs.declared.status.Status.TheVariants as ended
-use Rattle.ds2_top.specs.Status.{IsAnswer}
-use Rattle.ds2_top.specs.Actions.{Action, Line, ReadOf, WriteOf, line_of, files_after, text, after, actions, status_of}
-use Rattle.ds2_top.specs.Leaves.{ReadFailed, WriteFailed, Between, AtWrite, IsText, MemoryLog, Leaves, Reported, TakesLine}
+use Rattle.ds2_top.specs.Status.{IsAnswerStatus}
+use Rattle.ds2_top.specs.Actions.{Action, Line, ReadOf, WriteOf, line_of, files_after, log_text, files_left, actions, status_of}
+use Rattle.ds2_top.specs.Leaves.{ReadFailed, WriteFailed, Between, AtWrite, IsText, MemoryLog, Leaves}
 use Rattle.ds2_top.specs.Lines.{fault_line, memory_line}
-use Rattle.ds2_top.specs.Outcome.{Outcome, Short}
+use Rattle.ds2_top.specs.Outcome.{CameOf, Short, told_with}
+use Rattle.ds2_top.specs.Outside.{Outside, HoldsFiles, HoldsTorn, LogGainsPart, LogRose, ReadsRose, WritesRose}
+use Rattle.ds2_top.specs.Reported.{Reported, TakesSome}
 use Rattle.ds2_top.specs.Script.{Script, Ends, Says, Reads, Writes}
 
 -- the text x is what was said before and then this
@@ -18,238 +18,220 @@ record Behind (said x : List ℕ) (P : List ℕ → Type 0) : Type 0 where
   pub x_is : x ≡ said ++ more
   pub holds : P more
 
-record Finished (all : List Action) (ends : Status) (files : Files) (status : Status) (now : Option Files) (more : List ℕ) : Type 0 where
-  pub status_is : status ≡ ends
-  pub answers : IsAnswer ends
-  pub more_is : more ≡ text all
-  pub now_is : now ≡ Some (after all files)
-
-Plain : List Action → Status → Files → Status → Option Files → List ℕ → Type 0
-Plain all ends files status now more =
-    Finished all ends files status now more
-    ⊎ (((status ≡ ended.Read) × ReadFailed all files more now) ⊎ ((status ≡ ended.Write) × WriteFailed all files more now))
-
 behind_more : (said line x : List ℕ) (P Q : List ℕ → Type 0) → ((more : List ℕ) → P more → Q (line ++ more)) → Behind (said ++ line) x P → Behind said x Q
 behind_more said line x P Q to b = record { more = line ++ b.more; x_is = b.x_is ∙ append_assoc said line b.more; holds = to b.more b.holds }
 
-plain_more : (action : Action) (all : List Action) (ends : Status) (files : Files) (status : Status) (now : Option Files) (more : List ℕ)
-    → Plain all ends (files_after action files) status now more → Plain (action ∷ all) ends files status now (line_of action ++ more)
-unfolding Plain
-plain_more action all ends files status now more (inl f) =
-    inl (record { status_is = f.status_is; answers = f.answers; more_is = ap (λ (m : List ℕ). line_of action ++ m) f.more_is; now_is = f.now_is })
-plain_more action all ends files status now more (inr (inl (s, f))) =
-    inr (inl (
-      s,
-      record {
-        front = action ∷ f.front;
-        name = f.name;
-        rest = f.rest;
-        split = ap (λ (l : List Action). action ∷ l) f.split;
-        x_is = ap (λ (m : List ℕ). line_of action ++ m) f.x_is ∙ sym (append_assoc (line_of action) (text f.front) (fault_line (codes "Read") f.name));
-        now_is = f.now_is;
-      },
-    ))
-plain_more action all ends files status now more (inr (inr (s, f))) =
-    inr (inr (
-      s,
-      record {
-        front = action ∷ f.front;
-        name = f.name;
-        bytes = f.bytes;
-        rest = f.rest;
-        split = ap (λ (l : List Action). action ∷ l) f.split;
-        x_is = ap (λ (m : List ℕ). line_of action ++ m) f.x_is ∙ sym (append_assoc (line_of action) (text f.front) (fault_line (codes "Write") f.name));
-        now_is = f.now_is;
-      },
-    ))
-
-append_nil : (said : List ℕ) → said ++ [] ≡ said
+pub append_nil : (said : List ℕ) → said ++ [] ≡ said
 append_nil [] = refl
 append_nil (x ∷ said) = ap (λ (s : List ℕ). x ∷ s) (append_nil said)
-
-plain : (script : Script) (said : List ℕ) (files : Files) (status : Status) (log : List ℕ) (now : Option Files)
-    → Outcome script said files status log now → Behind said log (Plain (actions script) (status_of script) files status now)
-unfolding Plain
-plain (Ends status) said files s log now o =
-    record { more = []; x_is = o.0.log_is ∙ sym (append_nil said); holds = inl (record { status_is = o.0.status_is; answers = o.1; more_is = refl; now_is = o.0.files }) }
-plain (Says line rest) said files s log now o =
-    behind_more said line log _ _ (λ more. plain_more (Line line) (actions rest) (status_of rest) files s now more) (plain rest (said ++ line) files s log now o)
-plain (Reads name rest) said files s log now (inl f) =
-    record {
-      more = fault_line (codes "Read") name;
-      x_is = f.log_is;
-      holds = inr (inl (f.status_is, record { front = []; name = name; rest = actions rest; split = refl; x_is = refl; now_is = f.files }));
-    }
-plain (Reads name rest) said files s log now (inr o) =
-    behind_more said [] log _ _ (λ more. plain_more (ReadOf name) (actions rest) (status_of rest) files s now more)
-    (subst (λ (l : List ℕ). Behind l log (Plain (actions rest) (status_of rest) files s now)) (sym (append_nil said)) (plain rest said files s log now o))
-plain (Writes name bytes rest) said files s log now (inl f) =
-    record {
-      more = fault_line (codes "Write") name;
-      x_is = f.log_is;
-      holds = inr (inr (f.status_is, record { front = []; name = name; bytes = bytes; rest = actions rest; split = refl; x_is = refl; now_is = f.files }));
-    }
-plain (Writes name bytes rest) said files s log now (inr o) =
-    behind_more said [] log _ _ (λ more. plain_more (WriteOf name bytes) (actions rest) (status_of rest) files s now more)
-    (subst (λ (l : List ℕ). Behind l log (Plain (actions rest) (status_of rest) (with_file files name bytes) s now)) (sym (append_nil said)) (plain rest said (with_file files name bytes) s log now o))
-
--- the files of a script that was cut short
-Cut : List Action → Files → Option Files → Type 0
-Cut all files now = Between all files now ⊎ AtWrite all files now
-
-cut_more : (action : Action) (all : List Action) (files : Files) (now : Option Files) → Cut all (files_after action files) now → Cut (action ∷ all) files now
-unfolding Cut
-cut_more action all files now (inl b) = inl (record { front = action ∷ b.front; rest = b.rest; split = ap (λ (l : List Action). action ∷ l) b.split; now_is = b.now_is })
-cut_more action all files now (inr b) =
-    inr (record { front = action ∷ b.front; name = b.name; bytes = b.bytes; rest = b.rest; split = ap (λ (l : List Action). action ∷ l) b.split; now_is = b.now_is })
-
-cut_here : (all : List Action) (files : Files) (now : Option Files) → now ≡ Some files → Cut all files now
-unfolding Cut
-cut_here all files now same = inl (record { front = []; rest = all; split = refl; now_is = same })
-
-cut : (script : Script) (files : Files) (now : Option Files) → Short script files now → Cut (actions script) files now
-unfolding Cut
-cut (Ends status) files now o = cut_here [] files now o
-cut (Says line rest) files now (inl o) = cut_here (Line line ∷ actions rest) files now o
-cut (Says line rest) files now (inr o) = cut_more (Line line) (actions rest) files now (cut rest files now o)
-cut (Reads name rest) files now (inl o) = cut_here (ReadOf name ∷ actions rest) files now o
-cut (Reads name rest) files now (inr o) = cut_more (ReadOf name) (actions rest) files now (cut rest files now o)
-cut (Writes name bytes rest) files now (inl o) =
-    inr (record { front = []; name = name; bytes = bytes; rest = actions rest; split = refl; now_is = o })
-cut (Writes name bytes rest) files now (inr o) = cut_more (WriteOf name bytes) (actions rest) files now (cut rest (with_file files name bytes) now o)
 
 all_split : (all : List Action) → all ≡ all ++ []
 all_split [] = refl
 all_split (action ∷ all) = ap (λ (l : List Action). action ∷ l) (all_split all)
 
-cut_end : (all : List Action) (files : Files) (now : Option Files) → now ≡ Some (after all files) → Cut all files now
-unfolding Cut
-cut_end all files now is = inl (record { front = all; rest = []; split = all_split all; now_is = is })
+module _ (before now : Outside) where
+  record Finished (all : List Action) (ends : Status) (files : Files) (status : Status) (more : List ℕ) : Type 0 where
+    pub status_is : status ≡ ends
+    pub answers : IsAnswerStatus ends
+    pub more_is : more ≡ log_text all
+    pub files_are : HoldsFiles (files_left all files) before now
 
-cut_read : (all : List Action) (files : Files) (x : List ℕ) (now : Option Files) → ReadFailed all files x now → Cut all files now
-unfolding Cut
-cut_read all files x now f = inl (record { front = f.front; rest = ReadOf f.name ∷ f.rest; split = f.split; now_is = f.now_is })
+  Plain : List Action → Status → Files → Status → List ℕ → Type 0
+  Plain all ends files status more =
+      Finished all ends files status more
+      ⊎ (((status ≡ ended.Read) × ReadFailed all files more before now) ⊎ ((status ≡ ended.Write) × WriteFailed all files more before now))
 
-cut_write : (all : List Action) (files : Files) (x : List ℕ) (now : Option Files) → WriteFailed all files x now → Cut all files now
-unfolding Cut
-cut_write all files x now f = inr (record { front = f.front; name = f.name; bytes = f.bytes; rest = f.rest; split = f.split; now_is = f.now_is })
+  plain_more : (action : Action) (all : List Action) (ends : Status) (files : Files) (status : Status) (more : List ℕ)
+      → Plain all ends (files_after action files) status more → Plain (action ∷ all) ends files status (line_of action ++ more)
+  unfolding Plain
+  plain_more action all ends files status more (inl f) =
+      inl (record { status_is = f.status_is; answers = f.answers; more_is = ap (λ (m : List ℕ). line_of action ++ m) f.more_is; files_are = f.files_are })
+  plain_more action all ends files status more (inr (inl (s, f))) =
+      inr (inl (
+        s,
+        record {
+          front = action ∷ f.front;
+          name = f.name;
+          rest = f.rest;
+          split = ap (λ (l : List Action). action ∷ l) f.split;
+          x_is = ap (λ (m : List ℕ). line_of action ++ m) f.x_is ∙ sym (append_assoc (line_of action) (log_text f.front) (fault_line (codes "Read") f.name));
+          files_are = f.files_are;
+        },
+      ))
+  plain_more action all ends files status more (inr (inr (s, f))) =
+      inr (inr (
+        s,
+        record {
+          front = action ∷ f.front;
+          name = f.name;
+          bytes = f.bytes;
+          rest = f.rest;
+          split = ap (λ (l : List Action). action ∷ l) f.split;
+          x_is = ap (λ (m : List ℕ). line_of action ++ m) f.x_is ∙ sym (append_assoc (line_of action) (log_text f.front) (fault_line (codes "Write") f.name));
+          files_are = f.files_are;
+        },
+      ))
 
--- the log after want of memory
-part_of_text : (all : List Action) (files : Files) (reads writes : Type 0) (now : Option Files) (x before : List ℕ) (logged : Option (List ℕ))
-    → IsText all files reads writes now x → TakesPart before x logged → MemoryLog all files reads writes now before logged
-part_of_text all files reads writes now x before logged is part =
-    record { x = x; y = []; x_is = is; y_is = record { rest = x; split = refl; lines = inl refl }; gained = inl part }
+  -- what came of a script, where a store that tells its files told these before
+  plain : (script : Script) (said : List ℕ) (told : Option Files) (files : Files) (status : Status) (log : List ℕ) → (IsSome before.files → told ≡ Some files)
+      → CameOf script said told status log now.files → Behind said log (Plain (actions script) (status_of script) files status)
+  unfolding Plain
+  plain (Ends status) said told files s log link o =
+      record {
+        more = [];
+        x_is = o.0.log_is ∙ sym (append_nil said);
+        holds = inl (record { status_is = o.0.status_is; answers = o.1; more_is = refl; files_are = λ tells. o.0.files ∙ link tells });
+      }
+  plain (Says line rest) said told files s log link o =
+      behind_more said line log _ _ (λ more. plain_more (Line line) (actions rest) (status_of rest) files s more) (plain rest (said ++ line) told files s log link o)
+  plain (Reads name rest) said told files s log link (inl f) =
+      record {
+        more = fault_line (codes "Read") name;
+        x_is = f.log_is;
+        holds = inr (inl (f.status_is, record { front = []; name = name; rest = actions rest; split = refl; x_is = refl; files_are = λ tells. f.files ∙ link tells }));
+      }
+  plain (Reads name rest) said told files s log link (inr o) =
+      behind_more said [] log _ _ (λ more. plain_more (ReadOf name) (actions rest) (status_of rest) files s more)
+      (subst (λ (l : List ℕ). Behind l log (Plain (actions rest) (status_of rest) files s)) (sym (append_nil said)) (plain rest said told files s log link o))
+  plain (Writes name bytes rest) said told files s log link (inl f) =
+      record {
+        more = fault_line (codes "Write") name;
+        x_is = f.log_is;
+        holds = inr (inr (
+          f.status_is,
+          record {
+            front = [];
+            name = name;
+            bytes = bytes;
+            rest = actions rest;
+            split = refl;
+            x_is = refl;
+            files_are = λ tells. subst (λ (t : Option Files). IfSome t (λ held. LeavesPart held name bytes now.files)) (link tells) f.files;
+          },
+        ));
+      }
+  plain (Writes name bytes rest) said told files s log link (inr o) =
+      behind_more said [] log _ _ (λ more. plain_more (WriteOf name bytes) (actions rest) (status_of rest) files s more)
+      (subst (λ (l : List ℕ). Behind l log (Plain (actions rest) (status_of rest) (with_file files name bytes) s)) (sym (append_nil said))
+      (plain rest said (told_with told name bytes) (with_file files name bytes) s log (λ tells. ap (λ (t : Option Files). told_with t name bytes) (link tells)) o))
 
-part_of_line : (all : List Action) (files : Files) (reads writes : Type 0) (now : Option Files) (before : List ℕ) (logged : Option (List ℕ))
-    → TakesPart before memory_line logged → MemoryLog all files reads writes now before logged
-part_of_line all files reads writes now before logged part =
-    record { x = text all; y = []; x_is = inl refl; y_is = record { rest = text all; split = refl; lines = inl refl }; gained = inr part }
+  -- the files of a script that was cut short
+  Cut : List Action → Files → Type 0
+  Cut all files = Between all files before now ⊎ AtWrite all files before now
 
--- what the end of the answer leaves
-of_finished : (all : List Action) (ends : Status) (files : Files) (result : Status) (reads writes rose : Type 0) (before : List ℕ) (now : Option Files) (logged : Option (List ℕ))
-    → IsAnswer ends → now ≡ Some (after all files) → Reported ends (text all) result rose before logged → Leaves all ends files result reads writes rose before now logged
-unfolding Cut
-of_finished all ended.Done files result reads writes rose before now logged answers is (inl (r, l)) =
-    subst (λ (s : Status). Leaves all ended.Done files s reads writes rose before now logged) (sym r) (record { status_is = refl; now_is = is }, l)
-of_finished all ended.Done files result reads writes rose before now logged answers is (inr (inl (r, b, p))) =
-    subst (λ (s : Status). Leaves all ended.Done files s reads writes rose before now logged) (sym r) (record { status_is = refl; now_is = is }, p)
-of_finished all ended.Usage files result reads writes rose before now logged answers is (inl (r, l)) =
-    subst (λ (s : Status). Leaves all ended.Usage files s reads writes rose before now logged) (sym r) (record { status_is = refl; now_is = is }, inl l)
-of_finished all ended.Usage files result reads writes rose before now logged answers is (inr (inl (r, b, p))) =
-    subst (λ (s : Status). Leaves all ended.Usage files s reads writes rose before now logged) (sym r) (record { status_is = refl; now_is = is }, inr (b, p))
-of_finished all ended.Source files result reads writes rose before now logged answers is (inl (r, l)) =
-    subst (λ (s : Status). Leaves all ended.Source files s reads writes rose before now logged) (sym r) (record { status_is = refl; now_is = is }, inl l)
-of_finished all ended.Source files result reads writes rose before now logged answers is (inr (inl (r, b, p))) =
-    subst (λ (s : Status). Leaves all ended.Source files s reads writes rose before now logged) (sym r) (record { status_is = refl; now_is = is }, inr (b, p))
-of_finished all ended.File files result reads writes rose before now logged answers is (inl (r, l)) =
-    subst (λ (s : Status). Leaves all ended.File files s reads writes rose before now logged) (sym r) (record { status_is = refl; now_is = is }, inl l)
-of_finished all ended.File files result reads writes rose before now logged answers is (inr (inl (r, b, p))) =
-    subst (λ (s : Status). Leaves all ended.File files s reads writes rose before now logged) (sym r) (record { status_is = refl; now_is = is }, inr (b, p))
-of_finished all ended.Exists files result reads writes rose before now logged answers is (inl (r, l)) =
-    subst (λ (s : Status). Leaves all ended.Exists files s reads writes rose before now logged) (sym r) (record { status_is = refl; now_is = is }, inl l)
-of_finished all ended.Exists files result reads writes rose before now logged answers is (inr (inl (r, b, p))) =
-    subst (λ (s : Status). Leaves all ended.Exists files s reads writes rose before now logged) (sym r) (record { status_is = refl; now_is = is }, inr (b, p))
-of_finished all ended.Fault files result reads writes rose before now logged answers is (inl (r, l)) =
-    subst (λ (s : Status). Leaves all ended.Fault files s reads writes rose before now logged) (sym r) (record { status_is = refl; now_is = is }, inl l)
-of_finished all ended.Fault files result reads writes rose before now logged answers is (inr (inl (r, b, p))) =
-    subst (λ (s : Status). Leaves all ended.Fault files s reads writes rose before now logged) (sym r) (record { status_is = refl; now_is = is }, inr (b, p))
-of_finished all ended.Object files result reads writes rose before now logged answers is (inl (r, l)) =
-    subst (λ (s : Status). Leaves all ended.Object files s reads writes rose before now logged) (sym r) (record { status_is = refl; now_is = is }, inl l)
-of_finished all ended.Object files result reads writes rose before now logged answers is (inr (inl (r, b, p))) =
-    subst (λ (s : Status). Leaves all ended.Object files s reads writes rose before now logged) (sym r) (record { status_is = refl; now_is = is }, inr (b, p))
-of_finished all ended.Read files result reads writes rose before now logged answers is r = absurd answers
-of_finished all ended.Write files result reads writes rose before now logged answers is r = absurd answers
-of_finished all ended.Log files result reads writes rose before now logged answers is r = absurd answers
-of_finished all ended.Memory files result reads writes rose before now logged answers is r = absurd answers
-of_finished all ends files result reads writes rose before now logged answers is (inr (inr (r, p))) =
-    subst (λ (s : Status). Leaves all ends files s reads writes rose before now logged) (sym r)
-    (cut_end all files now is, part_of_text all files reads writes now (text all) before logged (inl refl) p)
+  cut_more : (action : Action) (all : List Action) (files : Files) → Cut all (files_after action files) → Cut (action ∷ all) files
+  unfolding Cut
+  cut_more action all files (inl b) = inl (record { front = action ∷ b.front; rest = b.rest; split = ap (λ (l : List Action). action ∷ l) b.split; files_are = b.files_are })
+  cut_more action all files (inr b) =
+      inr (record { front = action ∷ b.front; name = b.name; bytes = b.bytes; rest = b.rest; split = ap (λ (l : List Action). action ∷ l) b.split; files_are = b.files_are })
 
-of_read : (all : List Action) (ends : Status) (files : Files) (x : List ℕ) (result : Status) (reads writes rose : Type 0) (before : List ℕ) (now : Option Files) (logged : Option (List ℕ))
-    → reads → ReadFailed all files x now → Reported ended.Read x result rose before logged → Leaves all ends files result reads writes rose before now logged
-unfolding Cut
-of_read all ends files x result reads writes rose before now logged cause f (inl (r, l)) =
-    subst (λ (s : Status). Leaves all ends files s reads writes rose before now logged) (sym r) (x, f, inl l)
-of_read all ends files x result reads writes rose before now logged cause f (inr (inl (r, b, p))) =
-    subst (λ (s : Status). Leaves all ends files s reads writes rose before now logged) (sym r) (x, f, inr (b, p))
-of_read all ends files x result reads writes rose before now logged cause f (inr (inr (r, p))) =
-    subst (λ (s : Status). Leaves all ends files s reads writes rose before now logged) (sym r)
-    (cut_read all files x now f, part_of_text all files reads writes now x before logged (inr (inl (cause, f))) p)
+  cut_here : (all : List Action) (files : Files) → HoldsFiles files before now → Cut all files
+  unfolding Cut
+  cut_here all files same = inl (record { front = []; rest = all; split = refl; files_are = same })
 
-of_write : (all : List Action) (ends : Status) (files : Files) (x : List ℕ) (result : Status) (reads writes rose : Type 0) (before : List ℕ) (now : Option Files) (logged : Option (List ℕ))
-    → writes → WriteFailed all files x now → Reported ended.Write x result rose before logged → Leaves all ends files result reads writes rose before now logged
-unfolding Cut
-of_write all ends files x result reads writes rose before now logged cause f (inl (r, l)) =
-    subst (λ (s : Status). Leaves all ends files s reads writes rose before now logged) (sym r) (x, f, inl l)
-of_write all ends files x result reads writes rose before now logged cause f (inr (inl (r, b, p))) =
-    subst (λ (s : Status). Leaves all ends files s reads writes rose before now logged) (sym r) (x, f, inr (b, p))
-of_write all ends files x result reads writes rose before now logged cause f (inr (inr (r, p))) =
-    subst (λ (s : Status). Leaves all ends files s reads writes rose before now logged) (sym r)
-    (cut_write all files x now f, part_of_text all files reads writes now x before logged (inr (inr (cause, f))) p)
+  cut : (script : Script) (told : Option Files) (files : Files) → (IsSome before.files → told ≡ Some files) → Short script told now.files → Cut (actions script) files
+  unfolding Cut
+  cut (Ends status) told files link o = cut_here [] files (λ tells. o ∙ link tells)
+  cut (Says line rest) told files link (inl o) = cut_here (Line line ∷ actions rest) files (λ tells. o ∙ link tells)
+  cut (Says line rest) told files link (inr o) = cut_more (Line line) (actions rest) files (cut rest told files link o)
+  cut (Reads name rest) told files link (inl o) = cut_here (ReadOf name ∷ actions rest) files (λ tells. o ∙ link tells)
+  cut (Reads name rest) told files link (inr o) = cut_more (ReadOf name) (actions rest) files (cut rest told files link o)
+  cut (Writes name bytes rest) told files link (inl o) =
+      inr (record {
+        front = [];
+        name = name;
+        bytes = bytes;
+        rest = actions rest;
+        split = refl;
+        files_are = λ tells. subst (λ (t : Option Files). IfSome t (λ held. LeavesPart held name bytes now.files)) (link tells) o;
+      })
+  cut (Writes name bytes rest) told files link (inr o) =
+      cut_more (WriteOf name bytes) (actions rest) files (cut rest (told_with told name bytes) (with_file files name bytes) (λ tells. ap (λ (t : Option Files). told_with t name bytes) (link tells)) o)
 
-leaves_plain : (all : List Action) (ends : Status) (files : Files) (status : Status) (x : List ℕ) (result : Status) (reads writes rose : Type 0) (before : List ℕ) (now : Option Files) (logged : Option (List ℕ))
-    → (status ≡ ended.Read → reads) → (status ≡ ended.Write → writes)
-    → Plain all ends files status now x → Reported status x result rose before logged → Leaves all ends files result reads writes rose before now logged
-unfolding Plain
-leaves_plain all ends files status x result reads writes rose before now logged read write (inl f) r =
-    of_finished all ends files result reads writes rose before now logged f.answers f.now_is
-    (subst (λ (y : List ℕ). Reported ends y result rose before logged) f.more_is (subst (λ (s : Status). Reported s x result rose before logged) f.status_is r))
-leaves_plain all ends files status x result reads writes rose before now logged read write (inr (inl (s, f))) r =
-    of_read all ends files x result reads writes rose before now logged (read s) f (subst (λ (t : Status). Reported t x result rose before logged) s r)
-leaves_plain all ends files status x result reads writes rose before now logged read write (inr (inr (s, f))) r =
-    of_write all ends files x result reads writes rose before now logged (write s) f (subst (λ (t : Status). Reported t x result rose before logged) s r)
+  cut_end : (all : List Action) (files : Files) → HoldsFiles (files_left all files) before now → Cut all files
+  unfolding Cut
+  cut_end all files is = inl (record { front = all; rest = []; split = all_split all; files_are = is })
 
-of_behind : (all : List Action) (ends : Status) (files : Files) (status : Status) (x : List ℕ) (now : Option Files) → Behind [] x (Plain all ends files status now) → Plain all ends files status now x
-of_behind all ends files status x now b = subst (λ (y : List ℕ). Plain all ends files status now y) (sym b.x_is) b.holds
+  cut_read : (all : List Action) (files : Files) (x : List ℕ) → ReadFailed all files x before now → Cut all files
+  unfolding Cut
+  cut_read all files x f = inl (record { front = f.front; rest = ReadOf f.name ∷ f.rest; split = f.split; files_are = f.files_are })
 
--- a command that has ended with a status
-pub ok_leaves : (told now : Option Files) (written logged : Option (List ℕ)) (answer : Files → Script) (status result : Status) (x : List ℕ) (reads writes rose : Type 0)
-    → (status ≡ ended.Read → reads) → (status ≡ ended.Write → writes)
-    → IfSome told (λ files. Outcome (answer files) [] files status x now)
-    → IfSome written (λ before. Reported status x result rose before logged)
-    → IfSome told (λ files. IfSome written (λ before. Leaves (actions (answer files)) (status_of (answer files)) files result reads writes rose before now logged))
-ok_leaves None now written logged answer status result x reads writes rose read write o r = tt
-ok_leaves (Some files) now None logged answer status result x reads writes rose read write o r = tt
-ok_leaves (Some files) now (Some before) logged answer status result x reads writes rose read write o r =
-    leaves_plain (actions (answer files)) (status_of (answer files)) files status x result reads writes rose before now logged read write
-    (of_behind (actions (answer files)) (status_of (answer files)) files status x now (plain (answer files) [] files status x now o)) r
+  cut_write : (all : List Action) (files : Files) (x : List ℕ) → WriteFailed all files x before now → Cut all files
+  unfolding Cut
+  cut_write all files x f = inr (record { front = f.front; name = f.name; bytes = f.bytes; rest = f.rest; split = f.split; files_are = f.files_are })
 
-part_of_taken : (line before : List ℕ) (logged : Option (List ℕ)) → TakesLine line before logged → TakesPart before line logged
-part_of_taken line before logged (inl is) = (0, is ∙ ap (λ (l : List ℕ). Some l) (sym (append_nil before)))
-part_of_taken line before logged (inr (inl is)) =
-    let enough : length line ≤ length line = omega arith in
-    (length line, is ∙ ap (λ (l : List ℕ). Some (before ++ l)) (sym (take_all (length line) line enough)))
-part_of_taken line before logged (inr (inr p)) = p
+  -- the log after want of memory
+  part_of_text : (all : List Action) (files : Files) (x : List ℕ) → IsText all files before now x → LogGainsPart x before now → MemoryLog all files before now
+  part_of_text all files x is part = record { x = x; y = []; x_is = is; y_is = record { rest = x; split = refl; lines = inl refl }; gained = inl part }
 
--- a command that has found no memory
-pub err_leaves : (told now : Option Files) (written logged : Option (List ℕ)) (answer : Files → Script) (result : Status) (reads writes rose : Type 0)
-    → result ≡ ended.Memory
-    → IfSome told (λ files. Short (answer files) files now)
-    → IfSome written (λ before. TakesLine memory_line before logged)
-    → IfSome told (λ files. IfSome written (λ before. Leaves (actions (answer files)) (status_of (answer files)) files result reads writes rose before now logged))
-unfolding Cut
-err_leaves None now written logged answer result reads writes rose is o r = tt
-err_leaves (Some files) now None logged answer result reads writes rose is o r = tt
-err_leaves (Some files) now (Some before) logged answer result reads writes rose is o r =
-    subst (λ (s : Status). Leaves (actions (answer files)) (status_of (answer files)) files s reads writes rose before now logged) (sym is)
-    (cut (answer files) files now o, part_of_line (actions (answer files)) files reads writes now before logged (part_of_taken memory_line before logged r))
+  part_of_line : (all : List Action) (files : Files) → LogGainsPart memory_line before now → MemoryLog all files before now
+  part_of_line all files part =
+      record { x = log_text all; y = []; x_is = inl refl; y_is = record { rest = log_text all; split = refl; lines = inl refl }; gained = inr part }
+
+  -- what the end of the answer leaves
+  of_finished : (answer : Script) (files : Files) (status result : Status) → status ≡ status_of answer → IsAnswerStatus status → HoldsFiles (files_left (actions answer) files) before now
+      → Reported status (log_text (actions answer)) (LogRose before now) result before.log now.log → Leaves answer files before now result
+  unfolding Cut
+  of_finished answer files ended.Done result is answers held (inl (r, l)) = subst (Leaves answer files before now) (sym r) (record { status_is = is; files_are = held }, l)
+  of_finished answer files ended.Done result is answers held (inr (inl (r, b, p))) = subst (Leaves answer files before now) (sym r) (record { status_is = is; files_are = held }, b, p)
+  of_finished answer files ended.Usage result is answers held (inl (r, l)) = subst (Leaves answer files before now) (sym r) (record { status_is = is; files_are = held }, inl l)
+  of_finished answer files ended.Usage result is answers held (inr (inl (r, b, p))) = subst (Leaves answer files before now) (sym r) (record { status_is = is; files_are = held }, inr (b, p))
+  of_finished answer files ended.Source result is answers held (inl (r, l)) = subst (Leaves answer files before now) (sym r) (record { status_is = is; files_are = held }, inl l)
+  of_finished answer files ended.Source result is answers held (inr (inl (r, b, p))) = subst (Leaves answer files before now) (sym r) (record { status_is = is; files_are = held }, inr (b, p))
+  of_finished answer files ended.File result is answers held (inl (r, l)) = subst (Leaves answer files before now) (sym r) (record { status_is = is; files_are = held }, inl l)
+  of_finished answer files ended.File result is answers held (inr (inl (r, b, p))) = subst (Leaves answer files before now) (sym r) (record { status_is = is; files_are = held }, inr (b, p))
+  of_finished answer files ended.Exists result is answers held (inl (r, l)) = subst (Leaves answer files before now) (sym r) (record { status_is = is; files_are = held }, inl l)
+  of_finished answer files ended.Exists result is answers held (inr (inl (r, b, p))) = subst (Leaves answer files before now) (sym r) (record { status_is = is; files_are = held }, inr (b, p))
+  of_finished answer files ended.Fault result is answers held (inl (r, l)) = subst (Leaves answer files before now) (sym r) (record { status_is = is; files_are = held }, inl l)
+  of_finished answer files ended.Fault result is answers held (inr (inl (r, b, p))) = subst (Leaves answer files before now) (sym r) (record { status_is = is; files_are = held }, inr (b, p))
+  of_finished answer files ended.Object result is answers held (inl (r, l)) = subst (Leaves answer files before now) (sym r) (record { status_is = is; files_are = held }, inl l)
+  of_finished answer files ended.Object result is answers held (inr (inl (r, b, p))) = subst (Leaves answer files before now) (sym r) (record { status_is = is; files_are = held }, inr (b, p))
+  of_finished answer files ended.Read result is answers held r = absurd answers
+  of_finished answer files ended.Write result is answers held r = absurd answers
+  of_finished answer files ended.Log result is answers held r = absurd answers
+  of_finished answer files ended.Memory result is answers held r = absurd answers
+  of_finished answer files status result is answers held (inr (inr (r, p))) =
+      subst (Leaves answer files before now) (sym r) (cut_end (actions answer) files held, part_of_text (actions answer) files (log_text (actions answer)) (inl refl) p)
+
+  of_read : (answer : Script) (files : Files) (x : List ℕ) (result : Status) → ReadsRose before now → ReadFailed (actions answer) files x before now
+      → Reported ended.Read x (LogRose before now) result before.log now.log → Leaves answer files before now result
+  unfolding Cut
+  of_read answer files x result cause f (inl (r, l)) = subst (Leaves answer files before now) (sym r) (record { cause = cause; x = x; failed = f; gained = inl l })
+  of_read answer files x result cause f (inr (inl (r, b, p))) = subst (Leaves answer files before now) (sym r) (record { cause = cause; x = x; failed = f; gained = inr (b, p) })
+  of_read answer files x result cause f (inr (inr (r, p))) =
+      subst (Leaves answer files before now) (sym r) (cut_read (actions answer) files x f, part_of_text (actions answer) files x (inr (inl (cause, f))) p)
+
+  of_write : (answer : Script) (files : Files) (x : List ℕ) (result : Status) → WritesRose before now → WriteFailed (actions answer) files x before now
+      → Reported ended.Write x (LogRose before now) result before.log now.log → Leaves answer files before now result
+  unfolding Cut
+  of_write answer files x result cause f (inl (r, l)) = subst (Leaves answer files before now) (sym r) (record { cause = cause; x = x; failed = f; gained = inl l })
+  of_write answer files x result cause f (inr (inl (r, b, p))) = subst (Leaves answer files before now) (sym r) (record { cause = cause; x = x; failed = f; gained = inr (b, p) })
+  of_write answer files x result cause f (inr (inr (r, p))) =
+      subst (Leaves answer files before now) (sym r) (cut_write (actions answer) files x f, part_of_text (actions answer) files x (inr (inr (cause, f))) p)
+
+  of_plain : (answer : Script) (files : Files) (status : Status) (x : List ℕ) (result : Status) → (status ≡ ended.Read → ReadsRose before now) → (status ≡ ended.Write → WritesRose before now)
+      → Plain (actions answer) (status_of answer) files status x → Reported status x (LogRose before now) result before.log now.log → Leaves answer files before now result
+  unfolding Plain
+  of_plain answer files status x result read write (inl f) r =
+      of_finished answer files status result f.status_is (subst IsAnswerStatus (sym f.status_is) f.answers) f.files_are
+      (subst (λ (y : List ℕ). Reported status y (LogRose before now) result before.log now.log) f.more_is r)
+  of_plain answer files status x result read write (inr (inl (s, f))) r =
+      of_read answer files x result (read s) f (subst (λ (t : Status). Reported t x (LogRose before now) result before.log now.log) s r)
+  of_plain answer files status x result read write (inr (inr (s, f))) r =
+      of_write answer files x result (write s) f (subst (λ (t : Status). Reported t x (LogRose before now) result before.log now.log) s r)
+
+  of_behind : (answer : Script) (files : Files) (status : Status) (x : List ℕ) → Behind [] x (Plain (actions answer) (status_of answer) files status) → Plain (actions answer) (status_of answer) files status x
+  of_behind answer files status x b = subst (Plain (actions answer) (status_of answer) files status) (sym b.x_is) b.holds
+
+  -- a command that has ended with a status
+  pub ended_leaves : (answer : Script) (files : Files) (status : Status) (x : List ℕ) (result : Status) → (IsSome before.files → before.files ≡ Some files)
+      → (status ≡ ended.Read → ReadsRose before now) → (status ≡ ended.Write → WritesRose before now)
+      → CameOf answer [] before.files status x now.files → Reported status x (LogRose before now) result before.log now.log → Leaves answer files before now result
+  ended_leaves answer files status x result link read write o r =
+      of_plain answer files status x result read write (of_behind answer files status x (plain answer [] before.files files status x link o)) r
+
+  -- a command that has found no memory
+  pub memory_leaves : (answer : Script) (files : Files) → (IsSome before.files → before.files ≡ Some files) → Short answer before.files now.files → TakesSome memory_line before.log now.log
+      → Leaves answer files before now ended.Memory
+  unfolding Cut
+  memory_leaves answer files link o r = (cut answer before.files files link o, part_of_line (actions answer) files r)

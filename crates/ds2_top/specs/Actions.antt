@@ -22,15 +22,15 @@ files_after (Line line) files = files
 files_after (ReadOf name) files = files
 files_after (WriteOf name bytes) files = with_file files name bytes
 
--- the log's text after these actions
-abbrev pub text : List Action → List ℕ
-text [] = []
-text (action ∷ actions) = line_of action ++ text actions
+-- what these actions add to the log
+abbrev pub log_text : List Action → List ℕ
+log_text [] = []
+log_text (action ∷ actions) = line_of action ++ log_text actions
 
 -- the files after these actions
-abbrev pub after : List Action → Files → Files
-after [] files = files
-after (action ∷ actions) files = after actions (files_after action files)
+abbrev pub files_left : List Action → Files → Files
+files_left [] files = files
+files_left (action ∷ actions) files = files_left actions (files_after action files)
 
 -- the actions of a script, in order
 abbrev pub actions : Script → List Action

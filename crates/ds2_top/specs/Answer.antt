@@ -20,6 +20,7 @@ use Rattle.ds2_outside.specs.Files.{Files}
 use Rattle.ds2_top.specs.declared.lines.SourceKind.TheVariants.{NotBuilt, UnknownName}
 use Rattle.ds2_top.specs.declared.load.FileKind.TheVariants as file
 use Rattle.ds2_top.specs.declared.program.OneThreadEnd.{OneThreadEnd}
+use Rattle.ds2_top.specs.declared.run.TheConstants.{SOURCE_LIMIT, TABLE_LIMIT}
 use Rattle.ds2_top.specs.declared.status.Status.TheVariants as ended
 use Rattle.ds2_top.specs.declared.steps.Step.{Step}
 use Rattle.ds2_top.specs.declared.steps.Step.TheVariants.{Say, Write}
@@ -31,24 +32,17 @@ use Rattle.ds2_top.specs.Load.{load_one}
 use Rattle.ds2_top.specs.Script.{Script, Ends, Says, fronts}
 use Rattle.ds2_top.specs.Words.{command_of}
 
--- the most bytes of a source, and of a table's file
-abbrev pub source_limit : ℕ
-source_limit = 262144
-
-abbrev pub table_limit : ℕ
-table_limit = 67108864
-
 -- the file of a table
 abbrev pub table_file : List ℕ → List ℕ
 table_file name = name ++ codes ".csv"
 
 -- a table of so many rows is written, and its rows are counted in the log
-abbrev pub outputs : List ℕ → List ℕ → ℕ → List Step
-outputs name text rows = Write (table_file name) text ∷ Say (table_line name rows) ∷ []
+abbrev pub output_steps : List ℕ → List ℕ → ℕ → List Step
+output_steps name text rows = Write (table_file name) text ∷ Say (table_line name rows) ∷ []
 
 -- a program that has ended without fault writes its table, and one that has ended in a fault writes nothing
 abbrev pub on_ending : List ℕ → List ℕ → ℕ → Ending → Script
-on_ending name text rows Normal = fronts (outputs name text rows) (Ends ended.Done)
+on_ending name text rows Normal = fronts (output_steps name text rows) (Ends ended.Done)
 on_ending name text rows (Faulted fault place) = Says (error_line (fault_text fault) place) (Ends ended.Fault)
 
 -- the rows alone, of rows that were written to an output
@@ -64,7 +58,7 @@ abbrev pub output_text : Program → ProgramEnd → List ℕ
 output_text program end = csv.text (record { columns = variables program; rows = output_rows end })
 
 -- a run tells the text and the number of the rows of a program, and how it has ended
-pub record IsAnswer (program : Program) (end : OneThreadEnd) (answer : ProgramEnd) : Type 0 where
+pub record IsEndOf (program : Program) (end : OneThreadEnd) (answer : ProgramEnd) : Type 0 where
   pub text : end.text ≡ output_text program answer
   pub rows : end.rows ≡ length (output_rows answer)
   pub ending : end.ending ≡ answer.ending
@@ -100,12 +94,12 @@ on_table source budget (Ok table) = on_program source.output (program_over sourc
 -- a source is refused, or its table is read
 abbrev pub on_source : Option Source → ℕ → Files → Script
 on_source None budget files = Says (source_line NotBuilt start_place) (Ends ended.Source)
-on_source (Some source) budget files = load_one table_limit (table_file source.table) files (λ bytes. on_table source budget (reads bytes))
+on_source (Some source) budget files = load_one TABLE_LIMIT (table_file source.table) files (λ bytes. on_table source budget (reads bytes))
 
 -- words that are no command are refused, or the source is read
 abbrev pub on_command : Option Command → Files → Script
 on_command None files = Says usage_line (Ends ended.Usage)
-on_command (Some (Run name budget)) files = load_one source_limit name files (λ text. on_source (source_of text) budget files)
+on_command (Some (Run name budget)) files = load_one SOURCE_LIMIT name files (λ text. on_source (source_of text) budget files)
 
 -- the answer of a line of words over these files
 abbrev pub answer : List (List ℕ) → Files → Script

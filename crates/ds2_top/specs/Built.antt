@@ -8,6 +8,7 @@ use Rattle.ds2_value.specs.declared.ty.Ty.TheVariants.{BigInt, Decimal, Char, Va
 use Rattle.ds2_meaning.specs.Names.{first_listed}
 use Rattle.ds2_meaning.specs.Program.{Program, lists_name, names_of}
 
+-- a type is BIGINT
 abbrev pub is_bigint : Ty → Bool
 is_bigint BigInt = true
 is_bigint (Decimal p s) = false

@@ -1,5 +1,5 @@
 -- A runtime fault of a command: the first of the one-thread meaning.
-use Rattle.std.specs.Prelude.{◌≡◌, ℕ, true, List, Option, Some, None, Ok}
+use Rattle.std.specs.Prelude.{◌≡◌, ℕ, true, List, Some, None, Ok}
 use Rattle.ds2_base.specs.declared.place.Place.{Place}
 use Rattle.ds2_value.specs.declared.fault.Fault.{Fault}
 use Rattle.ds2_value.specs.declared.fault.Ending.TheVariants.{Faulted}
@@ -10,11 +10,12 @@ use Rattle.ds2_meaning.specs.Program.{one_thread_answer}
 use Rattle.ds2_draft_source.specs.Source.{Source, source_of}
 use Rattle.ds2_outside.specs.Files.{Files, file}
 use Rattle.ds2_top.specs.declared.words.Command.TheVariants.{Run}
-use Rattle.ds2_top.specs.Answer.{program_over, source_limit, table_file, table_limit}
+use Rattle.ds2_top.specs.declared.run.TheConstants.{SOURCE_LIMIT, TABLE_LIMIT}
+use Rattle.ds2_top.specs.Answer.{program_over, table_file}
 use Rattle.ds2_top.specs.Built.{is_built}
-use Rattle.ds2_top.specs.Leaves.{Gained}
 use Rattle.ds2_top.specs.Lines.{error_line, fault_text}
-use Rattle.ds2_top.specs.Load.{bounded}
+use Rattle.ds2_top.specs.Load.{within_limit}
+use Rattle.ds2_top.specs.Outside.{Outside, Gained, HoldsFiles}
 use Rattle.ds2_top.specs.Words.{command_of}
 
 -- the words name a source, the source a table, and the one-thread meaning of the source over the table ends in this fault at this place
@@ -26,18 +27,18 @@ pub record FirstFault (words : List (List ℕ)) (files : Files) (fault : Fault) 
   pub bytes : List ℕ
   pub table : Contents
   pub command_is : command_of words ≡ Some (Run name budget)
-  pub text_is : bounded source_limit (file files name) ≡ Ok text
+  pub text_is : within_limit SOURCE_LIMIT (file files name) ≡ Ok text
   pub source_is : source_of text ≡ Some source
-  pub bytes_are : bounded table_limit (file files (table_file source.table)) ≡ Ok bytes
+  pub bytes_are : within_limit TABLE_LIMIT (file files (table_file source.table)) ≡ Ok bytes
   pub table_is : reads bytes ≡ Ok table
   pub built : is_built (program_over source table.columns) ≡ true
   pub names_known : first_unknown (program_over source table.columns) ≡ None
   pub ends : (one_thread_answer (program_over source table.columns) table.rows budget).ending ≡ Faulted fault place
 
--- the log has gained the line of the first fault, and no file has changed
-pub record LeavesFault (words : List (List ℕ)) (files : Files) (rose : Type 0) (before : List ℕ) (now : Option Files) (logged : Option (List ℕ)) : Type 0 where
+-- no file has changed, and the log has gained the line of the first fault or, where it has failed, a first part of it
+pub record LeavesFault (words : List (List ℕ)) (files : Files) (before now : Outside) : Type 0 where
   pub fault : Fault
   pub place : Place
   pub first : FirstFault words files fault place
-  pub now_is : now ≡ Some files
-  pub gained : Gained (error_line (fault_text fault) place) rose before logged
+  pub files_are : HoldsFiles files before now
+  pub gained : Gained (error_line (fault_text fault) place) before now

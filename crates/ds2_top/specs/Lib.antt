@@ -1,12 +1,15 @@
 pub mod Actions
 pub mod Answer
 pub mod Built
-pub mod Course
 pub mod Fault
+pub mod Halt
+pub mod Headline
 pub mod Leaves
 pub mod Lines
 pub mod Load
 pub mod Outcome
+pub mod Outside
+pub mod Reported
 pub mod Script
 pub mod Status
 pub mod Words

@@ -18,32 +18,18 @@ code_of Object = 10
 code_of Memory = 11
 
 -- a status that an answer may have: neither a fault of the outside nor want of memory
-abbrev pub IsAnswer : Status → Type 0
-IsAnswer Done = Unit {0}
-IsAnswer Usage = Unit {0}
-IsAnswer Source = Unit {0}
-IsAnswer File = Unit {0}
-IsAnswer Exists = Unit {0}
-IsAnswer Fault = Unit {0}
-IsAnswer Read = ⊥
-IsAnswer Write = ⊥
-IsAnswer Log = ⊥
-IsAnswer Object = Unit {0}
-IsAnswer Memory = ⊥
-
--- a status that a command of these words may have before its log is written
-abbrev pub IsOfCommand : Status → Type 0
-IsOfCommand Done = Unit {0}
-IsOfCommand Usage = ⊥
-IsOfCommand Source = Unit {0}
-IsOfCommand File = Unit {0}
-IsOfCommand Exists = Unit {0}
-IsOfCommand Fault = Unit {0}
-IsOfCommand Read = Unit {0}
-IsOfCommand Write = Unit {0}
-IsOfCommand Log = ⊥
-IsOfCommand Object = Unit {0}
-IsOfCommand Memory = ⊥
+abbrev pub IsAnswerStatus : Status → Type 0
+IsAnswerStatus Done = Unit {0}
+IsAnswerStatus Usage = Unit {0}
+IsAnswerStatus Source = Unit {0}
+IsAnswerStatus File = Unit {0}
+IsAnswerStatus Exists = Unit {0}
+IsAnswerStatus Fault = Unit {0}
+IsAnswerStatus Read = ⊥
+IsAnswerStatus Write = ⊥
+IsAnswerStatus Log = ⊥
+IsAnswerStatus Object = Unit {0}
+IsAnswerStatus Memory = ⊥
 
 -- a status that refuses what the command was given: its words or a file
 abbrev pub IsRefusal : Status → Type 0

@@ -4,6 +4,7 @@ use Rattle.std.specs.List.{list_all, ends_with}
 use Rattle.std.specs.Char.{is_ascii_alphanumeric, is_ascii_digit}
 use Rattle.ds2_top.specs.declared.words.Command.{Command}
 use Rattle.ds2_top.specs.declared.words.Command.TheVariants.{Run}
+use Rattle.ds2_top.specs.declared.words.TheConstants.{DEFAULT_BUDGET, MOST_BUDGET}
 
 -- ASCII letters, digits, `_`, `-` and `.`
 abbrev pub is_file_char : ℕ → Bool
@@ -26,22 +27,18 @@ abbrev pub is_number : List ℕ → Bool
 is_number word = nat_lt 0 (length word) && not (slice_index word 0 == 48) && list_all is_ascii_digit word
 
 -- the number that digits write after the number so far
-abbrev pub number_from : ℕ → List ℕ → ℕ
-number_from number [] = number
-number_from number (digit ∷ digits) = number_from (10 * number + (digit - 48)) digits
+abbrev pub decimal_from : ℕ → List ℕ → ℕ
+decimal_from number [] = number
+decimal_from number (digit ∷ digits) = decimal_from (10 * number + (digit - 48)) digits
 
 -- the number that a word writes, where it is none above `most`
 abbrev pub number_within : ℕ → List ℕ → Option ℕ
-number_within most word = if is_number word && nat_le (number_from 0 word) most then Some (number_from 0 word) else None
-
--- the most steps that a budget may have
-abbrev pub most_budget : ℕ
-most_budget = 1000000000
+number_within most word = if is_number word && nat_le (decimal_from 0 word) most then Some (decimal_from 0 word) else None
 
 -- no option, or a budget and its number
 abbrev pub budget_of : List (List ℕ) → Option ℕ
-budget_of [] = Some 10000000
-budget_of (option ∷ number ∷ []) = if bytes_eq option (codes "--budget") then number_within most_budget number else None
+budget_of [] = Some DEFAULT_BUDGET
+budget_of (option ∷ number ∷ []) = if bytes_eq option (codes "--budget") then number_within MOST_BUDGET number else None
 budget_of options = None
 
 -- the command to run a source, where there is a budget
@@ -52,6 +49,10 @@ run_of source (Some budget) = Some (Run source budget)
 -- the budget of a command
 abbrev pub budget_in : Command → ℕ
 budget_in (Run source budget) = budget
+
+-- the source of a command
+abbrev pub source_in : Command → List ℕ
+source_in (Run source budget) = source
 
 -- the command of a line of words, where it is one
 abbrev pub command_of : List (List ℕ) → Option Command

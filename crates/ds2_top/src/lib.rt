@@ -1,11 +1,8 @@
 //! The top call: what a line of words does to a store of files and a log.
 #![tactic(auto)]
 
-#[cfg(test)]
-mod budget_tests;
 mod built;
-#[cfg(test)]
-mod layer_tests;
+mod halt;
 mod lines;
 mod load;
 mod output_text;
@@ -17,8 +14,11 @@ mod status;
 mod steps;
 #[cfg(test)]
 mod tests;
+#[cfg(test)]
+mod tests;
 mod top;
 mod words;
 
+use halt::Halt;
 pub use status::Status;
 pub use top::{ds2, ds2_alone};

@@ -1,16 +1,14 @@
 //! What a program leaves that has ended.
-ghost use Rattle.std.specs.Prelude.{◌≡◌, ◌++◌, codes, IfSome, IfOk, IsOkAnd};
+ghost use Rattle.std.specs.Prelude.{◌≡◌, ◌++◌, codes, IfOk};
 ghost use Rattle.ds2_value.specs.declared.fault.Ending.TheVariants.{Normal};
-ghost use Rattle.ds2_outside.specs.Causes.{HasCause};
 ghost use Rattle.ds2_top.specs.Lines.{table_line};
-ghost use Rattle.ds2_top.specs.Answer.{on_ending, outputs, table_file};
-ghost use Rattle.ds2_top.specs.Course.{Left};
-ghost use Rattle.ds2_top.specs.Status.{IsOfCommand};
+ghost use Rattle.ds2_top.specs.Answer.{on_ending, output_steps, table_file};
+ghost use Rattle.ds2_top.specs.Halt.{Caused, DoesAll};
 
-use crate::Status;
 use crate::lines::{say_error, table_line};
 use crate::program::OneThreadEnd;
-use crate::steps::{Step, perform_all};
+use crate::steps::{Step, perform};
+use crate::{Halt, Status};
 use ds2_base::{Bytes, List, Name, OutOfMemory, Text};
 use ds2_outside::Store;
 use ds2_value::Ending;
@@ -33,8 +31,13 @@ fn say_table(alloc: Global, name: &Name, rows: u64) -> Result<Step, OutOfMemory>
 }
 
 // The steps that write a table and count its rows in the log.
-fn outputs(alloc: Global, name: &Name, text: Bytes, rows: u64) -> Result<List<Step>, OutOfMemory>
-    ensures { IfOk result (λ steps. steps ≡ outputs name.now text rows) }
+fn output_steps(
+    alloc: Global,
+    name: &Name,
+    text: Bytes,
+    rows: u64,
+) -> Result<List<Step>, OutOfMemory>
+    ensures { IfOk result (λ steps. steps ≡ output_steps name.now text rows) }
 {
     let mut steps = List::new(alloc);
     let file = table_file(alloc, name)?;
@@ -51,14 +54,13 @@ fn write_outputs<S: Store>(
     rows: u64,
     log: &mut Bytes,
     store: &mut S,
-) -> Result<Status, OutOfMemory>
-    ensures left { IfSome (S.files store.old) (λ files. Left (on_ending name.now text rows Normal) log.old files result log.new (S.files store.new)) }
-    ensures read { HasCause (S.read_faults store.old) (S.read_faults store.new) (IsOkAnd result (λ status. status ≡ Status.Read)) }
-    ensures write { HasCause (S.write_faults store.old) (S.write_faults store.new) (IsOkAnd result (λ status. status ≡ Status.Write)) }
-    ensures status { IfOk result IsOfCommand }
+) -> Result<(), Halt>
+    ensures does { DoesAll (on_ending name.now text rows Normal) log.old (S.files store.old) result log.new (S.files store.new) }
+    ensures read { Caused Status.Read result (S.read_faults store.old) (S.read_faults store.new) }
+    ensures write { Caused Status.Write result (S.write_faults store.old) (S.write_faults store.new) }
 {
-    let steps = outputs(alloc, name, text, rows)?;
-    perform_all(alloc, steps.as_slice(), Status::Done, log, store)
+    let steps = output_steps(alloc, name, text, rows)?;
+    perform(alloc, steps.as_slice(), log, store)
 }
 
 /// Writes the table of a program, or says in which fault the program has ended.
@@ -68,17 +70,16 @@ pub(crate) fn finish<S: Store>(
     end: OneThreadEnd,
     log: &mut Bytes,
     store: &mut S,
-) -> Result<Status, OutOfMemory>
-    ensures left { IfSome (S.files store.old) (λ files. Left (on_ending name.now end.text end.rows end.ending) log.old files result log.new (S.files store.new)) }
-    ensures read { HasCause (S.read_faults store.old) (S.read_faults store.new) (IsOkAnd result (λ status. status ≡ Status.Read)) }
-    ensures write { HasCause (S.write_faults store.old) (S.write_faults store.new) (IsOkAnd result (λ status. status ≡ Status.Write)) }
-    ensures status { IfOk result IsOfCommand }
+) -> Result<(), Halt>
+    ensures does { DoesAll (on_ending name.now end.text end.rows end.ending) log.old (S.files store.old) result log.new (S.files store.new) }
+    ensures read { Caused Status.Read result (S.read_faults store.old) (S.read_faults store.new) }
+    ensures write { Caused Status.Write result (S.write_faults store.old) (S.write_faults store.new) }
 {
     match end.ending {
         Ending::Normal => write_outputs(alloc, name, end.text, end.rows, log, store),
         Ending::Faulted { kind, place } => {
             say_error(alloc, kind, place, log)?;
-            Ok(Status::Fault)
+            Err(Halt::Ended(Status::Fault))
         }
     }
 }

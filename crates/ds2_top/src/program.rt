@@ -4,15 +4,16 @@ ghost use Rattle.ds2_value.specs.declared.ty.Ty.TheVariants.{BigInt};
 ghost use Rattle.ds2_meaning.specs.Names.{AllKnown};
 ghost use Rattle.ds2_meaning.specs.Program.{one_thread_answer};
 ghost use Rattle.ds2_meaning.specs.View.{program_of};
+ghost use Rattle.ds2_layout.specs.Slots.{slot_names};
 ghost use Rattle.ds2_draft_source.specs.Source.{tree_of};
-ghost use Rattle.ds2_top.specs.Answer.{IsAnswer, program_over};
-ghost use Rattle.ds2_top.specs.Words.{most_budget};
+ghost use Rattle.ds2_top.specs.declared.words.TheConstants.{MOST_BUDGET};
+ghost use Rattle.ds2_top.specs.Answer.{IsEndOf, program_over};
 
 use crate::output_text::OutputText;
 use ds2_base::{Bytes, List, Name, OutOfMemory};
 use ds2_draft_source::Source;
 use ds2_gen::generate;
-use ds2_layout::variables;
+use ds2_layout::{Layout, variables};
 use ds2_meaning::TypedData;
 use ds2_unit::run_into;
 use ds2_value::{Column, Ending, Row, Ty};
@@ -85,15 +86,17 @@ pub struct OneThreadEnd {
 pub(crate) fn one_thread_end(
     alloc: Global,
     program: &TypedData,
+    layout: &Layout,
     rows: &[Row],
     budget: u64,
 ) -> Result<OneThreadEnd, OutOfMemory>
+    requires layout { layout.now ≡ slot_names (program_of program.now) }
     requires known { AllKnown (program_of program.now) }
     requires even { All (λ row. length row ≡ length program.now.columns) rows.now }
-    requires budget { budget ≤ most_budget }
-    ensures { IfOk result (λ end. IsAnswer (program_of program.now) end (one_thread_answer (program_of program.now) rows.now budget)) }
+    requires budget { budget ≤ MOST_BUDGET }
+    ensures { IfOk result (λ end. IsEndOf (program_of program.now) end (one_thread_answer (program_of program.now) rows.now budget)) }
 {
-    let code = generate(alloc, program)?;
+    let code = generate(alloc, program, layout)?;
     let sink = OutputText::new(alloc, variables(alloc, program)?)?;
     let end = run_into(alloc, &code, rows, budget, sink)?;
     let rows = end.rows.len();

@@ -1,55 +1,59 @@
 //! What a line of words does to a store, and the text that it gives for the log.
-ghost use Rattle.std.specs.Prelude.{◌≡◌, ◌≢◌, ◌≤◌, true, All, IfSome, IfOk, IsOkAnd, length};
-ghost use Rattle.ds2_outside.specs.Causes.{HasCause};
+ghost use Rattle.std.specs.Prelude.{◌≡◌, ◌≤◌, true, All, IfOk, IsTrue, length};
 ghost use Rattle.ds2_meaning.specs.Names.{AllKnown};
 ghost use Rattle.ds2_meaning.specs.View.{program_of};
+ghost use Rattle.ds2_layout.specs.Slots.{slot_names};
 ghost use Rattle.ds2_draft_source.specs.Source.{source_of, tree_of};
 ghost use Rattle.ds2_csv.specs.Reads.{reads};
 ghost use Rattle.ds2_top.specs.declared.words.Command.TheVariants.{Run};
+ghost use Rattle.ds2_top.specs.declared.words.TheConstants.{MOST_BUDGET};
 ghost use Rattle.ds2_top.specs.Answer.{answer, on_built, on_command, on_names, on_program, on_source, on_table};
-ghost use Rattle.ds2_top.specs.Status.{IsOfCommand};
-ghost use Rattle.ds2_top.specs.Words.{command_of, most_budget};
-ghost use Rattle.ds2_top.specs.Course.{Left};
+ghost use Rattle.ds2_top.specs.Halt.{Caused, DoesAll};
+ghost use Rattle.ds2_top.specs.Load.{OverFiles};
+ghost use Rattle.ds2_top.specs.Words.{budget_in, is_source, source_in};
 
-use crate::Status;
 use crate::built::is_built;
 use crate::lines::{SourceKind, say_refused, say_source_refused};
-use crate::load::{FileKind, Seen, load_one};
+use crate::load::{FileKind, load_one};
 use crate::outputs::{finish, table_file};
 use crate::program::{copy_columns, one_thread_end, program_over};
 use crate::words::{Command, read_words};
-use ds2_base::{Bytes, OutOfMemory, Place, Stop, Text};
+use crate::{Halt, Status};
+use ds2_base::{Bytes, Place, Stop, Text};
 use ds2_csv::read_table;
 use ds2_draft_source::{Source, read_source};
-use ds2_layout::first_unknown;
+use ds2_layout::{Layout, first_unknown, lay_out};
 use ds2_meaning::TypedData;
 use ds2_outside::Store;
 use ds2_table::Table;
 use ds2_value::Row;
 use std::alloc::Global;
 
-const SOURCE_LIMIT: u64 = 262_144;
+/// The most bytes of a source.
+pub const SOURCE_LIMIT: u64 = 262_144;
 
-const TABLE_LIMIT: u64 = 67_108_864;
+/// The most bytes of a table's file.
+pub const TABLE_LIMIT: u64 = 67_108_864;
 
 // Runs a program whose names are known.
 fn run_known<S: Store>(
     alloc: Global,
     program: &TypedData,
+    layout: &Layout,
     rows: &[Row],
     budget: u64,
     log: &mut Bytes,
     store: &mut S,
-) -> Result<Status, OutOfMemory>
+) -> Result<(), Halt>
+    requires layout { layout.now ≡ slot_names (program_of program.now) }
     requires known { AllKnown (program_of program.now) }
     requires even { All (λ row. length row ≡ length program.now.columns) rows.now }
-    requires budget { budget ≤ most_budget }
-    ensures left { IfSome (S.files store.old) (λ files. Left (on_names None program.now.output (program_of program.now) rows.now budget) log.old files result log.new (S.files store.new)) }
-    ensures read { HasCause (S.read_faults store.old) (S.read_faults store.new) (IsOkAnd result (λ status. status ≡ Status.Read)) }
-    ensures write { HasCause (S.write_faults store.old) (S.write_faults store.new) (IsOkAnd result (λ status. status ≡ Status.Write)) }
-    ensures status { IfOk result IsOfCommand }
+    requires budget { budget ≤ MOST_BUDGET }
+    ensures does { DoesAll (on_names None program.now.output (program_of program.now) rows.now budget) log.old (S.files store.old) result log.new (S.files store.new) }
+    ensures read { Caused Status.Read result (S.read_faults store.old) (S.read_faults store.new) }
+    ensures write { Caused Status.Write result (S.write_faults store.old) (S.write_faults store.new) }
 {
-    let end = one_thread_end(alloc, program, rows, budget)?;
+    let end = one_thread_end(alloc, program, layout, rows, budget)?;
     finish(alloc, &program.output, end, log, store)
 }
 
@@ -61,19 +65,19 @@ fn run_built<S: Store>(
     budget: u64,
     log: &mut Bytes,
     store: &mut S,
-) -> Result<Status, OutOfMemory>
+) -> Result<(), Halt>
     requires even { All (λ row. length row ≡ length program.now.columns) rows.now }
-    requires budget { budget ≤ most_budget }
-    ensures left { IfSome (S.files store.old) (λ files. Left (on_built true program.now.output (program_of program.now) rows.now budget) log.old files result log.new (S.files store.new)) }
-    ensures read { HasCause (S.read_faults store.old) (S.read_faults store.new) (IsOkAnd result (λ status. status ≡ Status.Read)) }
-    ensures write { HasCause (S.write_faults store.old) (S.write_faults store.new) (IsOkAnd result (λ status. status ≡ Status.Write)) }
-    ensures status { IfOk result IsOfCommand }
+    requires budget { budget ≤ MOST_BUDGET }
+    ensures does { DoesAll (on_built true program.now.output (program_of program.now) rows.now budget) log.old (S.files store.old) result log.new (S.files store.new) }
+    ensures read { Caused Status.Read result (S.read_faults store.old) (S.read_faults store.new) }
+    ensures write { Caused Status.Write result (S.write_faults store.old) (S.write_faults store.new) }
 {
-    match first_unknown(alloc, program)? {
-        None => run_known(alloc, program, rows, budget, log, store),
+    let layout = lay_out(alloc, program)?;
+    match first_unknown(&layout, program) {
+        None => run_known(alloc, program, &layout, rows, budget, log, store),
         Some(place) => {
             say_source_refused(alloc, SourceKind::UnknownName, place, log)?;
-            Ok(Status::Source)
+            Err(Halt::Ended(Status::Source))
         }
     }
 }
@@ -86,19 +90,18 @@ fn run_program<S: Store>(
     budget: u64,
     log: &mut Bytes,
     store: &mut S,
-) -> Result<Status, OutOfMemory>
+) -> Result<(), Halt>
     requires even { All (λ row. length row ≡ length program.now.columns) rows.now }
-    requires budget { budget ≤ most_budget }
-    ensures left { IfSome (S.files store.old) (λ files. Left (on_program program.now.output (program_of program.now) rows.now budget) log.old files result log.new (S.files store.new)) }
-    ensures read { HasCause (S.read_faults store.old) (S.read_faults store.new) (IsOkAnd result (λ status. status ≡ Status.Read)) }
-    ensures write { HasCause (S.write_faults store.old) (S.write_faults store.new) (IsOkAnd result (λ status. status ≡ Status.Write)) }
-    ensures status { IfOk result IsOfCommand }
+    requires budget { budget ≤ MOST_BUDGET }
+    ensures does { DoesAll (on_program program.now.output (program_of program.now) rows.now budget) log.old (S.files store.old) result log.new (S.files store.new) }
+    ensures read { Caused Status.Read result (S.read_faults store.old) (S.read_faults store.new) }
+    ensures write { Caused Status.Write result (S.write_faults store.old) (S.write_faults store.new) }
 {
     if is_built(alloc, program)? {
         run_built(alloc, program, rows, budget, log, store)
     } else {
         say_source_refused(alloc, SourceKind::NotBuilt, Place::start(), log)?;
-        Ok(Status::Source)
+        Err(Halt::Ended(Status::Source))
     }
 }
 
@@ -110,12 +113,11 @@ fn run_table<S: Store>(
     budget: u64,
     log: &mut Bytes,
     store: &mut S,
-) -> Result<Status, OutOfMemory>
-    requires budget { budget ≤ most_budget }
-    ensures left { IfSome (S.files store.old) (λ files. Left (on_table (tree_of source) budget (Ok table.now)) log.old files result log.new (S.files store.new)) }
-    ensures read { HasCause (S.read_faults store.old) (S.read_faults store.new) (IsOkAnd result (λ status. status ≡ Status.Read)) }
-    ensures write { HasCause (S.write_faults store.old) (S.write_faults store.new) (IsOkAnd result (λ status. status ≡ Status.Write)) }
-    ensures status { IfOk result IsOfCommand }
+) -> Result<(), Halt>
+    requires budget { budget ≤ MOST_BUDGET }
+    ensures does { DoesAll (on_table (tree_of source) budget (Ok table.now)) log.old (S.files store.old) result log.new (S.files store.new) }
+    ensures read { Caused Status.Read result (S.read_faults store.old) (S.read_faults store.new) }
+    ensures write { Caused Status.Write result (S.write_faults store.old) (S.write_faults store.new) }
 {
     let columns = copy_columns(alloc, table.schema().columns().as_slice())?;
     let program = program_over(alloc, source, columns)?;
@@ -130,21 +132,20 @@ fn run_bytes<S: Store>(
     budget: u64,
     log: &mut Bytes,
     store: &mut S,
-) -> Result<Status, OutOfMemory>
-    requires { budget ≤ most_budget }
-    ensures left { IfSome (S.files store.old) (λ files. Left (on_table (tree_of source) budget (reads bytes.now)) log.old files result log.new (S.files store.new)) }
-    ensures read { HasCause (S.read_faults store.old) (S.read_faults store.new) (IsOkAnd result (λ status. status ≡ Status.Read)) }
-    ensures write { HasCause (S.write_faults store.old) (S.write_faults store.new) (IsOkAnd result (λ status. status ≡ Status.Write)) }
-    ensures status { IfOk result IsOfCommand }
+) -> Result<(), Halt>
+    requires { budget ≤ MOST_BUDGET }
+    ensures does { DoesAll (on_table (tree_of source) budget (reads bytes.now)) log.old (S.files store.old) result log.new (S.files store.new) }
+    ensures read { Caused Status.Read result (S.read_faults store.old) (S.read_faults store.new) }
+    ensures write { Caused Status.Write result (S.write_faults store.old) (S.write_faults store.new) }
 {
     match read_table(alloc, bytes) {
         Ok(table) => run_table(alloc, source, &table, budget, log, store),
         Err(Stop::Refused(refusal)) => {
             let name = table_file(alloc, &source.table)?;
             say_refused(alloc, &name, FileKind::Table(refusal), log)?;
-            Ok(Status::File)
+            Err(Halt::Ended(Status::File))
         }
-        Err(Stop::OutOfMemory) => Err(OutOfMemory),
+        Err(Stop::OutOfMemory) => Err(Halt::OutOfMemory),
     }
 }
 
@@ -155,18 +156,15 @@ fn run_source<S: Store>(
     budget: u64,
     log: &mut Bytes,
     store: &mut S,
-) -> Result<Status, OutOfMemory>
-    requires { budget ≤ most_budget }
-    ensures left { IfSome (S.files store.old) (λ files. Left (on_source (Some (tree_of source)) budget files) log.old files result log.new (S.files store.new)) }
-    ensures read { HasCause (S.read_faults store.old) (S.read_faults store.new) (IsOkAnd result (λ status. status ≡ Status.Read)) }
-    ensures write { HasCause (S.write_faults store.old) (S.write_faults store.new) (IsOkAnd result (λ status. status ≡ Status.Write)) }
-    ensures status { IfOk result IsOfCommand }
+) -> Result<(), Halt>
+    requires { budget ≤ MOST_BUDGET }
+    ensures does { OverFiles (S.files store.old) (λ files. DoesAll (on_source (Some (tree_of source)) budget files) log.old (S.files store.old) result log.new (S.files store.new)) }
+    ensures read { Caused Status.Read result (S.read_faults store.old) (S.read_faults store.new) }
+    ensures write { Caused Status.Write result (S.write_faults store.old) (S.write_faults store.new) }
 {
     let name = table_file(alloc, &source.table)?;
-    match load_one(alloc, &name, TABLE_LIMIT, log, store)? {
-        Seen::Ended(status) => Ok(status),
-        Seen::Found(bytes) => run_bytes(alloc, source, &bytes, budget, log, store),
-    }
+    let bytes = load_one(alloc, &name, TABLE_LIMIT, log, store)?;
+    run_bytes(alloc, source, &bytes, budget, log, store)
 }
 
 // Runs the source of a text, or refuses it.
@@ -176,18 +174,17 @@ fn run_text<S: Store>(
     budget: u64,
     log: &mut Bytes,
     store: &mut S,
-) -> Result<Status, OutOfMemory>
-    requires { budget ≤ most_budget }
-    ensures left { IfSome (S.files store.old) (λ files. Left (on_source (source_of text.now) budget files) log.old files result log.new (S.files store.new)) }
-    ensures read { HasCause (S.read_faults store.old) (S.read_faults store.new) (IsOkAnd result (λ status. status ≡ Status.Read)) }
-    ensures write { HasCause (S.write_faults store.old) (S.write_faults store.new) (IsOkAnd result (λ status. status ≡ Status.Write)) }
-    ensures status { IfOk result IsOfCommand }
+) -> Result<(), Halt>
+    requires { budget ≤ MOST_BUDGET }
+    ensures does { OverFiles (S.files store.old) (λ files. DoesAll (on_source (source_of text.now) budget files) log.old (S.files store.old) result log.new (S.files store.new)) }
+    ensures read { Caused Status.Read result (S.read_faults store.old) (S.read_faults store.new) }
+    ensures write { Caused Status.Write result (S.write_faults store.old) (S.write_faults store.new) }
 {
     match read_source(alloc, text.as_slice())? {
         Some(source) => run_source(alloc, source, budget, log, store),
         None => {
             say_source_refused(alloc, SourceKind::NotBuilt, Place::start(), log)?;
-            Ok(Status::Source)
+            Err(Halt::Ended(Status::Source))
         }
     }
 }
@@ -199,17 +196,31 @@ fn run_command<S: Store>(
     budget: u64,
     log: &mut Bytes,
     store: &mut S,
-) -> Result<Status, OutOfMemory>
-    requires { budget ≤ most_budget }
-    ensures left { IfSome (S.files store.old) (λ files. Left (on_command (Some (Run name.now budget)) files) log.old files result log.new (S.files store.new)) }
-    ensures read { HasCause (S.read_faults store.old) (S.read_faults store.new) (IsOkAnd result (λ status. status ≡ Status.Read)) }
-    ensures write { HasCause (S.write_faults store.old) (S.write_faults store.new) (IsOkAnd result (λ status. status ≡ Status.Write)) }
-    ensures status { IfOk result IsOfCommand }
+) -> Result<(), Halt>
+    requires budget { budget ≤ MOST_BUDGET }
+    requires named { IsTrue (is_source name.now) }
+    ensures does { OverFiles (S.files store.old) (λ files. DoesAll (on_command (Some (Run name.now budget)) files) log.old (S.files store.old) result log.new (S.files store.new)) }
+    ensures read { Caused Status.Read result (S.read_faults store.old) (S.read_faults store.new) }
+    ensures write { Caused Status.Write result (S.write_faults store.old) (S.write_faults store.new) }
 {
-    match load_one(alloc, name, SOURCE_LIMIT, log, store)? {
-        Seen::Ended(status) => Ok(status),
-        Seen::Found(text) => run_text(alloc, &text, budget, log, store),
-    }
+    let text = load_one(alloc, name, SOURCE_LIMIT, log, store)?;
+    run_text(alloc, &text, budget, log, store)
+}
+
+// Does a command.
+fn do_command<S: Store>(
+    alloc: Global,
+    command: &Command,
+    log: &mut Bytes,
+    store: &mut S,
+) -> Result<(), Halt>
+    requires budget { budget_in command.now ≤ MOST_BUDGET }
+    requires named { IsTrue (is_source (source_in command.now)) }
+    ensures does { OverFiles (S.files store.old) (λ files. DoesAll (on_command (Some command.now) files) log.old (S.files store.old) result log.new (S.files store.new)) }
+    ensures read { Caused Status.Read result (S.read_faults store.old) (S.read_faults store.new) }
+    ensures write { Caused Status.Write result (S.write_faults store.old) (S.write_faults store.new) }
+{
+    run_command(alloc, command.source(), command.budget(), log, store)
 }
 
 /// Does what a line of words says, but for the writing of the log.
@@ -218,17 +229,16 @@ pub(crate) fn run<S: Store>(
     words: &[Text],
     log: &mut Bytes,
     store: &mut S,
-) -> Result<Status, OutOfMemory>
-    ensures left { IfSome (S.files store.old) (λ files. Left (answer words.now files) log.old files result log.new (S.files store.new)) }
-    ensures read { HasCause (S.read_faults store.old) (S.read_faults store.new) (IsOkAnd result (λ status. status ≡ Status.Read)) }
-    ensures write { HasCause (S.write_faults store.old) (S.write_faults store.new) (IsOkAnd result (λ status. status ≡ Status.Write)) }
-    ensures status { IfOk result (λ status. (status ≢ Status.Log) × ((status ≡ Status.Usage → command_of words.now ≡ None) × (command_of words.now ≡ None → status ≡ Status.Usage))) }
+) -> Result<(), Halt>
+    ensures does { OverFiles (S.files store.old) (λ files. DoesAll (answer words.now files) log.old (S.files store.old) result log.new (S.files store.new)) }
+    ensures read { Caused Status.Read result (S.read_faults store.old) (S.read_faults store.new) }
+    ensures write { Caused Status.Write result (S.write_faults store.old) (S.write_faults store.new) }
 {
     match read_words(alloc, words)? {
-        Some(Command::Run { source, budget }) => run_command(alloc, &source, budget, log, store),
+        Some(command) => do_command(alloc, &command, log, store),
         None => {
             log.append(b"ERROR: Usage.\n")?;
-            Ok(Status::Usage)
+            Err(Halt::Ended(Status::Usage))
         }
     }
 }

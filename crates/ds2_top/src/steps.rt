@@ -1,14 +1,12 @@
 //! Steps on a store and on the text of a log.
-ghost use Rattle.std.specs.Prelude.{◌≡◌, ◌++◌, IfSome, IfOk, OnOk, IsOkAnd};
-ghost use Rattle.ds2_outside.specs.Causes.{HasCause};
-ghost use Rattle.ds2_top.specs.Status.{IsAnswer, IsOfCommand};
-ghost use Rattle.ds2_top.specs.Script.{Script, Ends, Writes, front, fronts};
+ghost use Rattle.std.specs.Prelude.{◌≡◌, ◌++◌, OnOk};
+ghost use Rattle.ds2_top.specs.Script.{Script, Writes, front, fronts};
 ghost use Rattle.ds2_top.specs.Lines.{fault_line};
-ghost use Rattle.ds2_top.specs.Course.{Goes, Left, Stops, StopsOfCommand};
+ghost use Rattle.ds2_top.specs.Halt.{Caused, Does};
 
-use crate::Status;
 use crate::lines::fault_line;
-use ds2_base::{Bytes, List, OutOfMemory, Text};
+use crate::{Halt, Status};
+use ds2_base::{Bytes, OutOfMemory, Text};
 use ds2_outside::{Store, WriteStop};
 use std::alloc::Global;
 
@@ -19,13 +17,6 @@ pub enum Step {
     Say(Bytes),
     /// A file of this name gets these bytes.
     Write(Text, Bytes),
-}
-
-/// Whether a call has done its steps, or has ended the command.
-#[derive(Clone, Copy, Debug, PartialEq, Eq)]
-pub enum Course {
-    Went,
-    Stopped(Status),
 }
 
 // Says that a call on a file has failed.
@@ -48,19 +39,18 @@ fn write_file<S: Store>(
     bytes: &Bytes,
     log: &mut Bytes,
     store: &mut S,
-) -> Result<Course, OutOfMemory>
-    ensures goes { IfSome (S.files store.old) (λ files. (rest : Script) → Goes (Writes name.now bytes.now rest) rest log.old files result log.new (S.files store.new)) }
-    ensures read { HasCause (S.read_faults store.old) (S.read_faults store.new) (IsOkAnd result (Stops Status.Read)) }
-    ensures write { HasCause (S.write_faults store.old) (S.write_faults store.new) (IsOkAnd result (Stops Status.Write)) }
-    ensures status { IfOk result StopsOfCommand }
+) -> Result<(), Halt>
+    ensures does { (rest : Script) → Does (Writes name.now bytes.now rest) (λ _. rest) log.old (S.files store.old) result log.new (S.files store.new) }
+    ensures read { Caused Status.Read result (S.read_faults store.old) (S.read_faults store.new) }
+    ensures write { Caused Status.Write result (S.write_faults store.old) (S.write_faults store.new) }
 {
     match store.write(alloc, name, bytes) {
-        Ok(()) => Ok(Course::Went),
+        Ok(()) => Ok(()),
         Err(WriteStop::Failed) => {
             say_fault(alloc, "Write", name, log)?;
-            Ok(Course::Stopped(Status::Write))
+            Err(Halt::Ended(Status::Write))
         }
-        Err(WriteStop::OutOfMemory) => Err(OutOfMemory),
+        Err(WriteStop::OutOfMemory) => Err(Halt::OutOfMemory),
     }
 }
 
@@ -70,60 +60,35 @@ fn do_step<S: Store>(
     step: &Step,
     log: &mut Bytes,
     store: &mut S,
-) -> Result<Course, OutOfMemory>
-    ensures goes { IfSome (S.files store.old) (λ files. (rest : Script) → Goes (front step.now rest) rest log.old files result log.new (S.files store.new)) }
-    ensures read { HasCause (S.read_faults store.old) (S.read_faults store.new) (IsOkAnd result (Stops Status.Read)) }
-    ensures write { HasCause (S.write_faults store.old) (S.write_faults store.new) (IsOkAnd result (Stops Status.Write)) }
-    ensures status { IfOk result StopsOfCommand }
+) -> Result<(), Halt>
+    ensures does { (rest : Script) → Does (front step.now rest) (λ _. rest) log.old (S.files store.old) result log.new (S.files store.new) }
+    ensures read { Caused Status.Read result (S.read_faults store.old) (S.read_faults store.new) }
+    ensures write { Caused Status.Write result (S.write_faults store.old) (S.write_faults store.new) }
 {
     match step {
         Step::Say(line) => {
             log.append(line.as_slice())?;
-            Ok(Course::Went)
+            Ok(())
         }
         Step::Write(name, bytes) => write_file(alloc, name, bytes, log, store),
     }
 }
 
-// Does the steps, up to the first that fails.
-fn perform<S: Store>(
+/// Does the steps, up to the first that fails.
+pub(crate) fn perform<S: Store>(
     alloc: Global,
     steps: &[Step],
     log: &mut Bytes,
     store: &mut S,
-) -> Result<Course, OutOfMemory>
-    ensures goes { IfSome (S.files store.old) (λ files. (rest : Script) → Goes (fronts steps.now rest) rest log.old files result log.new (S.files store.new)) }
-    ensures read { HasCause (S.read_faults store.old) (S.read_faults store.new) (IsOkAnd result (Stops Status.Read)) }
-    ensures write { HasCause (S.write_faults store.old) (S.write_faults store.new) (IsOkAnd result (Stops Status.Write)) }
-    ensures status { IfOk result StopsOfCommand }
+) -> Result<(), Halt>
+    ensures does { (rest : Script) → Does (fronts steps.now rest) (λ _. rest) log.old (S.files store.old) result log.new (S.files store.new) }
+    ensures read { Caused Status.Read result (S.read_faults store.old) (S.read_faults store.new) }
+    ensures write { Caused Status.Write result (S.write_faults store.old) (S.write_faults store.new) }
 {
     let mut left = steps;
     while let [step, after @ ..] = left {
-        match do_step(alloc, step, log, store)? {
-            Course::Went => left = after,
-            Course::Stopped(status) => return Ok(Course::Stopped(status)),
-        }
+        do_step(alloc, step, log, store)?;
+        left = after;
     }
-    Ok(Course::Went)
-}
-
-/// Does the steps and ends with a status, or at the first step that fails.
-pub(crate) fn perform_all<S: Store>(
-    alloc: Global,
-    steps: &[Step],
-    ended: Status,
-    log: &mut Bytes,
-    store: &mut S,
-) -> Result<Status, OutOfMemory>
-    requires answer { IsAnswer ended }
-    requires status { IsOfCommand ended }
-    ensures left { IfSome (S.files store.old) (λ files. Left (fronts steps.now (Ends ended)) log.old files result log.new (S.files store.new)) }
-    ensures read { HasCause (S.read_faults store.old) (S.read_faults store.new) (IsOkAnd result (λ status. status ≡ Status.Read)) }
-    ensures write { HasCause (S.write_faults store.old) (S.write_faults store.new) (IsOkAnd result (λ status. status ≡ Status.Write)) }
-    ensures status { IfOk result IsOfCommand }
-{
-    match perform(alloc, steps, log, store)? {
-        Course::Went => Ok(ended),
-        Course::Stopped(status) => Ok(status),
-    }
+    Ok(())
 }

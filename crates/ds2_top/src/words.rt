@@ -1,21 +1,46 @@
 //! The words of a command line.
-ghost use Rattle.std.specs.Prelude.{◌≡◌, ◌≤◌, IfOk, IfSome};
+ghost use Rattle.std.specs.Prelude.{◌≡◌, ◌≤◌, IfOk, IfSome, IsTrue};
 ghost use Rattle.std.specs.Char.{is_ascii_digit};
 ghost use Rattle.std.specs.List.{list_all};
-ghost use Rattle.ds2_top.specs.Words.{budget_in, budget_of, command_of, has_name_form, is_file_char, is_file_name, is_number, is_source, most_budget, number_within, run_of};
+ghost use Rattle.ds2_top.specs.declared.words.TheConstants.{MOST_BUDGET};
+ghost use Rattle.ds2_top.specs.Words.{budget_in, budget_of, command_of, has_name_form, is_file_char, is_file_name, is_number, is_source, number_within, run_of, source_in};
 
 use ds2_base::{OutOfMemory, Text};
 use std::alloc::Global;
 
-const DEFAULT_BUDGET: u64 = 10_000_000;
+/// The budget of a line without `--budget`.
+pub const DEFAULT_BUDGET: u64 = 10_000_000;
 
-const MOST_BUDGET: u64 = 1_000_000_000;
+/// The most steps that a budget may have.
+pub const MOST_BUDGET: u64 = 1_000_000_000;
 
 /// What a line of words asks for.
 #[derive(Drop)]
 pub enum Command {
     /// `run SOURCE [--budget N]`: N is the number of steps that each call of a system method may take.
     Run { source: Text, budget: u64 },
+}
+
+impl Command {
+    ghost use Rattle.ds2_top.specs.Words.{budget_in, source_in};
+
+    /// The name of the source that it runs.
+    pub(crate) fn source(&self) -> &Text
+        ensures { result.now ≡ source_in self.now }
+    {
+        match self {
+            Command::Run { source, .. } => source,
+        }
+    }
+
+    /// How many steps each call of a system method may take.
+    pub(crate) fn budget(&self) -> u64
+        ensures { result ≡ budget_in self.now }
+    {
+        match self {
+            Command::Run { budget, .. } => *budget,
+        }
+    }
 }
 
 fn is_file_char(c: u8) -> bool
@@ -86,7 +111,7 @@ fn number_within(word: &str, most: u64) -> Option<u64>
 // The budget that these options give.
 fn budget_of(options: &[Text]) -> Option<u64>
     ensures budget { result ≡ budget_of options.now }
-    ensures within { IfSome result (λ budget. budget ≤ most_budget) }
+    ensures within { IfSome result (λ budget. budget ≤ MOST_BUDGET) }
 {
     match options {
         [] => Some(DEFAULT_BUDGET),
@@ -100,7 +125,8 @@ fn budget_of(options: &[Text]) -> Option<u64>
 // The command to run a source with these options, where they give a budget.
 fn run_of(alloc: Global, source: &Text, options: &[Text]) -> Result<Option<Command>, OutOfMemory>
     ensures command { IfOk result (λ command. command ≡ run_of source.now (budget_of options.now)) }
-    ensures within { IfOk result (λ command. IfSome command (λ run. budget_in run ≤ most_budget)) }
+    ensures within { IfOk result (λ command. IfSome command (λ run. budget_in run ≤ MOST_BUDGET)) }
+    ensures source { IfOk result (λ command. IfSome command (λ run. source_in run ≡ source.now)) }
 {
     match budget_of(options) {
         None => Ok(None),
@@ -114,7 +140,8 @@ fn run_of(alloc: Global, source: &Text, options: &[Text]) -> Result<Option<Comma
 /// The command of a line of words, or None where it is no line.
 pub(crate) fn read_words(alloc: Global, words: &[Text]) -> Result<Option<Command>, OutOfMemory>
     ensures command { IfOk result (λ command. command ≡ command_of words.now) }
-    ensures within { IfOk result (λ command. IfSome command (λ run. budget_in run ≤ most_budget)) }
+    ensures within { IfOk result (λ command. IfSome command (λ run. budget_in run ≤ MOST_BUDGET)) }
+    ensures named { IfOk result (λ command. IfSome command (λ run. IsTrue (is_source (source_in run)))) }
 {
     match words {
         [word, source, options @ ..] if word.as_str() == "run" && is_source(source.as_str()) => {

@@ -8,10 +8,10 @@ use Rattle.ds2_gen.proofs.program.assemble.Goals as goal
 pub returns : goal.returns
 returns c =
     let program = c.args.program.now in
-    let layout = c.in_ok-layout.layout in
+    let layout = c.args.layout.now in
     let vars = c.in_ok-variables.variables in
     assembled (program_of program) layout c.in_ok-table.table vars _ _ _ c.in_ok-output.output _ _
-    c.in_ok-layout.ensures
+    c.requires.layout
     c.in_ok-variables.ensures
     (c.in_ok-table.ensures ∙ ap names_of c.as_slice.ensures)
     (c.in_ok-roles.ensures ∙ ap (map (role_among c.in_ok-table.table)) c.as_slice-2.ensures)

@@ -1,12 +1,11 @@
-use Rattle.std.proofs.Common.{◌≤◌, length, IfSome, Ok}
-use Rattle.ds2_top.specs.declared.steps.Course.TheVariants.{Went}
-use Rattle.ds2_top.specs.Course.{Goes}
+use Rattle.std.proofs.Common.{◌≤◌, length}
+use Rattle.ds2_top.specs.Halt.{Leads}
 use Rattle.ds2_top.specs.Script.{Script, fronts}
 use Rattle.ds2_top.proofs.steps.perform.Given as goal
 
 abbrev pub invariant-loop-left : goal.invariant-loop-left
 invariant-loop-left g l = record {
-  goes : IfSome (g.S.Store.files l.initial.store) (λ files. (rest : Script) → Goes (fronts l.steps rest) (fronts l.left rest) l.initial.log files (Ok Went) l.log (g.S.Store.files l.store));
+  leads : (rest : Script) → Leads (fronts l.steps rest) (fronts l.left rest) l.initial.log (g.S.Store.files l.initial.store) l.log (g.S.Store.files l.store);
   reads : g.S.Store.read_faults l.initial.store ≤ g.S.Store.read_faults l.store;
   writes : g.S.Store.write_faults l.initial.store ≤ g.S.Store.write_faults l.store;
 }
