@@ -83,9 +83,9 @@ class File:
 
 
 def is_head(match):
-    """Whether a line begins a definition: it names a type, or gives a name its type."""
+    """Whether a line begins a definition: it names a type, or gives a name its type, and no lemma of the file's own."""
     words, kind, name, rest = match.groups()
-    if name in ("mod", "use", "ruleset"):
+    if name in ("mod", "use", "ruleset") or not (words or kind):
         return False
     return bool(kind) or rest.startswith(" : ") or (rest.startswith(" {") and " : " in rest and "=" not in rest.split(" : ")[0])
 

@@ -14,7 +14,7 @@ use Rattle.ds2_base.specs.declared.name.BadName.{BadName}
 use Rattle.ds2_value.specs.Types.{in_bounds}
 use Rattle.ds2_value.specs.declared.schema.Column.{Column}
 use Rattle.ds2_value.specs.declared.ty.Ty.{Ty}
-use Rattle.ds2_csv.specs.Header.{is_blank, last_place, without_last_blanks, without_blanks, typed_heading, heading_by, plain_heading, heading_of_text, heading_of, type_spelled}
+use Rattle.ds2_csv.specs.Header.{is_blank, last_place, without_last_blanks, trimmed_cell, typed_heading, heading_by, plain_heading, heading_of_text, heading_of, type_spelled}
 use Rattle.ds2_csv.proofs.Writable.{IsNamed}
 use Rattle.ds2_csv.specs.Text.{type_text, heading_text}
 use Rattle.ds2_csv.proofs.LawSeq.{last-behind, last-here}
@@ -97,7 +97,7 @@ keeps-end front (x ∷ xs) some free =
     let last = last-behind (λ c. not (is_blank c)) front (x ∷ xs) (length xs) (ends x xs free) in
     ap (λ (o : Option ℕ). take (option_map_or (λ i. i + 1) o 0) (front ++ (x ∷ xs))) last ∙ take_all (length front + length xs + 1) (front ++ (x ∷ xs)) (omega (arith, length-append front (x ∷ xs)))
 
-keeps-both : (name word : List ℕ) → HasName name → 0 < length word → list_any is_blank word ≡ false → without_blanks (name ++ (32 ∷ word)) ≡ name ++ (32 ∷ word)
+keeps-both : (name word : List ℕ) → HasName name → 0 < length word → list_any is_blank word ≡ false → trimmed_cell (name ++ (32 ∷ word)) ≡ name ++ (32 ∷ word)
 keeps-both [] word h some free = cc h.some
 keeps-both (c ∷ cs) word h some free =
     let cell : List ℕ = (c ∷ cs) ++ (32 ∷ word) in
@@ -114,7 +114,7 @@ cut name word ty same o h w some is bound =
     let lower : map to_ascii_lowercase cell ≡ cell = map-append to_ascii_lowercase name (32 ∷ word) ∙ ap (λ (t : List ℕ). t ++ (32 ∷ map to_ascii_lowercase word)) o.lower ∙ ap (λ (t : List ℕ). name ++ (32 ∷ t)) w.lower in
     let behind : drop (length name + 1) cell ≡ word =
     ap (λ (t : List ℕ). drop (length name + 1) t) (sym (append_assoc name (32 ∷ []) word)) ∙ drop_at (name ++ (32 ∷ [])) word (length name + 1) (length-append name (32 ∷ [])) in
-    ap (λ (t : List ℕ). heading_of_text (without_blanks t)) lower
+    ap (λ (t : List ℕ). heading_of_text (trimmed_cell t)) lower
     ∙ ap heading_of_text (keeps-both name word h some w.free)
     ∙ ap (λ (p : Option ℕ). option_map_or (λ i. heading_by cell (name_of (take i cell)) (type_spelled (drop (i + 1) cell))) p (plain_heading (name_of cell))) (last-here is_blank name 32 word refl w.free)
     ∙ ap (λ (t : List ℕ). heading_by cell (name_of t) (type_spelled (drop (length name + 1) cell))) (take_at name (32 ∷ word) (length name) refl)

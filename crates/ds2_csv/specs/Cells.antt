@@ -46,6 +46,7 @@ abbrev pub char_value : ℕ → Option (List ℕ) → Option Value
 char_value n None = Some Null
 char_value n (Some text) = if nat_le (char_count text) n then Some (Txt (filled n text)) else None
 
+-- the value of a cell's text in a column of at most n characters; None where it has more
 abbrev pub varchar_value : ℕ → Option (List ℕ) → Option Value
 varchar_value n None = Some Null
 varchar_value n (Some text) = if nat_le (char_count text) n then Some (Txt text) else None

@@ -29,10 +29,11 @@ greatest number (cell ∷ cells) = max (number cell) (greatest number cells)
 abbrev pub whole_part : List ℕ → List ℕ
 whole_part text = before_first is_point (if slice_index text 0 == 45 then drop 1 text else text)
 
--- how many digits stand before the point of a number's text, where `0` counts none, and how many after it
+-- how many digits stand before the point of a number's text, where `0` counts none
 abbrev pub digits_before : List ℕ → ℕ
 digits_before text = if slice_index (whole_part text) 0 == 48 then 0 else length (whole_part text)
 
+-- how many digits stand after the point of a number's text
 abbrev pub digits_after : List ℕ → ℕ
 digits_after text = length (after_first is_point text)
 

@@ -26,12 +26,13 @@ abbrev pub last_place : (ℕ → Bool) → List ℕ → Option ℕ
 last_place test [] = None
 last_place test (c ∷ cs) = option_or (option_map (λ i. i + 1) (last_place test cs)) (if test c then Some 0 else None)
 
--- the cell without the blanks at its end, and without those at both ends
+-- the cell without the blanks at its end
 abbrev pub without_last_blanks : List ℕ → List ℕ
 without_last_blanks cell = take (option_map_or (λ i. i + 1) (last_place (λ c. not (is_blank c)) cell) 0) cell
 
-abbrev pub without_blanks : List ℕ → List ℕ
-without_blanks cell = drop (prefix_len is_blank (without_last_blanks cell)) (without_last_blanks cell)
+-- the cell without the blanks at both ends
+abbrev pub trimmed_cell : List ℕ → List ℕ
+trimmed_cell cell = drop (prefix_len is_blank (without_last_blanks cell)) (without_last_blanks cell)
 
 -- what follows a word at the start of a text
 abbrev pub after_word : List ℕ → List ℕ → Option (List ℕ)
@@ -54,10 +55,11 @@ abbrev pub decimal_of : List ℕ → Option Ty
 decimal_of text =
     option_and_then (λ p. option_map (λ s. DecimalOf p s) (number_of (after_first (λ c. c == 44) text))) (number_of (before_first (λ c. c == 44) text))
 
--- the texts of a number of characters: all of one length, or up to a length
+-- the texts of exactly so many characters
 abbrev pub char_of : List ℕ → Option Ty
 char_of text = option_map (λ n. Char n) (number_of text)
 
+-- the texts of up to so many characters
 abbrev pub varchar_of : List ℕ → Option Ty
 varchar_of text = option_map (λ n. Varchar n) (number_of text)
 
@@ -95,7 +97,7 @@ heading_of_text text =
 
 -- the column of a header cell, which is read in lower case and without blanks at its ends
 unfoldable pub heading_of : List ℕ → Result Heading CsvKind
-heading_of cell = heading_of_text (without_blanks (map to_ascii_lowercase cell))
+heading_of cell = heading_of_text (trimmed_cell (map to_ascii_lowercase cell))
 
 -- one of the columns has this name
 abbrev pub is_taken : List ℕ → List Heading → Bool
@@ -106,11 +108,12 @@ abbrev pub distinct_heading : List Heading → ℕ → Result Heading CsvKind �
 distinct_heading before column (Ok h) = if is_taken h.name before then Err (of_column DuplicateColumn column) else Ok h
 distinct_heading before column (Err kind) = Err (of_column kind column)
 
--- the headings of header cells behind these, or the first refusal from the left
+-- goes on behind the headings that were read with one more, or ends with its refusal
 abbrev pub and_headings : (List Heading → Result (List Heading) CsvRefusal) → List Heading → Result Heading CsvRefusal → Result (List Heading) CsvRefusal
 and_headings more before (Ok h) = more (before ++ h ∷ [])
 and_headings more before (Err refusal) = Err refusal
 
+-- the headings of header cells behind those that were read, or the first refusal from the left
 unfoldable pub headings_after : List Heading → List (List ℕ) → Result (List Heading) CsvRefusal
 headings_after before [] = Ok before
 headings_after before (cell ∷ cells) =

@@ -21,11 +21,12 @@ are_typed headings = list_all (λ h. is_some h.ty) headings
 abbrev pub under_headings : List Heading → Rows → Result Contents CsvRefusal
 under_headings headings rows = of_sheet (λ even. under_columns (columns_from 0 headings even) even) (sheet_of (length headings) rows)
 
--- the table of the rows that were read, or their first cell that has no value
+-- the table, or the refusal of a cell where there is one
 abbrev pub so_far_by : Option CsvRefusal → Contents → Result Contents CsvRefusal
 so_far_by None table = Ok table
 so_far_by (Some bad) table = Err bad
 
+-- the table of the rows that were read so far, or their first cell that has no value
 abbrev pub so_far : Typed → Result Contents CsvRefusal
 so_far typed = so_far_by typed.bad typed.table
 

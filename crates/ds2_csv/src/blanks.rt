@@ -1,7 +1,7 @@
 //! Blanks of a header cell.
 ghost use Rattle.std.specs.Prelude.{◌≡◌, ◌-◌, ◌<◌, ◌≤◌, length, take, slice_index, IfSome};
 ghost use Rattle.std.specs.List.{prefix_len};
-ghost use Rattle.ds2_csv.specs.Header.{is_blank, last_place, without_last_blanks, without_blanks};
+ghost use Rattle.ds2_csv.specs.Header.{is_blank, last_place, without_last_blanks, trimmed_cell};
 
 fn is_blank(c: u8) -> bool
     ensures { result ≡ is_blank c }
@@ -56,7 +56,7 @@ fn text_start(bytes: &[u8]) -> usize
 
 /// The cell without the blanks at its ends.
 pub fn without_blanks(cell: &str) -> &str
-    ensures { result.now ≡ without_blanks cell.now }
+    ensures { result.now ≡ trimmed_cell cell.now }
 {
     let front = cell.split_at(text_end(cell.as_bytes())).0;
     front.split_at(text_start(front.as_bytes())).1

@@ -13,23 +13,25 @@ shown (First split joined drawn) = drawn
 shown (Other drawn) = drawn
 shown Spent = []
 
--- How many seats the first one counts as split from it, and as joined into it.
+-- How many seats the first one counts as split from it.
 abbrev pub split_off : SeatView → ℕ
 split_off (First split joined drawn) = split
 split_off (Other drawn) = 0
 split_off Spent = 0
 
+-- How many seats the first one counts as joined into it.
 abbrev pub joined_in : SeatView → ℕ
 joined_in (First split joined drawn) = joined
 joined_in (Other drawn) = 0
 joined_in Spent = 0
 
--- Counts the first seat, and the seats besides it that are not spent.
+-- Counts the first seat.
 abbrev pub one_if_first : SeatView → ℕ
 one_if_first (First split joined drawn) = 1
 one_if_first (Other drawn) = 0
 one_if_first Spent = 0
 
+-- Counts the seats besides the first one that are not spent.
 abbrev pub one_if_other : SeatView → ℕ
 one_if_other (First split joined drawn) = 0
 one_if_other (Other drawn) = 1

@@ -102,10 +102,11 @@ replay m workers xs = after_steps m (run_length m workers) workers (opening_stag
 abbrev pub is_legal : ℕ → ℕ → List StageStep → Bool
 is_legal m workers xs = are_legal m (run_length m workers) workers (opening_stage workers) xs
 
--- Whether a fault was handed in, and whether one of a group below g was.
+-- Whether a fault was handed in.
 abbrev pub some_fault : List HandIn → Bool
 some_fault handed = list_any (λ (e : HandIn). e.faulted) handed
 
+-- Whether a fault of a group below g was handed in.
 abbrev pub fault_below : ℕ → List HandIn → Bool
 fault_below g handed = list_any (λ (e : HandIn). e.faulted && nat_lt e.group g) handed
 
@@ -117,6 +118,7 @@ is_complete_stage m l s = (nat_le (run_count m l) s.drawn || some_fault s.handed
 abbrev pub is_complete : ℕ → ℕ → List StageStep → Bool
 is_complete m workers xs = is_complete_stage m (run_length m workers) (replay m workers xs)
 
+-- The group of a hand-in.
 abbrev pub group_of : HandIn → ℕ
 group_of e = e.group
 

@@ -27,6 +27,7 @@ high_word-joined (negsuc h) l p =
     let rest : 2 ^ 64 - 1 - l < 2 ^ 64 = omega arith in
     ap (λ (n : ℤ). high_word n) (joined_below h l p) ∙ ap (λ (n : ℕ). negsuc n) (div-mul-add h (2 ^ 64) (2 ^ 64 - 1 - l) rest)
 
+-- the low word of two words that were joined is the low one
 pub low_word-joined : (high : ℤ) (low : ℕ) → low < 2 ^ 64 → low_word (joined high low) ≡ low
 low_word-joined (pos h) l p = mod-mul-add h (2 ^ 64) l p
 low_word-joined (negsuc h) l p =

@@ -1,11 +1,12 @@
 //! The instructions of expressions and statements.
 ghost use Rattle.std.specs.Prelude.{◌≡◌, ◌+◌, ◌||◌, [], OnOk, IfOk, length, is_some, nat_lt, if◌then◌else◌};
+ghost use Rattle.ds2_draft_meaning.specs.Tree.{Assign};
 ghost use Rattle.ds2_draft_meaning.specs.View.{expr_tree, stmt_tree, stmts_of};
 ghost use Rattle.ds2_draft_gen.specs.Code.{sign_code, stmt_size as size_of_stmt};
 ghost use Rattle.ds2_draft_gen.specs.Emit.{with_instr, with_constant, with_expr, with_skip, with_test, with_stmt, with_all};
 
 use crate::size::{number, plus, stmt_size};
-use ds2_base::{List, OutOfMemory, Place};
+use ds2_base::{List, Name, OutOfMemory, Place};
 use ds2_draft_code::Instr;
 use ds2_draft_layout::Layout;
 use ds2_draft_meaning::{Expr, Sign, Stmt};
@@ -135,8 +136,24 @@ fn skipped_size(stmt: &Stmt, more: bool) -> Result<u32, OutOfMemory>
     plus(size, if more { 1 } else { 0 })
 }
 
-// Adds the code of a statement.
+// Adds the code of an assignment.
 #[tactic(auto, using(crate::proofs::Appended::assign_emitted))]
+fn emit_assign(
+    alloc: Global,
+    layout: &Layout,
+    code: &mut Emitted,
+    at: Place,
+    target: &Name,
+    value: &Expr,
+) -> Result<(), OutOfMemory>
+    ensures { OnOk result (code.new ≡ with_stmt layout.now (Assign at target.now (expr_tree value.now)) code.old) }
+{
+    code.push(Instr::Tick(at))?;
+    emit_expr(alloc, layout, code, value)?;
+    code.push(Instr::GStore(layout.slot(target)))
+}
+
+// Adds the code of a statement.
 pub fn emit_stmt(
     alloc: Global,
     layout: &Layout,
@@ -150,11 +167,7 @@ pub fn emit_stmt(
             place,
             target,
             value,
-        } => {
-            code.push(Instr::Tick(*place))?;
-            emit_expr(alloc, layout, code, value)?;
-            code.push(Instr::GStore(layout.slot(target)))
-        }
+        } => emit_assign(alloc, layout, code, *place, target, value),
         Stmt::If {
             place,
             condition,

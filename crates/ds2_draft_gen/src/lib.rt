@@ -4,7 +4,8 @@
 //! statement says how many instructions it has.
 //!
 //! ```text
-//! let code = generate(alloc, &program)?;
+//! let layout = lay_out(alloc, &program)?;
+//! let code = generate(alloc, &program, &layout)?;
 //! ```
 #![tactic(auto)]
 

@@ -11,8 +11,7 @@ ghost use Rattle.ds2_draft_gen.specs.Correct.{Simulates, Same};
 use crate::emit::{Emitted, emit_all};
 use crate::size::number;
 use ds2_base::{List, OutOfMemory};
-use ds2_draft_code::laws::one_end;
-use ds2_draft_code::{Instr, ProgramCode, Role};
+use ds2_draft_code::{Instr, ProgramCode, Role, laws::one_end};
 use ds2_draft_layout::{Layout, NameTable, variables};
 use ds2_draft_meaning::{Stmt, TypedData};
 use ds2_value::Column;
@@ -103,8 +102,8 @@ fn assemble(alloc: Global, program: &TypedData, layout: &Layout) -> Result<Progr
 }
 
 /// The code of a program, which does what the program means. Each name of the program is a
-/// variable of its vector, and the layout is that of the program. Code of more than `u32::MAX` instructions, constants or slots is want
-/// of memory.
+/// variable of its vector, and the layout is that of the program. Code of more than `u32::MAX`
+/// instructions, constants or slots is want of memory.
 pub fn generate(
     alloc: Global,
     program: &TypedData,

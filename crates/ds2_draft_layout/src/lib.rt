@@ -4,8 +4,8 @@
 //! first, and then the columns of its table that are not declared.
 //!
 //! ```text
-//! if first_unknown(alloc, &program)?.is_none() {
-//!     let layout = lay_out(alloc, &program)?;
+//! let layout = lay_out(alloc, &program)?;
+//! if first_unknown(&layout, &program).is_none() {
 //!     let slot = layout.slot(&name);
 //! }
 //! ```

@@ -17,12 +17,15 @@ pub record Bag : Type 0 where
   pub drawn : List ℕ
   pub runs : List GroupRun
 
+-- The group that was run.
 abbrev pub group_in : GroupRun → ℕ
 group_in d = d.group
 
+-- The numbers that a bag's party has drawn.
 abbrev pub numbers_in : Bag → List ℕ
 numbers_in b = b.drawn
 
+-- The groups that a bag's party has run, in order.
 abbrev pub groups_in : Bag → List ℕ
 groups_in b = map group_in b.runs
 
@@ -40,6 +43,7 @@ abbrev pub AreFrom : ℕ → List ℕ → Type 0
 AreFrom a [] = Unit {0}
 AreFrom a (x ∷ xs) = (a ≤ x) × AreFrom a xs
 
+-- Each number of a list is above those before it.
 abbrev pub IsAscending : List ℕ → Type 0
 IsAscending [] = Unit {0}
 IsAscending (x ∷ xs) = AreFrom x xs × IsAscending xs
@@ -55,6 +59,7 @@ pub record IsBag (m l : ℕ) (b : Bag) : Type 0 where
   pub begins : (rest : List ℕ) × (groups_in b ++ rest ≡ groups_of_runs m l b.drawn)
   pub faults : OnlyLastFaults b.runs
 
+-- Each of several bags is one of a worker.
 abbrev pub AreBags : ℕ → ℕ → List Bag → Type 0
 AreBags m l [] = Unit {0}
 AreBags m l (b ∷ bs) = IsBag m l b × AreBags m l bs
@@ -69,6 +74,7 @@ abbrev pub worker_draws : List Bag → ℕ → ℕ → List StageStep
 worker_draws bags a zero = []
 worker_draws bags a (suc n) = Draws (owner a bags) a ∷ worker_draws bags (a + 1) n
 
+-- The draws of the caller, which follow those of the workers.
 abbrev pub caller_draws : ℕ → ℕ → ℕ → List StageStep
 caller_draws w a zero = []
 caller_draws w a (suc n) = Draws w a ∷ caller_draws w (a + 1) n
@@ -78,6 +84,7 @@ abbrev pub run_hand_ins : ℕ → List GroupRun → List StageStep
 run_hand_ins w [] = []
 run_hand_ins w (d ∷ ds) = HandsIn w d.group d.rows d.faulted ∷ run_hand_ins w ds
 
+-- The steps by which several parties hand in what they ran, one party after the other.
 abbrev pub all_hand_ins : ℕ → List Bag → List StageStep
 all_hand_ins w [] = []
 all_hand_ins w (b ∷ bs) = run_hand_ins w b.runs ++ all_hand_ins (w + 1) bs
@@ -91,6 +98,7 @@ abbrev pub handed_by : ℕ → List GroupRun → List HandIn
 handed_by w [] = []
 handed_by w (d ∷ ds) = record { party = w; group = d.group; rows = d.rows; faulted = d.faulted } ∷ handed_by w ds
 
+-- What several parties have handed in, one party after the other.
 abbrev pub all_handed : ℕ → List Bag → List HandIn
 all_handed w [] = []
 all_handed w (b ∷ bs) = handed_by w b.runs ++ all_handed (w + 1) bs
@@ -130,6 +138,7 @@ abbrev pub AreAnswers : {S O : Type 0} → GroupProgram S O → S → List Group
 AreAnswers p first [] = Unit {0}
 AreAnswers p first (d ∷ ds) = ((d.rows ≡ p.rows (p.result first d.group)) × (d.faulted ≡ p.faults (p.result first d.group))) × AreAnswers p first ds
 
+-- Each run in several bags has the rows and the fault of the program's result from the first state.
 abbrev pub BagsAnswer : {S O : Type 0} → GroupProgram S O → S → List Bag → Type 0
 BagsAnswer p first [] = Unit {0}
 BagsAnswer p first (b ∷ bs) = AreAnswers p first b.runs × BagsAnswer p first bs

@@ -84,6 +84,7 @@ pub record Given (O : Type 0) : Type 0 where
   pub gave : O
   pub faulted : Bool
 
+-- What a run of units gave.
 abbrev pub given_by : {S O : Type 0} → UnitRun S O → Given O
 given_by (Normally s o) = record { gave = o; faulted = false }
 given_by (ByFault o) = record { gave = o; faulted = true }
@@ -111,6 +112,7 @@ stage_program u rows budget groups = record {
 abbrev pub in_front_of : {S L O : Type 0} → StageUnits S L O → Given O → Given O → Given O
 in_front_of u o rest = record { gave = u.and_then o.gave rest.gave; faulted = rest.faulted }
 
+-- What came up to here where it ended by a fault, and else all of it.
 abbrev pub unless_faulted : {O : Type 0} → Bool → Given O → Given O → Given O
 unless_faulted true o rest = o
 unless_faulted false o rest = rest

@@ -34,13 +34,15 @@ abbrev pub case : ℕ → ℕ → List StageStep → Bool → Bool → ℕ → L
 case m workers steps legal complete drawn left handed =
     record { groups = m; workers = workers; steps = steps; shows = record { legal = legal; complete = complete; drawn = drawn; left = left; handed = handed } }
 
--- Party w draws number n; party w hands in group g, which went well, or which ended in a fault.
+-- Party w draws number n.
 abbrev pub draw : ℕ → ℕ → StageStep
 draw w n = Draws w n
 
+-- Party w hands in group g, which went well.
 abbrev pub well : ℕ → ℕ → StageStep
 well w g = HandsIn w g 1 false
 
+-- Party w hands in group g, which ended in a fault.
 abbrev pub ill : ℕ → ℕ → StageStep
 ill w g = HandsIn w g 0 true
 

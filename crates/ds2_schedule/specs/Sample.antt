@@ -9,12 +9,15 @@ pub record SampleState : Type 0 where
   pub rate : ℕ
   pub amount : ℕ
 
+-- What the sample's two locations hold: 0 the rate, every other one the amount.
 abbrev pub sample_content : SampleState → ℕ → ℕ
 sample_content s k = if k == 0 then s.rate else s.amount
 
+-- The rate is fixed, and the amount is not.
 abbrev pub sample_fixed : FixedPart SampleState ℕ ℕ
 sample_fixed = record { content = sample_content; is_fixed = λ k. k == 0 }
 
+-- Which location of a load is a flag of an early BY variable.
 abbrev pub is_early_flag : ℕ → Bool
 is_early_flag k = k == 3
 
@@ -27,6 +30,7 @@ amount_set (x ∷ xs) = if x.0 == 2 then x.1 else amount_set xs
 abbrev pub sample_run : ℕ → SampleState → UnitRun SampleState (List ℕ)
 sample_run amount s = if amount == 0 then ByFault [] else Normally (record { rate = s.rate; amount = amount }) (s.rate * amount ∷ [])
 
+-- The units of the sample.
 abbrev pub sample_units : StageUnits SampleState (List (ℕ × ℕ)) (List ℕ)
 sample_units = record {
   run = λ budget l s. sample_run (amount_set l) s;
@@ -43,6 +47,7 @@ sample_groups =
     (((2, 8) ∷ []) ∷ []) ∷
     []
 
+-- The state in which the sample begins.
 abbrev pub sample_start : SampleState
 sample_start = record { rate = 10; amount = 0 }
 

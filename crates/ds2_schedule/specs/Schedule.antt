@@ -52,6 +52,7 @@ abbrev pub AreCarried : {S O : Type 0} → GroupProgram S O → List S → List 
 AreCarried p states [] = Unit {0}
 AreCarried p states (x ∷ xs) = IsCarriedStep p states x × AreCarried p (carried p states x) xs
 
+-- The results that the hand-ins of several steps bring, each with its group.
 abbrev pub all_brought : {S O : Type 0} → GroupProgram S O → List S → List StageStep → List (ℕ × O)
 all_brought p states [] = []
 all_brought p states (x ∷ xs) = brought p states x ++ all_brought p (carried p states x) xs
@@ -74,6 +75,7 @@ abbrev pub up_to_fault : {O : Type 0} → Bool → O → List O → List O
 up_to_fault true o rest = o ∷ []
 up_to_fault false o rest = o ∷ rest
 
+-- One more result in front of those that follow, where its group brought one.
 abbrev pub next_result : {O : Type 0} → (O → Bool) → Option O → List O → List O
 next_result faults None rest = []
 next_result faults (Some o) rest = up_to_fault (faults o) o rest

@@ -38,6 +38,6 @@ loop-arm-preserved t c =
     record {
       count = omega (arith, c.loop-arm.invariant.count);
       left = continued names arm (drop i items) more c.in-If.otherwise c.in_ok-end-in-If.end (c.loop-arm.parts - 1) c.in_ok-skipped-in-If-2.skipped (with_stmt names (stmt_tree c.args.s.now) c.args.code.now)
-          c.loop-arm.code c.push-in-loop-arm.new.self c.emit_test-in-loop-arm.new.code c.emit_stmt-in-loop-arm.new.code
+          c.loop-arm.code c.push.new.self c.emit_test-in-loop-arm.new.code c.emit_stmt-in-loop-arm.new.code
           first c.loop-arm.invariant.left parts skipped c.in_ok-push-in-If.ensures c.in_ok-emit_test-in-If-2.ensures c.in_ok-emit_stmt-in-If-2.ensures;
     }
