@@ -49,9 +49,11 @@ is-row old new rest next same text wide =
     let n : new.row.count ≡ old.width = eqb-true new.row.count old.width same in
     let cells : List (List ℕ) = next.0 in
     let long : length cells ≡ old.width = sym next.2.count ∙ n in
-    let all : map spelled new.row.cells ≡ cells = next.2.kept ∙ take_all old.width cells (omega (arith, long)) in
-    (next.1 ∙ ap (λ (r : List (List ℕ)). r ∷ records_left rest.now) (sym all) ∙ ap (λ (t : List ℕ). map spelled new.row.cells ∷ records_left t) (sym text),
-    ap (λ (r : List (List ℕ)). length r) all ∙ long, wide)
+    let all : map spelled new.row.cells ≡ cells = next.2.kept ∙ take_all old.width cells (omega (arith, long)) in (
+      next.1 ∙ ap (λ (r : List (List ℕ)). r ∷ records_left rest.now) (sym all) ∙ ap (λ (t : List ℕ). map spelled new.row.cells ∷ records_left t) (sym text),
+      ap (λ (r : List (List ℕ)). length r) all ∙ long,
+      wide,
+    )
 
 pub is-odd : (old new : RowReader) (row : Record) (rest : Bor (List ℕ)) → IsNext (Some rest) row old.width old.text.now → (row.count == old.width) ≡ false → IsNextRow Odd old new
 is-odd old new row rest next other = (next.0, records_left rest.now, next.1, λ e. differ (eq-eqb row.count old.width (next.2.count ∙ sym e)))

@@ -12,7 +12,6 @@ field_at-get [] i = refl
 field_at-get (x ∷ xs) zero = refl
 field_at-get (x ∷ xs) (suc i) = field_at-get xs i
 
-
 -- an item that was found
 pub field-spelled : (cells : List Cell) (i : ℕ) (c : Cell) → slice_get cells i ≡ Some c → Some (spelled c) ≡ field_at (map spelled cells) i
 unfolding field_at

@@ -32,4 +32,3 @@ pub record IsWritable (t : Contents) : Type 0 where
   pub few_cells : length t.rows * length t.columns ≤ MOST_CELLS
   -- at most 67,108,864 bytes
   pub few_bytes : length (text t) ≤ MOST_BYTES
-

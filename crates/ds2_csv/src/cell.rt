@@ -173,12 +173,7 @@ fn add_value(alloc: Global, values: &mut Row, ty: Ty, cell: &str) -> Result<bool
 }
 
 /// The same of a cell as it stands in the text.
-pub fn add_cell(
-    alloc: Global,
-    values: &mut Row,
-    ty: Ty,
-    cell: Cell,
-) -> Result<bool, OutOfMemory>
+pub fn add_cell(alloc: Global, values: &mut Row, ty: Ty, cell: Cell) -> Result<bool, OutOfMemory>
     requires { IsTrue (in_bounds ty) }
     ensures added { IfOk result (λ good. IsAdded good values.old values.new (value_of ty (spelled cell.entry))) }
     ensures fit { IfOk result (λ good. IfSome (value_of ty (spelled cell.entry)) (λ v. IsTrue (fits v ty))) }

@@ -10,8 +10,8 @@ ghost use Rattle.ds2_csv.specs.Inferred.{IsInferred};
 use crate::cell::{decoded, is_missing};
 use crate::decimal::decimal;
 use crate::number::integer;
-use ds2_csv_records::cut;
 use ds2_base::char_count;
+use ds2_csv_records::cut;
 use ds2_value::Ty;
 
 /// What is known of a column's cells.

@@ -6,9 +6,9 @@ mod limits;
 mod records;
 
 use crate::number::integer;
-use ds2_csv_records::cut;
 use crate::{read_table, write_table};
 use ds2_base::{Bytes, List, OutOfMemory, Stop};
+use ds2_csv_records::cut;
 use std::alloc::Global;
 
 // What a file means: its table as it is written again, or its refusal behind a `!`.

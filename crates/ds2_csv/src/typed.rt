@@ -37,12 +37,7 @@ impl Typed {
         if self.bad.is_some() || is_large(number, row.len()) {
             return Ok(());
         }
-        match row_values(
-            alloc,
-            self.table.schema().columns().as_slice(),
-            row,
-            number,
-        ) {
+        match row_values(alloc, self.table.schema().columns().as_slice(), row, number) {
             Ok(values) => self.table.push(values)?,
             Err(Stop::Refused(refusal)) => self.bad = Some(refusal),
             Err(Stop::OutOfMemory) => return Err(OutOfMemory),

@@ -39,6 +39,5 @@ pub records-written : (rows : Rows) → AllByRecursion HasCell rows → strip_bo
 unfolding records_of
 records-written rows a plain = rw plain (records-are (length (text_of_rows rows) + 1) rows (omega (arith, rows-few rows)) a)
 
-
 pub reads-records : ReadsRecords
 reads-records rows a = records-written rows a.full a.plain

@@ -306,7 +306,6 @@ records-none : (cfg : Config) (s : State) (xs : List ℕ) → next_record cfg s 
 unfolding records_from
 records-none cfg s xs e = let n : length xs + 1 ≡ suc (length xs) = omega arith in rw (n, e) refl
 
-
 -- behind a carriage return a text goes on as at its start
 after-cr : (cells : List (List ℕ)) (part text : List ℕ) → next_record default_config st.AfterCr cells part text ≡ next_record default_config st.StartRecord cells part text
 unfolding next_record

@@ -4,5 +4,4 @@ ghost use Rattle.ds2_csv_records.specs.Laws.{ReadsRecords};
 /// The text of rows is read as the rows.
 pub fn reads_records()
     ensures { ReadsRecords }
-{
-}
+{}

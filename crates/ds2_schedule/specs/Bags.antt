@@ -69,12 +69,12 @@ abbrev pub owner : ℕ → List Bag → ℕ
 owner d [] = 0
 owner d (b ∷ bs) = if is_among d b.drawn then 0 else suc (owner d bs)
 
--- The n draws of the workers, and of party w, from number a on.
+-- The n draws of the workers from number a on.
 abbrev pub worker_draws : List Bag → ℕ → ℕ → List StageStep
 worker_draws bags a zero = []
 worker_draws bags a (suc n) = Draws (owner a bags) a ∷ worker_draws bags (a + 1) n
 
--- The draws of the caller, which follow those of the workers.
+-- The n draws of the caller, which is party w, from number a on.
 abbrev pub caller_draws : ℕ → ℕ → ℕ → List StageStep
 caller_draws w a zero = []
 caller_draws w a (suc n) = Draws w a ∷ caller_draws w (a + 1) n

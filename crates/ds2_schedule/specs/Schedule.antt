@@ -75,7 +75,7 @@ abbrev pub up_to_fault : {O : Type 0} → Bool → O → List O → List O
 up_to_fault true o rest = o ∷ []
 up_to_fault false o rest = o ∷ rest
 
--- One more result in front of those that follow, where its group brought one.
+-- A result in front of those that follow, but for a fault, which is the last one; where there is none, none follows.
 abbrev pub next_result : {O : Type 0} → (O → Bool) → Option O → List O → List O
 next_result faults None rest = []
 next_result faults (Some o) rest = up_to_fault (faults o) o rest

@@ -14,8 +14,7 @@ rows-init c = ([], took-none c.args.width c.args.below.now c.new-reader.result c
 pub rows-preserved : goal.rows-preserved
 rows-preserved c =
     let inv = c.rows.invariant in
-    let next : IsNextRow Row c.rows.reader c.next.new.self = rw c.in-Row.is at c.in_ok-next.ensures in
-    (
+    let next : IsNextRow Row c.rows.reader c.next.new.self = rw c.in-Row.is at c.in_ok-next.ensures in (
       inv.0 ++ (row_read c.next.new.self ∷ []),
       took-row c.args.width c.args.below.now c.rows.reader c.next.new.self c.rows.number inv.0 inv.1 next,
       rw c.as_slice.ensures at c.in_ok-add_row-in-Row.ensures.known inv.0 inv.2,
