@@ -2,24 +2,35 @@
 ghost use Rattle.std.specs.Prelude.{◌≡◌};
 ghost use Rattle.ds2_csv.specs.Refusals.{of_file, of_row};
 
+use thiserror::Error;
+
 /// The kind of a refusal, in the order in which the reasons are looked for.
-#[derive(Clone, Copy, Debug, PartialEq, Eq)]
+#[derive(Clone, Copy, Debug, Error, PartialEq, Eq)]
 pub enum CsvKind {
-    /// There are more than 67,108,864 bytes, more than 256 columns, or more than 4,000,000 cells below the header.
+    /// There are more than [`crate::MOST_BYTES`] bytes, more than [`crate::MOST_COLUMNS`] columns, or more than
+    /// [`crate::MOST_CELLS`] cells below the header.
+    #[error("too many bytes, columns or cells")]
     TooLarge,
     /// The bytes are not UTF-8.
+    #[error("the bytes are not UTF-8")]
     NotUtf8,
     /// There is no record.
+    #[error("there is no record")]
     NoHeader,
     /// A header cell tells no name.
+    #[error("a header cell tells no name")]
     BadHeader,
     /// A header cell tells a type whose numbers are outside their range.
+    #[error("a header cell tells a type out of its range")]
     BadType,
     /// A header cell tells the name of an earlier column.
+    #[error("two columns have one name")]
     DuplicateColumn,
     /// A record has another number of cells than the header.
+    #[error("a record has another number of cells than the header")]
     BadRecord,
     /// A cell has no value of its column's type.
+    #[error("a cell has no value of its column's type")]
     BadCell,
 }
 

@@ -1,80 +1,46 @@
-//! Files by hand: the table that each means, as it is written again, or why it means none.
-mod built;
-mod cells;
-mod headers;
-mod limits;
-mod records;
-
-use crate::number::integer;
-use crate::{read_table, write_table};
+//! Each call that takes memory, with ample memory.
+use crate::{TableWriter, read_table, write_rows, write_table};
 use ds2_base::{Bytes, List, OutOfMemory, Stop};
-use ds2_csv_records::cut;
 use std::alloc::Global;
 
-// What a file means: its table as it is written again, or its refusal behind a `!`.
-fn meaning(alloc: Global, file: &Bytes) -> Result<Bytes, OutOfMemory> {
-    match read_table(alloc, file) {
+// A table of all four types with a quote and nulls, as it is written.
+const WRITTEN: &[u8] = b"a bigint,\"b decimal(3,1)\",c char(2),d varchar(3)\n1,-0.5,x ,\"y\"\"z\"\n,,\\N,\\N\n";
+
+// The same table as a file whose header tells no types.
+const PLAIN: &[u8] = b"a,b,c char(2),d\r\n1,-0.5,\"x\",\"y\"\"z\"\n\\N,,\\N,\\N\n";
+
+fn copied(alloc: Global, file: &[u8]) -> Result<Bytes, OutOfMemory> {
+    let bytes = List::from_slice(alloc, file)?;
+    match read_table(alloc, &bytes) {
         Ok(table) => write_table(alloc, &table),
-        Err(Stop::Refused(refusal)) => {
-            let kind = refusal.kind;
-            let row = refusal.row;
-            let column = refusal.column;
-            let text = format!(in alloc; "!{kind:?} {row} {column}")?;
-            List::from_slice(alloc, text.as_bytes())
-        }
+        Err(Stop::Refused(_)) => List::from_slice(alloc, b"refused"),
         Err(Stop::OutOfMemory) => Err(OutOfMemory),
     }
 }
 
-// The bytes that are written as a front, `^`, a piece, `^`, how often it stands there, `^` and a back, or simply as they are.
-fn bytes(alloc: Global, text: &[u8]) -> Result<Bytes, OutOfMemory> {
-    let (front, rest) = cut(text, b'^');
-    let (piece, rest) = cut(rest, b'^');
-    let (count, back) = cut(rest, b'^');
-    let mut bytes = List::from_slice(alloc, front)?;
-    for _ in 0..integer(count).unwrap_or(0) {
-        bytes.append(piece)?;
+// The table of a file, written as its rows come.
+fn written_by_rows(alloc: Global, file: &[u8]) -> Result<Bytes, OutOfMemory> {
+    let bytes = List::from_slice(alloc, file)?;
+    let Ok(table) = read_table(alloc, &bytes) else {
+        return Err(OutOfMemory);
+    };
+    let columns = table.schema().columns().as_slice();
+    let mut writer = TableWriter::new(alloc, columns)?;
+    for row in table.rows().as_slice() {
+        writer = writer.with_row(alloc, columns, row.as_slice())?;
     }
-    bytes.append(back)?;
-    Ok(bytes)
-}
-
-// The number of the first of these cases that does not hold. A case is a file, `~` and what the file means; `|` stands between
-// cases.
-fn failing(alloc: Global, cases: &[u8]) -> Result<Option<usize>, OutOfMemory> {
-    let mut rest = cases;
-    for number in 0..cases.len() {
-        if rest.is_empty() {
-            return Ok(None);
-        }
-        let (case, more) = cut(rest, b'|');
-        let (file, want) = cut(case, b'~');
-        let file = bytes(alloc, file)?;
-        let want = bytes(alloc, want)?;
-        if meaning(alloc, &file)?.as_slice() != want.as_slice() {
-            return Ok(Some(number));
-        }
-        rest = more;
-    }
-    Ok(None)
+    writer.into_bytes()
 }
 
 #[test]
-fn files_by_hand(rt: HostRuntime) {
+fn a_table_is_read_and_written(rt: HostRuntime) {
     let alloc = rt.alloc();
-    for cases in [
-        records::QUOTES,
-        records::LINES,
-        records::BYTES,
-        headers::NAMES,
-        headers::TYPES,
-        headers::ORDER,
-        cells::NUMBERS,
-        cells::TEXTS,
-        cells::INFERRED,
-        built::CELLS,
-        built::ROWS,
-    ] {
-        assert_eq!(&rt; failing(alloc, cases), Ok(None));
+    for file in [WRITTEN, PLAIN] {
+        let copy = copied(alloc, file);
+        assert!(&rt; copy.is_ok_and(|bytes| bytes.as_slice() == WRITTEN));
     }
+    let copy = written_by_rows(alloc, WRITTEN);
+    assert!(&rt; copy.is_ok_and(|bytes| bytes.as_slice() == WRITTEN));
+    let none = write_rows(alloc, &[], &[]);
+    assert!(&rt; none.is_ok_and(|bytes| bytes.as_slice() == b"\"\"\n"));
 }

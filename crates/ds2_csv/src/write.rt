@@ -63,22 +63,27 @@ fn add_text(alloc: Global, out: &mut Bytes, text: &str) -> Result<(), OutOfMemor
 }
 
 // Adds the text of a cell that holds an integer, which needs no quotes.
-fn add_integer(out: &mut Bytes, i: i64) -> Result<(), OutOfMemory>
+fn add_integer(out: &mut Bytes, buffer: &mut Buffer, i: i64) -> Result<(), OutOfMemory>
     ensures { OnOk result (out.new ≡ out.old ++ field_of (signed_decimal i)) }
 {
-    let mut buffer = Buffer::new();
     out.append(buffer.format(i).as_bytes())?;
     Ok(())
 }
 
 // Adds the text of a cell that holds a value in a column of a type.
 #[tactic(auto, unfolding(crate::specs::Text::cell_text))]
-fn add_cell(alloc: Global, out: &mut Bytes, ty: Ty, value: &Value) -> Result<(), OutOfMemory>
+fn add_cell(
+    alloc: Global,
+    out: &mut Bytes,
+    buffer: &mut Buffer,
+    ty: Ty,
+    value: &Value,
+) -> Result<(), OutOfMemory>
     ensures { OnOk result (out.new ≡ out.old ++ field_of (cell_text ty value.now)) }
 {
     match value {
         Value::Null => add_field(out, null_text(ty).as_bytes()),
-        Value::Int(i) => add_integer(out, *i),
+        Value::Int(i) => add_integer(out, buffer, *i),
         Value::Dec(d) => {
             let number = write_dec(alloc, *d)?;
             add_field(out, number.as_bytes())
@@ -112,6 +117,7 @@ fn row_cells(
 ) -> Result<(), OutOfMemory>
     ensures { OnOk result (out.new ≡ out.old ++ row_body default_writer (cells_text columns.now row.now)) }
 {
+    let mut buffer = Buffer::new();
     let mut later = columns;
     let mut rest = row;
     let mut first = true;
@@ -120,7 +126,7 @@ fn row_cells(
             [] => return Ok(()),
             [value, others @ ..] => {
                 add_separator(out, first)?;
-                add_cell(alloc, out, column.ty, value)?;
+                add_cell(alloc, out, &mut buffer, column.ty, value)?;
                 later = after;
                 rest = others;
                 first = false;

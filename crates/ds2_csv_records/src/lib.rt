@@ -9,6 +9,8 @@ pub mod laws;
 mod part;
 mod read;
 mod taken;
+#[cfg(test)]
+mod tests;
 mod write;
 
 pub use cell::{Cell, unquoted};

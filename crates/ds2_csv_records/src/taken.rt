@@ -46,6 +46,7 @@ fn ended<'t>(cell: Cell<'t>, behind: &'t str) -> Taken<'t>
 }
 
 // The rest of a cell behind its opening quote.
+#[inline(never)]
 fn quoted(inside: &str) -> Taken<'_>
     ensures taken { (cells : Items (Items ℕ)) → rest_of st.InQuoted cells [] inside.now ≡ rest_behind cells result }
     ensures shorter { result.more ≡ true → length result.rest.now < length inside.now }
@@ -73,6 +74,7 @@ fn bare(text: &str) -> Taken<'_>
 }
 
 /// The first cell of a text, which stands at the start of a cell.
+#[inline(always)]
 pub fn take_cell(text: &str) -> Taken<'_>
     ensures taken { IsTaken text.now result }
     ensures shorter { result.more ≡ true → length result.rest.now < length text.now }
