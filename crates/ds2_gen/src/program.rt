@@ -11,7 +11,8 @@ ghost use Rattle.ds2_gen.specs.Correct.{Simulates, Same};
 use crate::emit::{Emitted, emit_all};
 use crate::size::number;
 use ds2_base::{List, OutOfMemory};
-use ds2_code::{Instr, ProgramCode, Role, laws::one_end};
+use ds2_code::laws::one_end;
+use ds2_code::{Instr, ProgramCode, Role};
 use ds2_layout::{Layout, NameTable, variables};
 use ds2_meaning::{Stmt, TypedData};
 use ds2_value::Column;
@@ -81,11 +82,7 @@ fn only<T: Drop>(alloc: Global, item: T) -> Result<List<T>, OutOfMemory>
 }
 
 // The parts of the code of a program.
-fn assemble(
-    alloc: Global,
-    program: &TypedData,
-    layout: &Layout,
-) -> Result<ProgramCode, OutOfMemory>
+fn assemble(alloc: Global, program: &TypedData, layout: &Layout) -> Result<ProgramCode, OutOfMemory>
     requires layout { layout.now ≡ slot_names (program_of program.now) }
     ensures { IfOk result (IsCodeOf (program_of program.now)) }
 {
