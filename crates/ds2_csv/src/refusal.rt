@@ -4,7 +4,8 @@ ghost use Rattle.ds2_csv.specs.Refusals.{of_file, of_row};
 
 use thiserror::Error;
 
-/// The kind of a refusal, in the order in which the reasons are looked for.
+/// The kind of a refusal, in the order in which the reasons are looked for. A new one touches the files that docs/ARCHITECTURE.md
+/// lists under 'To add a refusal'.
 #[derive(Clone, Copy, Debug, Error, PartialEq, Eq)]
 pub enum CsvKind {
     /// There are more than [`crate::MOST_BYTES`] bytes, more than [`crate::MOST_COLUMNS`] columns, or more than

@@ -4,7 +4,8 @@ use ds2_base::{Bytes, List, OutOfMemory, Stop};
 use std::alloc::Global;
 
 // A table of all four types with a quote and nulls, as it is written.
-const WRITTEN: &[u8] = b"a bigint,\"b decimal(3,1)\",c char(2),d varchar(3)\n1,-0.5,x ,\"y\"\"z\"\n,,\\N,\\N\n";
+const WRITTEN: &[u8] =
+    b"a bigint,\"b decimal(3,1)\",c char(2),d varchar(3)\n1,-0.5,x ,\"y\"\"z\"\n,,\\N,\\N\n";
 
 // The same table as a file whose header tells no types.
 const PLAIN: &[u8] = b"a,b,c char(2),d\r\n1,-0.5,\"x\",\"y\"\"z\"\n\\N,,\\N,\\N\n";

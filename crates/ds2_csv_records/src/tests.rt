@@ -1,5 +1,7 @@
 //! Each call that takes memory, with ample memory.
-use crate::{Cell, Record, add_field, add_separator, end_record, next_record, unquoted, without_mark};
+use crate::{
+    Cell, Record, add_field, add_separator, end_record, next_record, unquoted, without_mark,
+};
 use ds2_base::{Bytes, List, OutOfMemory};
 use std::alloc::Global;
 
