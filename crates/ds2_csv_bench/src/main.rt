@@ -5,7 +5,7 @@
 #![tactic(auto)]
 
 use ds2_base::{Bytes, Text};
-use ds2_csv::{read_table, write_table};
+use ds2_csv::{MOST_BYTES, read_table, write_table};
 use ds2_outside::{FolderStore, Store};
 use ds2_table::Table;
 use std::alloc::Global;
@@ -13,12 +13,12 @@ use std::time::Instant;
 use std::{env, io};
 
 /// The most bytes of a table.
-const MOST_BYTES: u64 = 67_108_864;
+const FILE_LIMIT: u64 = MOST_BYTES as u64;
 
 // The bytes of the table, none where they can't be read.
 fn bytes<S: Store>(alloc: Global, store: &mut S) -> Option<Bytes> {
     let name = Text::of(alloc, "t.csv").ok()?;
-    store.read(alloc, &name, MOST_BYTES).ok()
+    store.read(alloc, &name, FILE_LIMIT).ok()
 }
 
 // The table of these bytes, where they are one.

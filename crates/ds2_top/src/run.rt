@@ -20,7 +20,7 @@ use crate::program::{one_thread_end, program_over};
 use crate::words::{Command, read_words};
 use crate::{Halt, Status};
 use ds2_base::{Bytes, Place, Stop, Text};
-use ds2_csv::read_table;
+use ds2_csv::{MOST_BYTES, read_table};
 use ds2_draft_layout::{Layout, first_unknown, lay_out};
 use ds2_draft_meaning::TypedData;
 use ds2_draft_source::{Source, read_source};
@@ -33,7 +33,7 @@ use std::alloc::Global;
 pub const SOURCE_LIMIT: u64 = 262_144;
 
 /// The most bytes of a table's file.
-pub const TABLE_LIMIT: u64 = 67_108_864;
+pub const TABLE_LIMIT: u64 = MOST_BYTES as u64;
 
 // Runs a program whose names are known.
 fn run_known<S: Store>(
