@@ -6,7 +6,7 @@ use Rattle.ds2_value.specs.declared.value.Value.{Value}
 use Rattle.ds2_value.specs.declared.value.Value.TheVariants.{Null}
 use Rattle.ds2_value.specs.declared.schema.Column.{Column}
 use Rattle.ds2_value.specs.Run.{opening, wrote, Outcome, Done, Stopped}
-use Rattle.ds2_table.specs.Alone.{ProgramEnd, then_end, after_unit, alone, IsAlone, IsAfter}
+use Rattle.ds2_table.specs.Alone.{ProgramEnd, then_end, after_unit, alone, IsAlone, IsAfterUnit}
 use Rattle.ds2_draft_meaning.specs.Meaning.{DataVector, then_do, exec_all}
 use Rattle.ds2_draft_meaning.specs.Program.{Program, variables, loaded, output, output_row, run_unit}
 use Rattle.ds2_draft_meaning.specs.Names.{AllKnown}
@@ -121,7 +121,7 @@ module _ (program : Program) (code : ProgramCode) (is : IsCodeOf program code) w
       → IsAlone (RunsUnit code budget) rows slots executed end → end ≡ alone (run_unit program budget) rows (named names slots)
 
   same_after : (budget n executed : ℕ) (end : ProgramEnd) (rows : List (List Value)) (outcome : Outcome Slots) (o : Outcome DataVector) → SameOn budget rows → AllOfLength (length program.columns) rows → Keeps (length code.slots) outcome → outcome_by_name names outcome ≡ o
-      → IsAfter (IsAlone (RunsUnit code budget) rows) n executed end outcome → end ≡ after_unit o (alone (run_unit program budget) rows)
+      → IsAfterUnit (IsAlone (RunsUnit code budget) rows) n executed end outcome → end ≡ after_unit o (alone (run_unit program budget) rows)
   same_after budget n executed end rows (Done slots rest) o ih all keeps means (m, after, goes, count, is_end) =
       is_end ∙ ap (then_end rest) (ih slots m after keeps all goes) ∙ ap (λ x. after_unit x (alone (run_unit program budget) rows)) means
   same_after budget n executed end rows (Stopped fault rest) o ih all keeps means (count, is_end) =
