@@ -43,5 +43,5 @@ fn a_table_is_read_and_written(rt: HostRuntime) {
     let copy = written_by_rows(alloc, WRITTEN);
     assert!(&rt; copy.is_ok_and(|bytes| bytes.as_slice() == WRITTEN));
     let none = write_rows(alloc, &[], &[]);
-    assert!(&rt; none.is_ok_and(|bytes| bytes.as_slice() == b"\"\"\n"));
+    assert!(&rt; none.is_ok_and(|bytes| bytes.as_slice() == b"\"\"\n".as_slice()));
 }
