@@ -1,6 +1,6 @@
 -- How many characters a text has, and blanks behind it.
 use Rattle.std.proofs.Common.{◌≡◌, ◌≤◌, ◌+◌, ℕ, true, List, [], ◌∷◌, ◌++◌, ◌-◌, length, refl, sym, ap, ◌∙◌, arith, append_assoc, lit<}
-use Rattle.std.specs.Prelude.{replicate, nat_le}
+use Rattle.std.specs.Prelude.{replicate, nat_le, Bool, ◌&&◌}
 use Rattle.std.specs.Str.{chars, IsUtf8}
 use Rattle.std.specs.Char.{encode_utf8}
 use Rattle.std.proofs.Common.{length-append}
@@ -37,3 +37,6 @@ count-more bytes n u e =
   where
     chars-blank : chars (encode_utf8 32) ≡ 32 ∷ []
     chars-blank = ap chars (sym (append-nil (encode_utf8 32))) ∙ chars-encodes (32 ∷ []) refl
+
+pub both_hold : (a b : Bool) → a ≡ true → b ≡ true → (a && b) ≡ true
+both_hold a b e f = rw (e, f) refl

@@ -133,7 +133,6 @@ impl Inference {
     }
 
     /// One more cell.
-    #[inline(always)]
     pub fn with_cell(self, cell: &str) -> Inference
         ensures { (cells : Items (Items ℕ)) → IsInferred self cells → IsInferred result (cells ++ cell.now ∷ []) }
     {

@@ -1,15 +1,13 @@
 //! Writing of a table.
-ghost use Rattle.std.specs.Prelude.{◌≡◌, ◌≤◌, ◌++◌, ◌∷◌, [], if◌then◌else◌, map, OnOk, IfOk, string_bytes};
+ghost use Rattle.std.specs.Prelude.{◌≡◌, ◌++◌, map, OnOk, IfOk, string_bytes};
 ghost use Rattle.std.specs.Fmt.{signed_decimal};
 ghost use Rattle.csv.specs.Writing.{default_writer, row_body, row_text};
 ghost use Rattle.ds2_csv_records.specs.Records.{field_of};
-ghost use Rattle.ds2_decimal.specs.Text.{decimal_text, last_digits, written_magnitude};
 ghost use Rattle.ds2_csv.specs.Text.{type_text, heading_text, null_text, escaped, cell_text, cells_text, text};
 
 use crate::TableWriter;
 use ds2_base::{Bytes, OutOfMemory};
 use ds2_csv_records::{add_field, add_separator, end_record};
-use ds2_decimal::Dec;
 use ds2_table::Table;
 use ds2_value::{Column, Row, Ty, Value, write_dec};
 use itoa::Buffer;
@@ -72,62 +70,6 @@ fn add_integer(out: &mut Bytes, buffer: &mut Buffer, i: i64) -> Result<(), OutOf
     Ok(())
 }
 
-// Adds the last digits of a number, so many of them.
-fn add_last_digits(out: &mut Bytes, n: u64, count: u8) -> Result<(), OutOfMemory>
-    ensures { OnOk result (out.new ≡ out.old ++ last_digits count n) }
-{
-    if count > 0 {
-        add_last_digits(out, n / 10, count - 1)?;
-        out.push(b'0' + (n % 10) as u8)?;
-    }
-    Ok(())
-}
-
-// Adds the sign of a number below 0.
-fn add_sign(out: &mut Bytes, below_zero: bool) -> Result<(), OutOfMemory>
-    ensures { OnOk result (out.new ≡ out.old ++ (if below_zero then 45 ∷ [] else [])) }
-{
-    if below_zero {
-        out.push(b'-')?;
-    }
-    Ok(())
-}
-
-// Adds the text of a decimal without its sign, of at most 18 digits behind the point.
-fn add_magnitude(out: &mut Bytes, buffer: &mut Buffer, n: u64, scale: u8) -> Result<(), OutOfMemory>
-    requires { scale ≤ 18 }
-    ensures { OnOk result (out.new ≡ out.old ++ written_magnitude n scale) }
-{
-    if scale == 0 {
-        out.append(buffer.format(n).as_bytes())?;
-        return Ok(());
-    }
-    out.append(buffer.format(n / 10u64.pow(scale as u32)).as_bytes())?;
-    out.push(b'.')?;
-    add_last_digits(out, n, scale)?;
-    Ok(())
-}
-
-// Adds the text of a cell that holds a decimal, which needs no quotes. A short one is written here, in fewer steps.
-fn add_decimal(
-    alloc: Global,
-    out: &mut Bytes,
-    buffer: &mut Buffer,
-    d: Dec,
-) -> Result<(), OutOfMemory>
-    ensures { OnOk result (out.new ≡ out.old ++ field_of (decimal_text d)) }
-{
-    let units = d.units();
-    let magnitude = units.unsigned_abs();
-    if d.scale() > 18 || magnitude > u64::MAX as u128 {
-        let text = write_dec(alloc, d)?;
-        return add_field(out, text.as_bytes());
-    }
-    add_sign(out, units < 0)?;
-    add_magnitude(out, buffer, magnitude as u64, d.scale())?;
-    Ok(())
-}
-
 // Adds the text of a cell that holds a value in a column of a type.
 #[tactic(auto, unfolding(crate::specs::Text::cell_text))]
 fn add_cell(
@@ -142,7 +84,10 @@ fn add_cell(
     match value {
         Value::Null => add_field(out, null_text(ty).as_bytes()),
         Value::Int(i) => add_integer(out, buffer, *i),
-        Value::Dec(d) => add_decimal(alloc, out, buffer, *d),
+        Value::Dec(d) => {
+            let number = write_dec(alloc, *d)?;
+            add_field(out, number.as_bytes())
+        }
         Value::Txt(t) => add_text(alloc, out, t.as_str()),
     }
 }
