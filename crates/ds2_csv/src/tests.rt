@@ -7,8 +7,9 @@ use std::alloc::Global;
 const WRITTEN: &[u8] =
     b"a bigint,\"b decimal(3,1)\",c char(2),d varchar(3)\n1,-0.5,x ,\"y\"\"z\"\n,,\\N,\\N\n";
 
-// The same table as a file whose header tells no types.
-const PLAIN: &[u8] = b"a,b,c char(2),d\r\n1,-0.5,\"x\",\"y\"\"z\"\n\\N,,\\N,\\N\n";
+// The same table as a file whose header does not tell each type.
+const PLAIN: &[u8] =
+    b"a,\" B Decimal(3,1) \",c char(2),d\r\n1,-0.5,\"x\",\"y\"\"z\"\n\\N,,\\N,\\N\n";
 
 fn copied(alloc: Global, file: &[u8]) -> Result<Bytes, OutOfMemory> {
     let bytes = List::from_slice(alloc, file)?;
