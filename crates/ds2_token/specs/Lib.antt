@@ -1,3 +1,4 @@
 pub mod Forms
 pub mod Limits
 pub mod Standing
+pub mod Words

@@ -1,5 +1,5 @@
 -- From a file that was read to the rest of a script.
-use Rattle.std.proofs.Common.{◌≡◌, ◌≢◌, ◌<◌, ◌≤◌, ◌+◌, ◌-◌, ◌∙◌, ◌&&◌, IsTrue, IsErrAnd, inl, inr, if◌then◌else◌, take, option_map, unwrap_or, Bool, true, false, ℕ, List, [], ◌∷◌, ◌++◌, length, drop, codes, nat_lt, nat_eq, Option, Some, None, Result, Ok, Err, IfSome, refl, sym, ap, subst, arith, length-append, length-take}
+use Rattle.std.proofs.Common.{◌≡◌, ◌≢◌, ◌<◌, ◌≤◌, ◌+◌, ◌-◌, ◌∙◌, ◌&&◌, IsTrue, IsErrAnd, inl, inr, if◌then◌else◌, take, option_map, unwrap_or, Bool, true, false, ℕ, List, [], ◌∷◌, ◌++◌, length, drop, codes, nat_eq, Option, Some, None, Result, Ok, Err, IfSome, refl, sym, ap, subst, arith, length-append, length-take}
 use Rattle.std.specs.declared.cmp.Ordering.{Ordering}
 use Rattle.std.specs.declared.cmp.Ordering.TheVariants.{Less, Equal, Greater}
 use Rattle.std.specs.Ordering.{nat_cmp, is_eq}

@@ -1,5 +1,5 @@
 -- From what came of a script to what a command leaves.
-use Rattle.std.proofs.Common.{◌≡◌, ◌⊎◌, inl, inr, ℕ, List, [], ◌∷◌, ◌++◌, codes, refl, sym, ap, ◌∙◌, subst, append_assoc, Option, Some, None, IfSome, IsSome}
+use Rattle.std.proofs.Common.{◌≡◌, ◌⊎◌, inl, inr, ℕ, List, [], ◌∷◌, ◌++◌, codes, refl, sym, ap, ◌∙◌, subst, append_assoc, Option, Some, IfSome, IsSome}
 use Rattle.ds2_outside.specs.Files.{Files, LeavesPart, with_file}
 use Rattle.ds2_top.specs.declared.status.Status.{Status}
 use Rattle.ds2_top.specs.declared.status.Status.TheVariants as ended
@@ -8,7 +8,7 @@ use Rattle.ds2_top.specs.Actions.{Action, Line, ReadOf, WriteOf, line_of, files_
 use Rattle.ds2_top.specs.Leaves.{ReadFailed, WriteFailed, Between, AtWrite, IsText, MemoryLog, Leaves}
 use Rattle.ds2_top.specs.Lines.{fault_line, memory_line}
 use Rattle.ds2_top.specs.Outcome.{CameOf, Short, told_with}
-use Rattle.ds2_top.specs.Outside.{Outside, HoldsFiles, HoldsTorn, LogGainsPart, LogRose, ReadsRose, WritesRose}
+use Rattle.ds2_top.specs.Outside.{Outside, HoldsFiles, LogGainsPart, LogRose, ReadsRose, WritesRose}
 use Rattle.ds2_top.specs.Reported.{Reported, TakesSome}
 use Rattle.ds2_top.specs.Script.{Script, Ends, Says, Reads, Writes}
 

@@ -7,7 +7,7 @@ use Rattle.ds2_top.specs.declared.halt.Halt.TheVariants.{Ended, OutOfMemory}
 use Rattle.ds2_top.specs.declared.status.Status.{Status}
 use Rattle.ds2_top.specs.declared.status.Status.TheVariants as ended
 use Rattle.ds2_top.specs.declared.words.Command.{Command}
-use Rattle.ds2_top.specs.Actions.{actions, log_text, status_of}
+use Rattle.ds2_top.specs.Actions.{actions, log_text}
 use Rattle.ds2_top.specs.Answer.{answer, on_command}
 use Rattle.ds2_top.specs.Halt.{Caused, DoesAll}
 use Rattle.ds2_top.specs.Headline.{Headline, IsAnswered, LeavesRefusal}

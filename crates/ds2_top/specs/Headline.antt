@@ -3,7 +3,7 @@ use Rattle.std.specs.Prelude.{◌≡◌, ◌⊎◌, ℕ, List, None, IfSome}
 use Rattle.ds2_outside.specs.Files.{Files}
 use Rattle.ds2_top.specs.declared.status.Status.{Status}
 use Rattle.ds2_top.specs.declared.status.Status.TheVariants as ended
-use Rattle.ds2_top.specs.Actions.{actions, files_left, log_text, status_of}
+use Rattle.ds2_top.specs.Actions.{actions, log_text, status_of}
 use Rattle.ds2_top.specs.Answer.{answer}
 use Rattle.ds2_top.specs.Fault.{LeavesFault}
 use Rattle.ds2_top.specs.Leaves.{Did, Leaves}

@@ -1,7 +1,6 @@
 -- What a command leaves in the files and the log, at each status.
-use Rattle.std.specs.Prelude.{◌≡◌, ◌⊎◌, ℕ, List, [], ◌∷◌, ◌++◌, codes, IfSome}
+use Rattle.std.specs.Prelude.{◌≡◌, ◌⊎◌, ℕ, List, [], ◌∷◌, ◌++◌, codes}
 use Rattle.ds2_outside.specs.Files.{Files}
-use Rattle.ds2_outside.specs.Written.{TakesPart}
 use Rattle.ds2_top.specs.declared.status.Status.{Status}
 use Rattle.ds2_top.specs.declared.status.Status.TheVariants as ended
 use Rattle.ds2_top.specs.Actions.{Action, ReadOf, WriteOf, actions, files_left, log_text, status_of}

@@ -8,6 +8,10 @@ use std::test::Fail;
 
 const SUM: &str = "data out; dcl bigint x; method run(); set t; x = a + b; end; enddata;";
 
+const OUTPUT: &str = "x bigint,a bigint,b bigint\n3,1,2\n";
+
+const LOG: &str = "NOTE: Table out, 1 rows.\n";
+
 // A store with a source and its table.
 fn first_store(alloc: Global) -> Result<MemStore, OutOfMemory> {
     let mut store = MemStore::new(alloc);
@@ -29,10 +33,10 @@ fn first_words(alloc: Global) -> Result<Vec<Text>, OutOfMemory> {
 fn is_summed(alloc: Global, store: &MemStore, log: &MemSink) -> Result<bool, OutOfMemory> {
     let name = Text::of(alloc, "out.csv")?;
     let written = match store.file(&name) {
-        Some(bytes) => bytes.as_slice() == b"x bigint,a bigint,b bigint\n3,1,2\n",
+        Some(bytes) => bytes.as_slice() == OUTPUT.as_bytes(),
         None => false,
     };
-    Ok(written && log.written().as_slice() == b"NOTE: Table out, 1 rows.\n")
+    Ok(written && log.written().as_slice() == LOG.as_bytes())
 }
 
 #[test]
