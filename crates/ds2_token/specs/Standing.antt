@@ -54,7 +54,7 @@ abbrev pub BeginsNoForm : Bytes → Type 0
 BeginsNoForm text = (0 < length text) × ((s rest : Bytes) → s ++ rest ≡ text → IsForm s → ⊥)
 
 abbrev pub BeginsRefused : Bytes → LexKind → Type 0
-BeginsRefused text kind = (s : Bytes) × ((rest : Bytes) × ((text ≡ s ++ rest) × (IsLongest IsForm s rest) × (refusal_of s ≡ Some kind)))
+BeginsRefused text kind = (s : Bytes) × (rest : Bytes) × (text ≡ s ++ rest) × IsLongest IsForm s rest × (refusal_of s ≡ Some kind)
 
 abbrev pub HasCause : Bytes → LexKind → Type 0
 HasCause text kind = (BeginsNoForm text × (kind ≡ BadCharacter)) ⊎ BeginsRefused text kind
@@ -74,12 +74,12 @@ without_mark text = if bytes_eq (take 3 text) (239 ∷ 187 ∷ 191 ∷ []) then 
 
 -- the tokens stand for the text: it is gaps and their spellings in turn, and ends in a gap
 abbrev pub StandsFor : Bytes → List Token → Type 0
-StandsFor text tokens = (end : Place) × ((left : Bytes) × (LeadsTo start_place (without_mark text) tokens end left × IsGap left))
+StandsFor text tokens = (end : Place) × (left : Bytes) × LeadsTo start_place (without_mark text) tokens end left × IsGap left
 
 -- the refusal is the first in the text: before it are gaps and spellings of tokens in turn
 abbrev pub IsFirstRefusal : Bytes → Refusal LexKind → Type 0
 IsFirstRefusal text refusal =
-    (tokens : List Token) × ((at : Place) × ((left : Bytes) × (LeadsTo start_place (without_mark text) tokens at left × BeginsWithRefusal at left refusal)))
+    (tokens : List Token) × (at : Place) × (left : Bytes) × LeadsTo start_place (without_mark text) tokens at left × BeginsWithRefusal at left refusal
 
 -- the answer is what the text has, tokens or a first refusal, unless memory ran out
 abbrev pub IsReadOf : Bytes → Result (List Token) (Stop (Refusal LexKind)) → Type 0

@@ -6,6 +6,8 @@
 #![tactic(auto)]
 
 mod kinds;
+pub mod laws;
+mod scan;
 mod token;
 
 pub use kinds::{LexKind, TokenKind};
