@@ -1,2 +1,5 @@
+pub mod Fronts
+pub mod Heads
 pub mod OneAnswer
 pub mod Pieces
+pub mod Runs

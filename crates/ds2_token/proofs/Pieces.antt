@@ -5,10 +5,10 @@ use Rattle.std.specs.List.{concat, list_all}
 use Rattle.std.specs.Str.{bytes_eq}
 use Rattle.std.specs.Cmp.Lexicographic.{bytes_decides}
 use Rattle.std.proofs.lemmas.Bool.{and_parts, or_parts, or_cases, and_from, and_right, and_left, or_left, or_right, or_from, eqb-true, leb-true, le-leb, not-true, not_from_false, cases_Bool, cond-true, cond-false, both_ways}
-use Rattle.std.proofs.lemmas.List.{append-nil, length-append, take-append-drop, take_at, drop_at, nil_from_length, length-take-le}
+use Rattle.std.proofs.lemmas.List.{append-nil, length-append, take-append-drop, take_at, drop_at, take_all}
 use Rattle.ds2_base.specs.Bytes.{Bytes}
 use Rattle.ds2_token.specs.Forms.{is_blank, opens_comment, closes_comment, holds_comment_end, is_comment, is_open_comment, IsGap}
-use Rattle.ds2_token.specs.Scan.{is_blank_byte, further, comment_end, piece_size}
+use Rattle.ds2_token.specs.Scan.{is_blank_byte, further, closes_here, comment_end, piece_size}
 use Rattle.ds2_token.specs.Standing.{IsLongest}
 use Rattle.ds2_token.proofs.OneAnswer.{same_cut}
 
@@ -26,6 +26,22 @@ is_piece piece = is_blank piece || is_comment piece
 further_some : (n k : ℕ) → 0 < n → further k n ≡ n + k
 further_some zero k some = absurd (omega arith)
 further_some (suc n) k some = refl
+
+further_more : (p n : ℕ) → further p (further 1 n) ≡ further (p + 1) n
+further_more p zero = refl
+further_more p (suc n) = further_some (suc n + 1) p (omega arith) ∙ omega arith
+
+one_less : (c : ℕ) (cs : Bytes) → take (length (c ∷ cs) - 1) cs ≡ cs
+one_less c cs = take_all (length (c ∷ cs) - 1) cs (omega arith)
+
+-- one byte further
+pub comment_end_more : (p : ℕ) (text : Bytes) → closes_here text ≡ false → 0 < length text
+    → further (p + 1) (comment_end (take (length text - 1) (drop 1 text))) ≡ further p (comment_end text)
+comment_end_more p [] e some = absurd (omega arith)
+comment_end_more p (c ∷ cs) e some =
+    ap (λ (xs : Bytes). further (p + 1) (comment_end xs)) (one_less c cs)
+    ∙ sym (further_more p (comment_end cs))
+    ∙ ap (further p) (sym (cond-false (closes_here (c ∷ cs)) 2 (further 1 (comment_end cs)) e))
 
 pair_test : (x y : Bool) → (x && (y && true)) ≡ (x && y)
 pair_test true true = refl
@@ -101,6 +117,9 @@ end_found (c ∷ d ∷ cs) k is =
       | inr e ↦ end_later c d cs k (comment_end (d ∷ cs)) e is refl (λ j n. end_found (d ∷ cs) j n)
     ]
 
+two_zero : (n : ℕ) → n ≡ 2 → n ≡ 0 → ⊥
+two_zero n e f = omega arith
+
 further_none : (n k : ℕ) → further k n ≡ 0 → 0 < k → n ≡ 0
 further_none zero k e some = refl
 further_none (suc n) k e some = absurd (omega arith)
@@ -111,7 +130,7 @@ no_end [] is = refl
 no_end (c ∷ []) is = or_from (c == 42 && false) false (and_right (c == 42) false refl) refl
 no_end (c ∷ d ∷ cs) is =
     elim (cases_Bool (c == 42 && d == 47)) [
-      | inl e ↦ let wrong : 2 ≡ 0 = sym (end_branch true c d cs e) ∙ is in absurd (omega arith)
+      | inl e ↦ absurd (two_zero (comment_end (c ∷ d ∷ cs)) (end_branch true c d cs e) is)
       | inr e ↦
         let rest : further 1 (comment_end (d ∷ cs)) ≡ 0 = sym (end_branch false c d cs e) ∙ is in
         or_from (c == 42 && (d == 47 && true)) (holds_comment_end (d ∷ cs)) (pair_test (c == 42) (d == 47) ∙ e)
@@ -235,7 +254,7 @@ comment_front text k is =
     let size : length (47 ∷ 42 ∷ (found.body ++ 42 ∷ 47 ∷ [])) ≡ suc k + 2 = omega (arith, found.sized, length-append found.body (42 ∷ 47 ∷ [])) in
     let front : take (suc k + 2) (47 ∷ 42 ∷ text) ≡ 47 ∷ 42 ∷ (found.body ++ 42 ∷ 47 ∷ []) =
       ap (λ (xs : Bytes). take (suc k + 2) xs) whole ∙ take_at (47 ∷ 42 ∷ (found.body ++ 42 ∷ 47 ∷ [])) found.rest (suc k + 2) size in
-    ap is_piece front ∙ or_right _ _ (comment_is found.body found.plain)
+    ap is_piece front ∙ or_right (is_blank (47 ∷ 42 ∷ (found.body ++ 42 ∷ 47 ∷ []))) (is_comment (47 ∷ 42 ∷ (found.body ++ 42 ∷ 47 ∷ []))) (comment_is found.body found.plain)
 
 take_one : (c : ℕ) (cs : Bytes) → take 1 (c ∷ cs) ≡ c ∷ []
 take_one c cs = refl
@@ -243,7 +262,7 @@ take_one c cs = refl
 blank_front : (c : ℕ) (cs : Bytes) → is_blank_byte c ≡ true → is_piece (take (piece_size (c ∷ cs)) (c ∷ cs)) ≡ true
 blank_front c cs e =
     let front : take (piece_size (c ∷ cs)) (c ∷ cs) ≡ c ∷ [] = ap (λ (n : ℕ). take n (c ∷ cs)) (blank_size c cs e) in
-    ap is_piece front ∙ or_left _ _ (blank_is c e)
+    ap is_piece front ∙ or_left (is_blank (c ∷ [])) (is_comment (c ∷ [])) (blank_is c e)
 
 slash_front : (c d : ℕ) (cs : Bytes) (n : ℕ) → (c == 47 && d == 42) ≡ true → comment_end cs ≡ n → 0 < further 2 n → is_piece (take (further 2 n) (c ∷ d ∷ cs)) ≡ true
 slash_front c d cs zero e is some = absurd (omega arith)

@@ -20,11 +20,16 @@ abbrev pub further : ℕ → ℕ → ℕ
 further n zero = zero
 further n (suc k) = suc k + n
 
+-- `*/` at the front
+abbrev pub closes_here : Bytes → Bool
+closes_here [] = false
+closes_here (c ∷ []) = false
+closes_here (c ∷ d ∷ cs) = c == 42 && d == 47
+
 -- the bytes up to and with the first `*/`; 0 where there is none
 abbrev pub comment_end : Bytes → ℕ
 comment_end [] = 0
-comment_end (c ∷ []) = 0
-comment_end (c ∷ d ∷ cs) = if c == 42 && d == 47 then 2 else further 1 (comment_end (d ∷ cs))
+comment_end (c ∷ cs) = if closes_here (c ∷ cs) then 2 else further 1 (comment_end cs)
 
 -- the bytes of the blank or the comment at the front; 0 where there is neither
 abbrev pub piece_size : Bytes → ℕ

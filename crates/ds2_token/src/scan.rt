@@ -21,15 +21,26 @@ fn is_blank_byte(c: u8) -> bool
     c == b' ' || c == b'\t' || c == b'\r' || c == b'\n'
 }
 
+/// Whether `*/` stands first.
+fn closes_here(text: &[u8]) -> bool
+    ensures { result ≡ spec.closes_here text.now }
+{
+    match text {
+        [c, d, ..] => *c == b'*' && *d == b'/',
+        _ => false,
+    }
+}
+
 /// How many bytes stand up to and with the first `*/`; 0 where there is none.
+#[tactic(auto, using(crate::proofs::Pieces::comment_end_more))]
 fn comment_end(text: &[u8]) -> usize
     ensures value { result ≡ spec.comment_end text.now }
     ensures within { result ≤ length text.now }
 {
     let mut passed = 0;
     let mut rest = text;
-    while let [c, after @ ..] = rest {
-        if *c == b'*' && begins_with(b'/', after) {
+    while let [_, after @ ..] = rest {
+        if closes_here(rest) {
             return passed + 2;
         }
         passed += 1;
