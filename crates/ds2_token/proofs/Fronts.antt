@@ -30,24 +30,24 @@ pub record There (text : Bytes) (f : Found) : Type 0 where
   pub ends : (kind : TokenKind) → f.form ≡ Ok kind → get_or text (f.size - 1) 0 < 128
 
 -- the first bytes of one text
-first_same : (c o : ℕ) (cs os left : Bytes) → (o ∷ os) ++ left ≡ c ∷ cs → o ≡ c
+pub first_same : (c o : ℕ) (cs os left : Bytes) → (o ∷ os) ++ left ≡ c ∷ cs → o ≡ c
 first_same c o cs os left e = let whole : o ∷ (os ++ left) ≡ c ∷ cs = e in cc
 
-rest_same : (c o : ℕ) (cs os left : Bytes) → (o ∷ os) ++ left ≡ c ∷ cs → os ++ left ≡ cs
+pub rest_same : (c o : ℕ) (cs os left : Bytes) → (o ∷ os) ++ left ≡ c ∷ cs → os ++ left ≡ cs
 rest_same c o cs os left e = let whole : o ∷ (os ++ left) ≡ c ∷ cs = e in cc
 
 -- all of a text is the longest
-whole_longest : (text other left : Bytes) → other ++ left ≡ text → length other ≤ length text
+pub whole_longest : (text other left : Bytes) → other ++ left ≡ text → length other ≤ length text
 whole_longest text other left e = omega (arith, ap length (sym e), length-append other left)
 
 -- what a fault says of tokens
-abbrev refused : LexKind → Result TokenKind LexKind
+abbrev pub refused : LexKind → Result TokenKind LexKind
 refused fault = Err fault
 
 fault_never : (kind : TokenKind) (fault : LexKind) → refused fault ≡ Ok kind → ⊥
 fault_never kind fault e = cc
 
-fault_kind : {A : Type 0} (kind : TokenKind) (fault : LexKind) → refused fault ≡ Ok kind → A
+pub fault_kind : {A : Type 0} (kind : TokenKind) (fault : LexKind) → refused fault ≡ Ok kind → A
 fault_kind kind fault e = absurd (fault_never kind fault e)
 
 not_false_true : (b : Bool) → not b ≡ false → b ≡ true
@@ -141,8 +141,8 @@ quoted_bound cs (o ∷ os) left same (form, is) =
         let here : prefix_len not_double (take m os ++ (drop m os ++ left)) ≡ quoted_len cs = ap (prefix_len not_double) cut in
         let size : length (take m os) ≡ m = length-take-le m os (omega arith) in
         omega arith
-      | inr open ↦
-        elim (or_cases (o == 34 && not (holds_double_quote os)) (o == 39 && is_paired os) open) [
+      | inr unclosed ↦
+        elim (or_cases (o == 34 && not (holds_double_quote os)) (o == 39 && is_paired os) unclosed) [
           | inl e ↦
             let parts = and_parts (o == 34) (not (holds_double_quote os)) e in
             let all : list_all not_double os ≡ true = all_from_none (λ c. c == 34) os (not-true (holds_double_quote os) parts.1) in
@@ -182,7 +182,9 @@ closed_quoted cs short =
 -- the last byte of what has one after its quote
 last_after : (q : ℕ) (cs : Bytes) → 0 < length cs → slice_index (q ∷ cs) (length (q ∷ cs) - 1) ≡ get_or cs (length cs - 1) 0
 last_after q [] some = absurd (omega arith)
-last_after q (c ∷ cs) some = ap (λ (n : ℕ). get_or (q ∷ c ∷ cs) n 0) (omega arith) ∙ ap (λ (n : ℕ). get_or (c ∷ cs) n 0) (omega arith)
+last_after q (c ∷ cs) some =
+    let up : length (q ∷ c ∷ cs) - 1 ≡ suc (length (c ∷ cs) - 1) = omega arith in
+    ap (λ (n : ℕ). get_or (q ∷ c ∷ cs) n 0) up
 
 open_quoted : (cs : Bytes) → length cs ≤ quoted_len cs → There (34 ∷ cs) (fault_found OpenText (length cs + 1))
 open_quoted cs long =
@@ -199,12 +201,12 @@ open_quoted cs long =
         let passes : not_double (get_or cs (length cs - 1) 0) ≡ true = prefix_len_passes not_double cs (length cs - 1) 0 (omega arith) in
         both_ways (get_or cs (length cs - 1) 0 == 34) (not-true (get_or cs (length cs - 1) 0 == 34) passes) (eq-eqb (get_or cs (length cs - 1) 0) 34 last)) in
     let not_text : is_text_form (34 ∷ cs) ≡ false = Heads.not_text 34 2 cs (Heads.double_class 34 refl) refl in
-    let open : is_open_form (34 ∷ cs) ≡ true =
+    let unclosed : is_open_form (34 ∷ cs) ≡ true =
       or_left (begins_with 34 (34 ∷ cs) && not (holds_double_quote cs)) (begins_with 39 (34 ∷ cs) && is_paired cs) (not_from_false (holds_double_quote cs) plain) in
     record {
       some = omega arith;
       fits = omega arith;
-      form = ap form_of front ∙ Heads.open_form 34 2 cs (Heads.double_class 34 refl) (omega arith) (omega arith) not_closed not_text open;
+      form = ap form_of front ∙ Heads.open_form 34 2 cs (Heads.double_class 34 refl) (omega arith) (omega arith) not_closed not_text unclosed;
       longest = λ other left same is. omega (arith, whole_longest (34 ∷ cs) other left same);
       ends = λ kind f. fault_kind kind OpenText f;
     }
@@ -325,8 +327,8 @@ text_bound cs (o ∷ os) left same (form, is) =
         let here : paired_len (take m os ++ (drop m os ++ left)) ≡ paired_len cs = ap paired_len cut in
         let size : length (take m os) ≡ m = length-take-le m os (omega arith) in
         omega arith
-      | inr open ↦
-        elim (or_cases (o == 34 && not (holds_double_quote os)) (o == 39 && is_paired os) open) [
+      | inr unclosed ↦
+        elim (or_cases (o == 34 && not (holds_double_quote os)) (o == 39 && is_paired os) unclosed) [
           | inl e ↦
             let other : o ≡ 34 = eqb-true o 34 (and_parts (o == 34) (not (holds_double_quote os)) e).0 in
             absurd (omega arith)
@@ -358,7 +360,7 @@ paired_len_within : (cs : Bytes) → paired_len cs ≤ length cs
 paired_len_within [] = omega arith
 paired_len_within (c ∷ []) =
     elim (cases_Bool (c == 39)) [
-      | inl e ↦ omega (arith, cond-true (c == 39) 0 1 e)
+      | inl e ↦ let size : paired_len (c ∷ []) ≡ 0 = cond-true (c == 39) 0 1 e in omega arith
       | inr e ↦ omega (arith, paired_len_other c [] e)
     ]
 paired_len_within (c ∷ d ∷ cs) =
@@ -383,7 +385,7 @@ paired_exact (x ∷ y ∷ ys) e =
     ]
 
 -- what ends in a byte is all but the last and that byte
-last_cut : (cs : Bytes) (q : ℕ) → 0 < length cs → get_or cs (length cs - 1) 0 ≡ q → cs ≡ take (length cs - 1) cs ++ q ∷ []
+pub last_cut : (cs : Bytes) (q : ℕ) → 0 < length cs → get_or cs (length cs - 1) 0 ≡ q → cs ≡ take (length cs - 1) cs ++ q ∷ []
 last_cut [] q some e = absurd (omega arith)
 last_cut (c ∷ []) q some e = ap (λ (x : ℕ). x ∷ []) e
 last_cut (c ∷ d ∷ cs) q some e =
@@ -411,12 +413,12 @@ open_text cs long =
         let short : length (take (length cs - 1) cs) ≡ length cs - 1 = length-take-le (length cs - 1) cs (omega arith) in
         omega arith) in
     let not_quoted : is_quoted_form (39 ∷ cs) ≡ false = Heads.not_quoted 39 3 cs (Heads.single_class 39 refl) refl in
-    let open : is_open_form (39 ∷ cs) ≡ true =
+    let unclosed : is_open_form (39 ∷ cs) ≡ true =
       or_right (begins_with 34 (39 ∷ cs) && not (holds_double_quote cs)) (begins_with 39 (39 ∷ cs) && is_paired cs) paired in
     record {
       some = omega arith;
       fits = omega arith;
-      form = ap form_of front ∙ Heads.open_form 39 3 cs (Heads.single_class 39 refl) (omega arith) (omega arith) not_quoted not_closed open;
+      form = ap form_of front ∙ Heads.open_form 39 3 cs (Heads.single_class 39 refl) (omega arith) (omega arith) not_quoted not_closed unclosed;
       longest = λ other left same is. omega (arith, whole_longest (39 ∷ cs) other left same);
       ends = λ kind f. fault_kind kind OpenText f;
     }

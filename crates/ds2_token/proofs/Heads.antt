@@ -154,7 +154,7 @@ decimal_head c cs e =
     let parts = and_parts (ends_in_n (c ∷ cs)) (is_integer_form (without_last (c ∷ cs)) || is_pointed_form (without_last (c ∷ cs))) e in
     number_head c cs (ap (λ (xs : Bytes). is_integer_form xs || is_pointed_form xs) (sym (last_less c cs)) ∙ parts.1)
 
-shape_head : (c : ℕ) (cs : Bytes) → is_mark_shape (c ∷ cs) ≡ true → is_mark_byte c ≡ true
+pub shape_head : (c : ℕ) (cs : Bytes) → is_mark_shape (c ∷ cs) ≡ true → is_mark_byte c ≡ true
 shape_head c [] e = e
 shape_head c (d ∷ []) e = (and_parts (is_mark_byte c) (is_mark_pair c d) e).0
 shape_head c (d ∷ f ∷ cs) e = clash e
