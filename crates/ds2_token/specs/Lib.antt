@@ -1,2 +1,4 @@
 pub mod Forms
+pub mod Limits
+pub mod Values
 pub mod Words

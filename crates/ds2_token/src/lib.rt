@@ -6,7 +6,12 @@
 #![tactic(auto)]
 
 mod kinds;
+mod limits;
+#[cfg(test)]
+mod tests;
 mod token;
+mod values;
+mod words;
 
 pub use kinds::{LexKind, TokenKind};
 pub use token::Token;
