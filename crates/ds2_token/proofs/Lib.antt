@@ -1,2 +1,4 @@
 pub mod LimitLemmas
+pub mod MarkLemmas
+pub mod OneAnswer
 pub mod ValueLemmas

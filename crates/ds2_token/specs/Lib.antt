@@ -1,4 +1,6 @@
 pub mod Forms
+pub mod Laws
 pub mod Limits
+pub mod Standing
 pub mod Values
 pub mod Words

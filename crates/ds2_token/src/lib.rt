@@ -6,6 +6,8 @@
 #![tactic(auto)]
 
 mod kinds;
+pub mod laws;
+mod lexer;
 mod limits;
 #[cfg(test)]
 mod tests;
@@ -14,4 +16,5 @@ mod values;
 mod words;
 
 pub use kinds::{LexKind, TokenKind};
+pub use lexer::end_place;
 pub use token::Token;
