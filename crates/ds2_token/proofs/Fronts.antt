@@ -13,7 +13,7 @@ use Rattle.ds2_token.specs.declared.kinds.TokenKind.TheVariants.{Word, Quoted, T
 use Rattle.ds2_token.specs.declared.kinds.LexKind.{LexKind}
 use Rattle.ds2_token.specs.declared.kinds.LexKind.TheVariants.{DoubleConstant, OpenText, OpenComment}
 use Rattle.ds2_token.specs.declared.scan.Found.{Found}
-use Rattle.ds2_token.specs.Forms.{is_word_letter, is_word_part, is_word_form, is_mark_form, is_enclosed, inside, begins_with, holds_double_quote, is_paired, is_quoted_form, is_text_form, is_open_form, is_integer_form, leading_digits, past_digits, is_fraction, is_pointed_form, without_last, ends_in_n, is_decimal_form, opens_comment, holds_comment_end, is_open_comment, form_of}
+use Rattle.ds2_token.specs.Forms.{is_word_letter, is_word_part, is_word_form, is_mark_form, is_enclosed, between_quotes, begins_with, holds_double_quote, is_paired, is_quoted_form, is_text_form, is_open_form, is_integer_form, leading_digits, past_digits, is_fraction, is_pointed_form, without_last, ends_in_n, is_decimal_form, opens_comment, holds_comment_end, is_open_comment, form_of}
 use Rattle.ds2_token.specs.Scan.{piece_size, comment_end, quoted_len, quoted_found, paired_len, text_found, digits_len, begins_with_n, pointed_found, number_behind, number_found, is_mark_byte, is_mark_pair, mark_size, mark_found, token_found, fault_found, found}
 use Rattle.ds2_token.specs.Standing.{IsForm, BeginsNoForm}
 use Rattle.ds2_token.proofs.Pieces.{clash, same_bytes, no_end}
@@ -109,7 +109,7 @@ enclosed_is q body =
       (and_from (nat_le 2 (length s)) (q == q) (le-leb 2 (length s) (omega arith)) (eq-eqb q q refl))
       (eq-eqb (slice_index s (length s - 1)) q last)
 
-inside_is : (q : ℕ) (body : Bytes) → inside (q ∷ (body ++ q ∷ [])) ≡ body
+inside_is : (q : ℕ) (body : Bytes) → between_quotes (q ∷ (body ++ q ∷ [])) ≡ body
 inside_is q body =
     let s : Bytes = q ∷ (body ++ q ∷ []) in
     take_at body (q ∷ []) (length s - 2) (omega (arith, length-append body (q ∷ [])))
@@ -133,7 +133,7 @@ quoted_bound cs (o ∷ os) left same (form, is) =
     elim (Heads.at_double o os form (Heads.double_class o first) is) [
       | inl quoted ↦
         let m : ℕ = length (o ∷ os) - 2 in
-        let parts = and_parts (is_enclosed 34 (o ∷ os)) (not (holds_double_quote (inside (o ∷ os)))) quoted in
+        let parts = and_parts (is_enclosed 34 (o ∷ os)) (not (holds_double_quote (between_quotes (o ∷ os)))) quoted in
         let all : list_all not_double (take m os) ≡ true = all_from_none (λ c. c == 34) (take m os) (not-true (holds_double_quote (take m os)) parts.1) in
         let cut : take m os ++ (drop m os ++ left) ≡ cs =
           sym (append_assoc (take m os) (drop m os) left) ∙ ap (λ (xs : Bytes). xs ++ left) (take-append-drop m os) ∙ rest in
@@ -167,9 +167,9 @@ closed_quoted cs short =
     let front : take (k + 2) (34 ∷ cs) ≡ 34 ∷ (take k cs ++ 34 ∷ []) = enclosed_front 34 cs stop.rest k (omega arith) cut in
     let plain : holds_double_quote (take k cs) ≡ false = none_from_all (λ c. c == 34) (take k cs) (run_all not_double cs) in
     let quoted : is_quoted_form (34 ∷ (take k cs ++ 34 ∷ [])) ≡ true =
-      and_from (is_enclosed 34 (34 ∷ (take k cs ++ 34 ∷ []))) (not (holds_double_quote (inside (34 ∷ (take k cs ++ 34 ∷ [])))))
+      and_from (is_enclosed 34 (34 ∷ (take k cs ++ 34 ∷ []))) (not (holds_double_quote (between_quotes (34 ∷ (take k cs ++ 34 ∷ [])))))
         (enclosed_is 34 (take k cs))
-        (not_from_false (holds_double_quote (inside (34 ∷ (take k cs ++ 34 ∷ [])))) (ap holds_double_quote (inside_is 34 (take k cs)) ∙ plain)) in
+        (not_from_false (holds_double_quote (between_quotes (34 ∷ (take k cs ++ 34 ∷ [])))) (ap holds_double_quote (inside_is 34 (take k cs)) ∙ plain)) in
     let last : get_or cs k 0 ≡ 34 = last_of k cs 34 stop.rest (omega arith) cut in
     record {
       some = omega arith;
@@ -194,7 +194,7 @@ open_quoted cs long =
     let front : take (length cs + 1) (34 ∷ cs) ≡ 34 ∷ cs = take_all (length cs + 1) (34 ∷ cs) (omega arith) in
     let not_closed : is_quoted_form (34 ∷ cs) ≡ false =
       false_from_ne_true (is_quoted_form (34 ∷ cs)) (λ is.
-        let parts = and_parts (is_enclosed 34 (34 ∷ cs)) (not (holds_double_quote (inside (34 ∷ cs)))) is in
+        let parts = and_parts (is_enclosed 34 (34 ∷ cs)) (not (holds_double_quote (between_quotes (34 ∷ cs)))) is in
         let ends = and_parts (nat_le 2 (length (34 ∷ cs)) && slice_index (34 ∷ cs) 0 == 34) (slice_index (34 ∷ cs) (length (34 ∷ cs) - 1) == 34) parts.0 in
         let long2 : 2 ≤ length (34 ∷ cs) = leb-true 2 (length (34 ∷ cs)) (and_parts (nat_le 2 (length (34 ∷ cs))) (slice_index (34 ∷ cs) 0 == 34) ends.0).0 in
         let last : get_or cs (length cs - 1) 0 ≡ 34 = sym (last_after 34 cs (omega arith)) ∙ eqb-true (slice_index (34 ∷ cs) (length (34 ∷ cs) - 1)) 34 ends.1 in
@@ -320,7 +320,7 @@ text_bound cs (o ∷ os) left same (form, is) =
     elim (Heads.at_single o os form (Heads.single_class o first) is) [
       | inl text ↦
         let m : ℕ = length (o ∷ os) - 2 in
-        let parts = and_parts (is_enclosed 39 (o ∷ os)) (is_paired (inside (o ∷ os))) text in
+        let parts = and_parts (is_enclosed 39 (o ∷ os)) (is_paired (between_quotes (o ∷ os))) text in
         let cut : take m os ++ (drop m os ++ left) ≡ cs =
           sym (append_assoc (take m os) (drop m os) left) ∙ ap (λ (xs : Bytes). xs ++ left) (take-append-drop m os) ∙ rest in
         let within : length (take m os) ≤ paired_len (take m os ++ (drop m os ++ left)) = paired_within (take m os) (drop m os ++ left) parts.1 in
@@ -345,7 +345,7 @@ closed_text cs short =
     let stop = paired_stop cs short in
     let front : take (k + 2) (39 ∷ cs) ≡ 39 ∷ (take k cs ++ 39 ∷ []) = enclosed_front 39 cs stop.rest k (omega arith) stop.cut in
     let text : is_text_form (39 ∷ (take k cs ++ 39 ∷ [])) ≡ true =
-      and_from (is_enclosed 39 (39 ∷ (take k cs ++ 39 ∷ []))) (is_paired (inside (39 ∷ (take k cs ++ 39 ∷ []))))
+      and_from (is_enclosed 39 (39 ∷ (take k cs ++ 39 ∷ []))) (is_paired (between_quotes (39 ∷ (take k cs ++ 39 ∷ []))))
         (enclosed_is 39 (take k cs)) (ap is_paired (inside_is 39 (take k cs)) ∙ paired_front cs) in
     let last : get_or cs k 0 ≡ 39 = last_of k cs 39 stop.rest (omega arith) stop.cut in
     record {
@@ -401,7 +401,7 @@ open_text cs long =
     let front : take (length cs + 1) (39 ∷ cs) ≡ 39 ∷ cs = take_all (length cs + 1) (39 ∷ cs) (omega arith) in
     let not_closed : is_text_form (39 ∷ cs) ≡ false =
       false_from_ne_true (is_text_form (39 ∷ cs)) (λ is.
-        let parts = and_parts (is_enclosed 39 (39 ∷ cs)) (is_paired (inside (39 ∷ cs))) is in
+        let parts = and_parts (is_enclosed 39 (39 ∷ cs)) (is_paired (between_quotes (39 ∷ cs))) is in
         let ends = and_parts (nat_le 2 (length (39 ∷ cs)) && slice_index (39 ∷ cs) 0 == 39) (slice_index (39 ∷ cs) (length (39 ∷ cs) - 1) == 39) parts.0 in
         let long2 : 2 ≤ length (39 ∷ cs) = leb-true 2 (length (39 ∷ cs)) (and_parts (nat_le 2 (length (39 ∷ cs))) (slice_index (39 ∷ cs) 0 == 39) ends.0).0 in
         let last : get_or cs (length cs - 1) 0 ≡ 39 = sym (last_after 39 cs (omega arith)) ∙ eqb-true (slice_index (39 ∷ cs) (length (39 ∷ cs) - 1)) 39 ends.1 in

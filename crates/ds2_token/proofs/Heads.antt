@@ -11,7 +11,7 @@ use Rattle.ds2_token.specs.declared.kinds.TokenKind.{TokenKind}
 use Rattle.ds2_token.specs.declared.kinds.TokenKind.TheVariants.{Word, Quoted, Text, Integer, Decimal, Mark}
 use Rattle.ds2_token.specs.declared.kinds.LexKind.{LexKind}
 use Rattle.ds2_token.specs.declared.kinds.LexKind.TheVariants.{DoubleConstant, OpenText, OpenComment}
-use Rattle.ds2_token.specs.Forms.{is_word_letter, is_word_part, is_word_form, marks, is_mark_form, is_enclosed, inside, begins_with, holds_double_quote, is_paired, is_quoted_form, is_text_form, is_open_form, is_integer_form, leading_digits, past_digits, is_fraction, is_pointed_form, without_last, ends_in_n, is_decimal_form, opens_comment, holds_comment_end, is_open_comment, form_of}
+use Rattle.ds2_token.specs.Forms.{is_word_letter, is_word_part, is_word_form, marks, is_mark_form, is_enclosed, between_quotes, begins_with, holds_double_quote, is_paired, is_quoted_form, is_text_form, is_open_form, is_integer_form, leading_digits, past_digits, is_fraction, is_pointed_form, without_last, ends_in_n, is_decimal_form, opens_comment, holds_comment_end, is_open_comment, form_of}
 use Rattle.ds2_token.specs.Scan.{is_mark_byte, is_mark_pair}
 use Rattle.ds2_token.proofs.Pieces.{clash, same_bytes}
 
@@ -120,10 +120,10 @@ enclosed_head q c cs e =
 
 pub quoted_head : (c : ℕ) (cs : Bytes) → is_quoted_form (c ∷ cs) ≡ true → class_of c ≡ 2
 quoted_head c cs e =
-    double_class c (enclosed_head 34 c cs (and_parts (is_enclosed 34 (c ∷ cs)) (not (holds_double_quote (inside (c ∷ cs)))) e).0)
+    double_class c (enclosed_head 34 c cs (and_parts (is_enclosed 34 (c ∷ cs)) (not (holds_double_quote (between_quotes (c ∷ cs)))) e).0)
 
 pub text_head : (c : ℕ) (cs : Bytes) → is_text_form (c ∷ cs) ≡ true → class_of c ≡ 3
-text_head c cs e = single_class c (enclosed_head 39 c cs (and_parts (is_enclosed 39 (c ∷ cs)) (is_paired (inside (c ∷ cs))) e).0)
+text_head c cs e = single_class c (enclosed_head 39 c cs (and_parts (is_enclosed 39 (c ∷ cs)) (is_paired (between_quotes (c ∷ cs))) e).0)
 
 pub integer_head : (c : ℕ) (cs : Bytes) → is_integer_form (c ∷ cs) ≡ true → class_of c ≡ 1
 integer_head c cs e = digit_class c (and_parts (is_ascii_digit c) (list_all is_ascii_digit cs) e).0

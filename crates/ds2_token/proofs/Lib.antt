@@ -1,6 +1,10 @@
+pub mod FoundForms
 pub mod Fronts
 pub mod Heads
+pub mod LimitLemmas
+pub mod MarkLemmas
 pub mod Numbers
 pub mod OneAnswer
 pub mod Pieces
 pub mod Runs
+pub mod ValueLemmas

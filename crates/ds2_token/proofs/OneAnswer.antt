@@ -1,5 +1,5 @@
 -- A text has one answer: the tokens that stand for it, or the first refusal.
-use Rattle.std.proofs.Common.{◌≡◌, ℕ, ◌+◌, ◌<◌, ◌≤◌, ◌⊎◌, inl, inr, List, [], ◌∷◌, ◌++◌, length, Option, Some, None, Result, Ok, Err, refl, sym, ap, ◌∙◌, subst, arith}
+use Rattle.std.proofs.Common.{◌≡◌, ◌+◌, ◌<◌, ◌≤◌, inl, inr, List, [], ◌∷◌, ◌++◌, length, Option, Some, None, Result, Ok, refl, sym, ap, ◌∙◌, subst, arith}
 use Rattle.std.proofs.lemmas.List.{append-nil, length-append}
 use Rattle.std.specs.Str.{chars}
 use Rattle.ds2_base.specs.Bytes.{Bytes}
@@ -11,7 +11,7 @@ use Rattle.ds2_token.specs.declared.kinds.LexKind.{LexKind}
 use Rattle.ds2_token.specs.declared.token.Token.{Token}
 use Rattle.ds2_token.specs.Forms.{IsGap, form_of}
 use Rattle.ds2_token.specs.Limits.{limit_fault}
-use Rattle.ds2_token.specs.Standing.{IsForm, IsLongest, BeginsWith, LeadsTo, refusal_of, refusal_of_form, BeginsNoForm, BeginsRefused, HasCause, BeginsWithRefusal, without_mark, StandsFor, IsFirstRefusal}
+use Rattle.ds2_token.specs.Standing.{IsForm, IsLongest, BeginsWith, LeadsTo, refusal_of, refusal_of_form, HasCause, BeginsWithRefusal, without_mark}
 use Rattle.ds2_token.specs.Laws.{OneListStands, OneRefusalIsFirst, NoRefusalBesideTokens}
 
 -- ---- beginnings of one text
@@ -75,7 +75,7 @@ refusal_same r q k p = λ i. record { kind = k i; place = p i }
 begins_same : (at : Place) (text : Bytes) (t u : Token) (r s : Bytes) → BeginsWith at text t r → BeginsWith at text u s → (t ≡ u) × (r ≡ s)
 begins_same at text t u r s p q =
     let gaps : (p.gap ≡ q.gap) × (t.spelling ++ r ≡ u.spelling ++ s) =
-      longest_same IsGap p.gap (t.spelling ++ r) q.gap (u.spelling ++ s) p.gap_is_longest q.gap_is_longest (sym p.cut ∙ q.cut) in
+    longest_same IsGap p.gap (t.spelling ++ r) q.gap (u.spelling ++ s) p.gap_is_longest q.gap_is_longest (sym p.cut ∙ q.cut) in
     let parts : (t.spelling ≡ u.spelling) × (r ≡ s) = longest_same IsForm t.spelling r u.spelling s p.form_is_longest q.form_is_longest gaps.1 in
     let kinds : t.kind ≡ u.kind = same_kind t.kind u.kind (sym p.kind ∙ ap form_of parts.0 ∙ q.kind) in
     let places : t.place ≡ u.place = p.place ∙ ap (λ (gap : Bytes). place_past at (chars gap)) gaps.0 ∙ sym q.place in
@@ -119,7 +119,7 @@ token_no_cause t rest left kind same longest is within (inr (s, after, cut, most
 token_no_refusal : (at : Place) (text : Bytes) (t : Token) (rest : Bytes) (r : Refusal LexKind) → BeginsWith at text t rest → BeginsWithRefusal at text r → ⊥
 token_no_refusal at text t rest r p q =
     let gaps : (p.gap ≡ q.gap) × (t.spelling ++ rest ≡ q.left) =
-      longest_same IsGap p.gap (t.spelling ++ rest) q.gap q.left p.gap_is_longest q.gap_is_longest (sym p.cut ∙ q.cut) in
+    longest_same IsGap p.gap (t.spelling ++ rest) q.gap q.left p.gap_is_longest q.gap_is_longest (sym p.cut ∙ q.cut) in
     token_no_cause t rest q.left r.kind gaps.1 p.form_is_longest p.kind p.within q.cause
 
 cause_same : (text other : Bytes) (k l : LexKind) → text ≡ other → HasCause text k → HasCause other l → k ≡ l
@@ -134,7 +134,7 @@ refused_same : (at : Place) (text : Bytes) (r q : Refusal LexKind) → BeginsWit
 refused_same at text r q a b =
     let gaps : (a.gap ≡ b.gap) × (a.left ≡ b.left) = longest_same IsGap a.gap a.left b.gap b.left a.gap_is_longest b.gap_is_longest (sym a.cut ∙ b.cut) in
     refusal_same r q (cause_same a.left b.left r.kind q.kind gaps.1 a.cause b.cause)
-      (a.place ∙ ap (λ (gap : Bytes). place_past at (chars gap)) gaps.0 ∙ sym b.place)
+    (a.place ∙ ap (λ (gap : Bytes). place_past at (chars gap)) gaps.0 ∙ sym b.place)
 
 -- ---- whole texts
 

@@ -7,7 +7,7 @@ use Rattle.std.specs.Cmp.Lexicographic.{bytes_decides}
 use Rattle.std.proofs.lemmas.Bool.{and_parts, or_parts, or_cases, and_from, and_right, and_left, or_left, or_right, or_from, eqb-true, leb-true, le-leb, not-true, not_from_false, cases_Bool, cond-true, cond-false, both_ways}
 use Rattle.std.proofs.lemmas.List.{append-nil, length-append, take-append-drop, take_at, drop_at, take_all}
 use Rattle.ds2_base.specs.Bytes.{Bytes}
-use Rattle.ds2_token.specs.Forms.{is_blank, opens_comment, closes_comment, holds_comment_end, is_comment, is_open_comment, IsGap}
+use Rattle.ds2_token.specs.Forms.{is_blank_piece, opens_comment, closes_comment, holds_comment_end, is_comment, is_open_comment, IsGap}
 use Rattle.ds2_token.specs.Scan.{is_blank_byte, further, closes_here, comment_end, piece_size}
 use Rattle.ds2_token.specs.Standing.{IsLongest}
 use Rattle.ds2_token.proofs.OneAnswer.{same_cut}
@@ -19,7 +19,7 @@ pub same_bytes : (a b : Bytes) → bytes_eq a b ≡ true → a ≡ b
 same_bytes a b e = (bytes_decides a b).0 e
 
 abbrev pub is_piece : Bytes → Bool
-is_piece piece = is_blank piece || is_comment piece
+is_piece piece = is_blank_piece piece || is_comment piece
 
 -- ---- the end of a comment
 
@@ -147,7 +147,7 @@ record Blank (s : Bytes) : Type 0 where
 blank_of : (s : Bytes) (c : ℕ) → bytes_eq s (c ∷ []) ≡ true → is_blank_byte c ≡ true → Blank s
 blank_of s c e is = record { byte = c; cut = same_bytes s (c ∷ []) e; blank = is }
 
-blank_parts : (s : Bytes) → is_blank s ≡ true → Blank s
+blank_parts : (s : Bytes) → is_blank_piece s ≡ true → Blank s
 blank_parts s e =
     elim (or_cases (bytes_eq s (32 ∷ []) || bytes_eq s (9 ∷ []) || bytes_eq s (13 ∷ [])) (bytes_eq s (10 ∷ [])) e) [
       | inr f ↦ blank_of s 10 f refl
@@ -167,7 +167,7 @@ blank_bools false false true z e = refl
 blank_bools false false false true e = refl
 blank_bools false false false false e = e
 
-blank_is : (c : ℕ) → is_blank_byte c ≡ true → is_blank (c ∷ []) ≡ true
+blank_is : (c : ℕ) → is_blank_byte c ≡ true → is_blank_piece (c ∷ []) ≡ true
 blank_is c e = blank_bools (c == 32) (c == 9) (c == 13) (c == 10) e
 
 record Comment (s : Bytes) : Type 0 where
@@ -234,7 +234,7 @@ blank_size c (d ∷ ds) e = cond-true (is_blank_byte c) 1 _ e
 -- a piece at the front is the one that is found
 pub piece_is_found : (p left : Bytes) → is_piece p ≡ true → piece_size (p ++ left) ≡ length p
 piece_is_found p left e =
-    elim (or_cases (is_blank p) (is_comment p) e) [
+    elim (or_cases (is_blank_piece p) (is_comment p) e) [
       | inl f ↦
         let b = blank_parts p f in
         ap (λ (xs : Bytes). piece_size (xs ++ left)) b.cut ∙ blank_size b.byte left b.blank ∙ sym (ap length b.cut)
@@ -254,7 +254,7 @@ comment_front text k is =
     let size : length (47 ∷ 42 ∷ (found.body ++ 42 ∷ 47 ∷ [])) ≡ suc k + 2 = omega (arith, found.sized, length-append found.body (42 ∷ 47 ∷ [])) in
     let front : take (suc k + 2) (47 ∷ 42 ∷ text) ≡ 47 ∷ 42 ∷ (found.body ++ 42 ∷ 47 ∷ []) =
       ap (λ (xs : Bytes). take (suc k + 2) xs) whole ∙ take_at (47 ∷ 42 ∷ (found.body ++ 42 ∷ 47 ∷ [])) found.rest (suc k + 2) size in
-    ap is_piece front ∙ or_right (is_blank (47 ∷ 42 ∷ (found.body ++ 42 ∷ 47 ∷ []))) (is_comment (47 ∷ 42 ∷ (found.body ++ 42 ∷ 47 ∷ []))) (comment_is found.body found.plain)
+    ap is_piece front ∙ or_right (is_blank_piece (47 ∷ 42 ∷ (found.body ++ 42 ∷ 47 ∷ []))) (is_comment (47 ∷ 42 ∷ (found.body ++ 42 ∷ 47 ∷ []))) (comment_is found.body found.plain)
 
 take_one : (c : ℕ) (cs : Bytes) → take 1 (c ∷ cs) ≡ c ∷ []
 take_one c cs = refl
@@ -262,7 +262,7 @@ take_one c cs = refl
 blank_front : (c : ℕ) (cs : Bytes) → is_blank_byte c ≡ true → is_piece (take (piece_size (c ∷ cs)) (c ∷ cs)) ≡ true
 blank_front c cs e =
     let front : take (piece_size (c ∷ cs)) (c ∷ cs) ≡ c ∷ [] = ap (λ (n : ℕ). take n (c ∷ cs)) (blank_size c cs e) in
-    ap is_piece front ∙ or_left (is_blank (c ∷ [])) (is_comment (c ∷ [])) (blank_is c e)
+    ap is_piece front ∙ or_left (is_blank_piece (c ∷ [])) (is_comment (c ∷ [])) (blank_is c e)
 
 slash_front : (c d : ℕ) (cs : Bytes) (n : ℕ) → (c == 47 && d == 42) ≡ true → comment_end cs ≡ n → 0 < further 2 n → is_piece (take (further 2 n) (c ∷ d ∷ cs)) ≡ true
 slash_front c d cs zero e is some = absurd (omega arith)

@@ -41,8 +41,8 @@ abbrev pub is_enclosed : ℕ → List ℕ → Bool
 is_enclosed quote s = nat_le 2 (length s) && slice_index s 0 == quote && slice_index s (length s - 1) == quote
 
 -- what stands between the two ends
-abbrev pub inside : List ℕ → List ℕ
-inside s = take (length s - 2) (drop 1 s)
+abbrev pub between_quotes : List ℕ → List ℕ
+between_quotes s = take (length s - 2) (drop 1 s)
 
 -- this character first
 abbrev pub begins_with : ℕ → List ℕ → Bool
@@ -61,11 +61,11 @@ is_paired (c ∷ d ∷ cs) = if c == 39 then d == 39 && is_paired cs else is_pai
 
 -- a quoted name: double quotes around what holds none
 abbrev pub is_quoted_form : List ℕ → Bool
-is_quoted_form s = is_enclosed 34 s && not (holds_double_quote (inside s))
+is_quoted_form s = is_enclosed 34 s && not (holds_double_quote (between_quotes s))
 
 -- a text constant: single quotes around what holds them in pairs only
 abbrev pub is_text_form : List ℕ → Bool
-is_text_form s = is_enclosed 39 s && is_paired (inside s)
+is_text_form s = is_enclosed 39 s && is_paired (between_quotes s)
 
 -- either of the two without its closing quote
 abbrev pub is_open_form : List ℕ → Bool
@@ -108,8 +108,8 @@ is_decimal_form s = ends_in_n s && (is_integer_form (without_last s) || is_point
 -- ---- gaps
 
 -- a blank, a tab, a carriage return or a line feed
-abbrev pub is_blank : List ℕ → Bool
-is_blank s = bytes_eq s (32 ∷ []) || bytes_eq s (9 ∷ []) || bytes_eq s (13 ∷ []) || bytes_eq s (10 ∷ [])
+abbrev pub is_blank_piece : List ℕ → Bool
+is_blank_piece s = bytes_eq s (32 ∷ []) || bytes_eq s (9 ∷ []) || bytes_eq s (13 ∷ []) || bytes_eq s (10 ∷ [])
 
 -- `/*` at the front, `*/` at the end, and `*/` somewhere
 abbrev pub opens_comment : List ℕ → Bool
@@ -132,7 +132,7 @@ is_open_comment s = opens_comment s && not (holds_comment_end (drop 2 s))
 
 -- a gap: blanks and comments, or nothing
 abbrev pub IsGap : List ℕ → Type 0
-IsGap s = (pieces : List (List ℕ)) × (s ≡ concat pieces) × IsTrue (list_all (λ piece. is_blank piece || is_comment piece) pieces)
+IsGap s = (pieces : List (List ℕ)) × (s ≡ concat pieces) × IsTrue (list_all (λ piece. is_blank_piece piece || is_comment piece) pieces)
 
 -- ---- all forms
 

@@ -3,4 +3,5 @@ pub mod Laws
 pub mod Limits
 pub mod Scan
 pub mod Standing
+pub mod Values
 pub mod Words

@@ -7,8 +7,15 @@
 
 mod kinds;
 pub mod laws;
+mod lexer;
+mod limits;
 mod scan;
+#[cfg(test)]
+mod tests;
 mod token;
+mod values;
+mod words;
 
 pub use kinds::{LexKind, TokenKind};
+pub use lexer::end_place;
 pub use token::Token;
