@@ -17,5 +17,5 @@ mod values;
 mod words;
 
 pub use kinds::{LexKind, TokenKind};
-pub use lexer::end_place;
+pub use lexer::{end_place, tokens};
 pub use token::Token;
