@@ -1,6 +1,7 @@
 pub mod FoundForms
 pub mod Fronts
 pub mod Heads
+pub mod LexerSteps
 pub mod LimitLemmas
 pub mod MarkLemmas
 pub mod Numbers

@@ -1,11 +1,12 @@
 -- Gaps: what piece stands at the front of a text, and the longest gap there.
-use Rattle.std.proofs.Common.{◌≡◌, ℕ, zero, suc, ◌+◌, ◌-◌, ◌<◌, ◌≤◌, ◌⊎◌, inl, inr, Bool, true, false, cond, ◌&&◌, ◌||◌, not, List, [], ◌∷◌, ◌++◌, length, take, drop, refl, sym, ap, ◌∙◌, subst, arith, append_assoc}
+use Rattle.std.proofs.Common.{◌≡◌, ℕ, zero, suc, ◌+◌, ◌-◌, ◌<◌, ◌≤◌, ◌⊎◌, inl, inr, Bool, true, false, cond, ◌&&◌, ◌||◌, not, List, [], ◌∷◌, ◌++◌, length, take, drop, get_or, refl, sym, ap, ◌∙◌, subst, arith, append_assoc}
 use Rattle.std.specs.Prelude.{◌==◌, nat_le, codes}
 use Rattle.std.specs.List.{concat, list_all}
 use Rattle.std.specs.Str.{bytes_eq}
 use Rattle.std.specs.Cmp.Lexicographic.{bytes_decides}
 use Rattle.std.proofs.lemmas.Bool.{and_parts, or_parts, or_cases, and_from, and_right, and_left, or_left, or_right, or_from, eqb-true, leb-true, le-leb, not-true, not_from_false, cases_Bool, cond-true, cond-false, both_ways}
-use Rattle.std.proofs.lemmas.List.{append-nil, length-append, take-append-drop, take_at, drop_at, take_all}
+use Rattle.std.proofs.lemmas.Bool.Decides.{nat_tests}
+use Rattle.std.proofs.lemmas.List.{append-nil, length-append, take-append-drop, take_at, drop_at, take_all, length-take-le, take-take, drop-take, get_or_at, get_or-take, get_or-drop}
 use Rattle.ds2_base.specs.Bytes.{Bytes}
 use Rattle.ds2_token.specs.Forms.{is_blank_piece, opens_comment, closes_comment, holds_comment_end, is_comment, is_open_comment, IsGap}
 use Rattle.ds2_token.specs.Scan.{is_blank_byte, further, closes_here, comment_end, piece_size}
@@ -352,3 +353,56 @@ all_push (a ∷ ps) p e f =
 pub gap_more : (gap p : Bytes) → IsGap gap → is_piece p ≡ true → IsGap (gap ++ p)
 gap_more gap p (ps, whole, all) is =
     (ps ++ p ∷ [], ap (λ (xs : Bytes). xs ++ p) whole ∙ sym (concat_push ps p), all_push ps p all is)
+
+-- ---- a step over a piece
+
+add_less : (m n : ℕ) → 0 < n → m + (n - 1) ≡ m + n - 1
+add_less m n some = omega arith
+
+take_more : (m n : ℕ) (xs : Bytes) → take (m + n) xs ≡ take m xs ++ take n (drop m xs)
+take_more m n xs =
+    sym (take-append-drop m (take (m + n) xs))
+    ∙ ap (λ (ys : Bytes). ys ++ drop m (take (m + n) xs)) (take-take m (m + n) xs (omega arith))
+    ∙ ap (λ (ys : Bytes). take m xs ++ ys) (drop-take m n xs)
+
+pub gap_grows : (text : Bytes) (passed size : ℕ) → IsGap (take passed text) → size ≡ piece_size (drop passed text) → 0 < size → IsGap (take (passed + size) text)
+gap_grows text passed size gap is some =
+    let piece : is_piece (take size (drop passed text)) ≡ true =
+      ap (λ (n : ℕ). is_piece (take n (drop passed text))) is ∙ found_is_piece (drop passed text) (omega arith) in
+    subst IsGap (sym (take_more passed size text)) (gap_more (take passed text) (take size (drop passed text)) gap piece)
+
+blank_ascii : (c : ℕ) → is_blank_byte c ≡ true → c < 128
+blank_ascii c e = grind (arith, nat_tests)
+
+last_of_comment : (body : Bytes) → get_or (47 ∷ 42 ∷ (body ++ 42 ∷ 47 ∷ [])) (length (47 ∷ 42 ∷ (body ++ 42 ∷ 47 ∷ [])) - 1) 0 ≡ 47
+last_of_comment body =
+    let s : Bytes = 47 ∷ 42 ∷ (body ++ 42 ∷ 47 ∷ []) in
+    let cut : s ≡ (47 ∷ 42 ∷ (body ++ 42 ∷ [])) ++ 47 ∷ [] = ap (λ (xs : Bytes). 47 ∷ 42 ∷ xs) (sym (append_assoc body (42 ∷ []) (47 ∷ []))) in
+    let size : length (47 ∷ 42 ∷ (body ++ 42 ∷ [])) ≡ length s - 1 = omega (arith, length-append body (42 ∷ []), length-append body (42 ∷ 47 ∷ [])) in
+    ap (λ (xs : Bytes). get_or xs (length s - 1) 0) cut ∙ get_or_at (47 ∷ 42 ∷ (body ++ 42 ∷ [])) 47 [] 0 (length s - 1) size
+
+-- the last byte of a piece is ASCII
+piece_ascii : (p : Bytes) → is_piece p ≡ true → get_or p (length p - 1) 0 < 128
+piece_ascii p e =
+    elim (or_cases (is_blank_piece p) (is_comment p) e) [
+      | inl f ↦
+        let b = blank_parts p f in
+        let last : get_or p (length p - 1) 0 ≡ b.byte = ap (λ (xs : Bytes). get_or xs (length xs - 1) 0) b.cut in
+        omega (arith, last, blank_ascii b.byte b.blank)
+      | inr f ↦
+        let k = comment_parts p f in
+        let last : get_or p (length p - 1) 0 ≡ 47 = ap (λ (xs : Bytes). get_or xs (length xs - 1) 0) k.cut ∙ last_of_comment k.body in
+        omega arith
+    ]
+
+pub gap_ends : (text : Bytes) (passed size : ℕ) → size ≡ piece_size (drop passed text) → 0 < size → size ≤ length (drop passed text) → get_or text (passed + size - 1) 0 < 128
+gap_ends text passed size is some fits =
+    let piece : is_piece (take size (drop passed text)) ≡ true =
+      ap (λ (n : ℕ). is_piece (take n (drop passed text))) is ∙ found_is_piece (drop passed text) (omega arith) in
+    let last : get_or (take size (drop passed text)) (length (take size (drop passed text)) - 1) 0 < 128 = piece_ascii (take size (drop passed text)) piece in
+    let whole : length (take size (drop passed text)) ≡ size = length-take-le size (drop passed text) fits in
+    let here : get_or (take size (drop passed text)) (length (take size (drop passed text)) - 1) 0 ≡ get_or (drop passed text) (size - 1) 0 =
+      ap (λ (n : ℕ). get_or (take size (drop passed text)) (n - 1) 0) whole ∙ get_or-take size (drop passed text) (size - 1) 0 (omega arith) in
+    let there : get_or (drop passed text) (size - 1) 0 ≡ get_or text (passed + size - 1) 0 =
+      get_or-drop passed text (size - 1) 0 ∙ ap (λ (n : ℕ). get_or text n 0) (add_less passed size some) in
+    omega arith

@@ -130,21 +130,28 @@ fn next_token(
     Ok(Some(Next { token, size }))
 }
 
-/// The tokens of a text, or the first refusal in it. A byte order mark at the front is no part of it. The places are those of the
-/// first characters.
-pub fn tokens(alloc: Global, text: &Text) -> Result<List<Token>, Stop<Refusal<LexKind>>>
-    ensures read { standing.IsReadOf text.now result }
-    ensures accepts { (tokens : Items TokenOf) → standing.StandsFor text.now tokens → Says result (Ok tokens) }
-    ensures refuses { (refusal : RefusalOf Kind) → standing.IsFirstRefusal text.now refusal → Says result (Err refusal) }
+/// The tokens of a text, or the first refusal in it.
+fn read(alloc: Global, text: &str) -> Result<List<Token>, Stop<Refusal<LexKind>>>
+    ensures { standing.IsReadOf text.now result }
 {
     let mut tokens = List::new(alloc);
     tokens.reserve(text.len() / 4)?;
     let mut place = Place::start();
-    let mut rest = without_mark(text.as_str());
+    let mut rest = without_mark(text);
     while let Some(next) = next_token(alloc, rest, place)? {
         place = next.token.place.past(next.token.spelling.as_str());
         rest = rest.split_at(next.size).1;
         tokens.push(next.token)?;
     }
     Ok(tokens)
+}
+
+/// The tokens of a text, or the first refusal in it. A byte order mark at the front is no part of it. Places count lines and
+/// columns from 1, columns in characters.
+pub fn tokens(alloc: Global, text: &Text) -> Result<List<Token>, Stop<Refusal<LexKind>>>
+    ensures read { standing.IsReadOf text.now result }
+    ensures accepts { (tokens : Items TokenOf) → standing.StandsFor text.now tokens → Says result (Ok tokens) }
+    ensures refuses { (refusal : RefusalOf Kind) → standing.IsFirstRefusal text.now refusal → Says result (Err refusal) }
+{
+    read(alloc, text.as_str())
 }
