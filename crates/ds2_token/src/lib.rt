@@ -1,7 +1,7 @@
-//! The lexer: from the text of a source to its tokens.
+//! Tokens of sources.
 //!
-//! [`tokens`] gives the one list of [`Token`]s that stands for a text, or the first refusal in it. What a list stands for is a
-//! relation between whole texts and lists, in `specs/Standing.antt`; the forms of tokens are in `specs/Forms.antt`. A token knows
+//! Which list of [`Token`]s stands for a text, and which refusal is the first in one, is a relation between whole texts and lists,
+//! in `specs/Standing.antt`; the forms of tokens are in `specs/Forms.antt`, their limits in `specs/Limits.antt`. A token knows
 //! whether it is a word, a name or a mark of the grammar, and its value.
 #![tactic(auto)]
 
