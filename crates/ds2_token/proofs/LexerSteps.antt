@@ -50,7 +50,7 @@ there_at text bytes f same none is = found_there text f none (ap found (sym same
 pub there_edge : (text : Bytes) (f : Found) (kind : TokenKind) → IsUtf8 text → There text f → f.form ≡ Ok kind → IsCharBoundary text f.size
 there_edge text f kind utf8 t e = cut_behind text f.size utf8 t.some t.fits (t.ends kind e)
 
-there_longest : (text : Bytes) (f : Found) → There text f → IsLongest IsForm (take f.size text) (drop f.size text)
+pub there_longest : (text : Bytes) (f : Found) → There text f → IsLongest IsForm (take f.size text) (drop f.size text)
 there_longest text f t = record {
   is = (f.form, t.form);
   longest = λ other left same is.
@@ -109,7 +109,7 @@ text_from s e =
         (pick_not text_kind (is_decimal_form s) _ _ refl (pick_not text_kind (is_integer_form s) _ _ refl g))))))
     ]
 
-kind_at : (text s : Bytes) (f : Found) (kind : TokenKind) → There text f → f.form ≡ Ok kind → s ≡ take f.size text → form_of s ≡ Some (Ok kind)
+pub kind_at : (text s : Bytes) (f : Found) (kind : TokenKind) → There text f → f.form ≡ Ok kind → s ≡ take f.size text → form_of s ≡ Some (Ok kind)
 kind_at text s f kind t e same = ap form_of same ∙ form_along (take f.size text) f.form (Ok kind) t.form e
 
 pub quoted_at : (text s : Bytes) (f : Found) (kind : TokenKind) → There text f → f.form ≡ Ok kind → s ≡ take f.size text → kind ≡ Quoted → is_quoted_form s ≡ true

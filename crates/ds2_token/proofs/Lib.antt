@@ -1,3 +1,4 @@
+pub mod EveryText
 pub mod FoundForms
 pub mod Fronts
 pub mod Heads

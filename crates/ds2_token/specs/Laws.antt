@@ -1,5 +1,5 @@
 -- What holds of all texts.
-use Rattle.std.specs.Prelude.{◌≡◌, List}
+use Rattle.std.specs.Prelude.{◌≡◌, ◌⊎◌, List}
 use Rattle.ds2_base.specs.Bytes.{Bytes}
 use Rattle.ds2_base.specs.declared.place.Refusal.{Refusal}
 use Rattle.ds2_token.specs.declared.kinds.LexKind.{LexKind}
@@ -17,3 +17,7 @@ OneRefusalIsFirst = (text : Bytes) (refusal other : Refusal LexKind) → IsFirst
 -- a text for which tokens stand has no refusal
 abbrev pub NoRefusalBesideTokens : Type 0
 NoRefusalBesideTokens = (text : Bytes) (tokens : List Token) (refusal : Refusal LexKind) → StandsFor text tokens → IsFirstRefusal text refusal → ⊥
+
+-- each text has tokens that stand for it or a first refusal
+abbrev pub EveryTextIsRead : Type 0
+EveryTextIsRead = (text : Bytes) → ((tokens : List Token) × StandsFor text tokens) ⊎ ((refusal : Refusal LexKind) × IsFirstRefusal text refusal)

@@ -1,5 +1,5 @@
 //! Laws over all texts, each the contract of a function that does nothing.
-ghost use Rattle.ds2_token.specs.Laws.{OneListStands, OneRefusalIsFirst, NoRefusalBesideTokens};
+ghost use Rattle.ds2_token.specs.Laws.{OneListStands, OneRefusalIsFirst, NoRefusalBesideTokens, EveryTextIsRead};
 
 /// Two token lists that stand for one text are equal.
 pub fn one_list_stands()
@@ -14,4 +14,9 @@ pub fn one_refusal_is_first()
 /// A text for which tokens stand has no refusal.
 pub fn no_refusal_beside_tokens()
     ensures { NoRefusalBesideTokens }
+{}
+
+/// Each text has tokens that stand for it or a first refusal.
+pub fn every_text_is_read()
+    ensures { EveryTextIsRead }
 {}

@@ -1,5 +1,5 @@
 //! Calls that allocate, with ample memory.
-use crate::{Token, TokenKind};
+use crate::{Token, TokenKind, tokens};
 use ds2_base::{OutOfMemory, Place, Text};
 use std::alloc::Global;
 
@@ -27,8 +27,17 @@ fn has_text(alloc: Global) -> Result<bool, OutOfMemory> {
     }
 }
 
+fn has_tokens(alloc: Global) -> Result<bool, OutOfMemory> {
+    let text = Text::of(alloc, "a = 1.5n;")?;
+    match tokens(alloc, &text) {
+        Ok(tokens) => Ok(tokens.len() == 4),
+        Err(_) => Ok(false),
+    }
+}
+
 #[test]
 fn values_are_made(rt: HostRuntime) {
     assert!(&rt; has_name(rt.alloc()) == Ok(true));
     assert!(&rt; has_text(rt.alloc()) == Ok(true));
+    assert!(&rt; has_tokens(rt.alloc()) == Ok(true));
 }

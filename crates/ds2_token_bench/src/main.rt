@@ -4,6 +4,8 @@
 //! byte.
 #![tactic(auto)]
 
+ghost use Rattle.std.specs.Prelude.{◌<◌, ◌^◌};
+
 use ds2_base::Text;
 use ds2_token::tokens;
 use std::alloc::{AllocError, Global};
