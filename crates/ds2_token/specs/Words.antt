@@ -58,9 +58,13 @@ is_integer t = integer_kind t.kind
 abbrev pub is_decimal : Token → Bool
 is_decimal t = decimal_kind t.kind
 
+-- letters are this word, without regard to their case
+abbrev pub spells : List ℕ → List ℕ → Bool
+spells letters word = bytes_eq (map to_ascii_lowercase letters) word
+
 -- this word, without regard to case
 abbrev pub is_word : List ℕ → Token → Bool
-is_word word t = word_kind t.kind && bytes_eq (map to_ascii_lowercase t.spelling) word
+is_word word t = word_kind t.kind && spells t.spelling word
 
 -- this mark
 abbrev pub is_mark : List ℕ → Token → Bool
@@ -83,9 +87,13 @@ reserved_words =
     codes "retain" ∷ codes "return" ∷ codes "returns" ∷ codes "select" ∷ codes "set" ∷ codes "then" ∷ codes "thread" ∷
     codes "to" ∷ codes "until" ∷ codes "varchar" ∷ codes "when" ∷ codes "while" ∷ []
 
+-- letters are one of them
+abbrev pub spells_reserved : List ℕ → Bool
+spells_reserved letters = list_any (λ word. spells letters word) reserved_words
+
 -- one of the reserved words, without regard to case
 abbrev pub is_reserved : Token → Bool
-is_reserved t = list_any (λ word. is_word word t) reserved_words
+is_reserved t = word_kind t.kind && spells_reserved t.spelling
 
 -- a table: a word that is not reserved
 abbrev pub is_table : Token → Bool
@@ -97,7 +105,7 @@ is_name_token t = quoted_kind t.kind || is_table t
 
 -- a name that is this word, in quotes or not
 abbrev pub names_word : List ℕ → Token → Bool
-names_word word t = is_word word t || quoted_kind t.kind && bytes_eq (map to_ascii_lowercase (between_quotes t.spelling)) word
+names_word word t = is_word word t || quoted_kind t.kind && spells (between_quotes t.spelling) word
 
 -- a package's name: a name other than `hash` and `hiter`
 abbrev pub is_package_name : Token → Bool
@@ -107,7 +115,7 @@ is_package_name t = is_name_token t && not (names_word (codes "hash") t) && not 
 abbrev pub spells_table : Token → Bool
 spells_table t =
     text_kind t.kind && is_word_form (between_quotes t.spelling) && nat_le (length (between_quotes t.spelling)) NAME_CHARACTERS
-    && not (list_any (λ word. bytes_eq (map to_ascii_lowercase (between_quotes t.spelling)) word) reserved_words)
+    && not (spells_reserved (between_quotes t.spelling))
 
 -- ---- marks
 

@@ -1,16 +1,21 @@
-//! Tokens: their types, their forms, and the tests that a grammar makes on them.
+//! Tokens of sources.
 //!
-//! A [`Token`] is its [`TokenKind`], the characters that it is written with, and the place of the first of them; a [`LexKind`]
-//! tells why a text has no tokens. `specs/Forms.antt` has the forms of tokens and of the gaps between them, and
-//! `specs/Words.antt` the tests: whether a token is a word, a mark, a name, a table or a constant.
-//!
-//! ```text
-//! let again = token.copy(alloc)?;
-//! ```
+//! Which list of [`Token`]s stands for a text, and which refusal is the first in one, is a relation between whole texts and lists,
+//! in `specs/Standing.antt`; the forms of tokens are in `specs/Forms.antt`, their limits in `specs/Limits.antt`. A token knows
+//! whether it is a word, a name or a mark of the grammar, and its value.
 #![tactic(auto)]
 
 mod kinds;
+pub mod laws;
+mod lexer;
+mod limits;
+mod scan;
+#[cfg(test)]
+mod tests;
 mod token;
+mod values;
+mod words;
 
 pub use kinds::{LexKind, TokenKind};
+pub use lexer::{end_place, tokens};
 pub use token::Token;
