@@ -206,15 +206,39 @@ never form e = cc
 
 pub form_cases : (s : Bytes) (form : Result TokenKind LexKind) → form_of s ≡ Some form → FormIs s form
 form_cases s form e =
-    elim (pick (is_word_form s) _ _ form e) [ inl f ↦ is_word f | inr e1 ↦
-    elim (pick (is_quoted_form s) _ _ form e1) [ inl f ↦ is_quoted f | inr e2 ↦
-    elim (pick (is_text_form s) _ _ form e2) [ inl f ↦ is_text f | inr e3 ↦
-    elim (pick (is_integer_form s) _ _ form e3) [ inl f ↦ is_integer f | inr e4 ↦
-    elim (pick (is_decimal_form s) _ _ form e4) [ inl f ↦ is_decimal f | inr e5 ↦
-    elim (pick (is_mark_form s) _ _ form e5) [ inl f ↦ is_mark f | inr e6 ↦
-    elim (pick (is_pointed_form s) _ _ form e6) [ inl f ↦ is_pointed f | inr e7 ↦
-    elim (pick (is_open_form s) _ _ form e7) [ inl f ↦ is_open f | inr e8 ↦
-    elim (pick (is_open_comment s) _ _ form e8) [ inl f ↦ is_comment_open f | inr e9 ↦ absurd (never form e9) ] ] ] ] ] ] ] ] ]
+    elim (pick (is_word_form s) _ _ form e) [
+      | inl f ↦ is_word f
+      | inr e1 ↦
+          elim (pick (is_quoted_form s) _ _ form e1) [
+            | inl f ↦ is_quoted f
+            | inr e2 ↦
+                elim (pick (is_text_form s) _ _ form e2) [
+                  | inl f ↦ is_text f
+                  | inr e3 ↦
+                      elim (pick (is_integer_form s) _ _ form e3) [
+                        | inl f ↦ is_integer f
+                        | inr e4 ↦
+                            elim (pick (is_decimal_form s) _ _ form e4) [
+                              | inl f ↦ is_decimal f
+                              | inr e5 ↦
+                                  elim (pick (is_mark_form s) _ _ form e5) [
+                                    | inl f ↦ is_mark f
+                                    | inr e6 ↦
+                                        elim (pick (is_pointed_form s) _ _ form e6) [
+                                          | inl f ↦ is_pointed f
+                                          | inr e7 ↦
+                                              elim (pick (is_open_form s) _ _ form e7) [
+                                                | inl f ↦ is_open f
+                                                | inr e8 ↦
+                                                    elim (pick (is_open_comment s) _ _ form e8) [ inl f ↦ is_comment_open f | inr e9 ↦ absurd (never form e9) ]
+                                              ]
+                                        ]
+                                  ]
+                            ]
+                      ]
+                ]
+          ]
+    ]
 
 -- which forms begin with a byte of a class
 class_clash : {A : Type 0} (n m k : ℕ) → n ≡ m → n ≡ k → ltb m k || ltb k m ≡ true → A

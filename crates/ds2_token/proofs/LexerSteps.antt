@@ -19,9 +19,9 @@ use Rattle.ds2_token.specs.declared.scan.Found.{Found}
 use Rattle.ds2_token.specs.declared.token.Token.{Token}
 use Rattle.ds2_token.specs.Forms.{IsGap, is_word_form, is_quoted_form, is_text_form, is_integer_form, is_decimal_form, is_mark_form, is_pointed_form, is_open_form, is_open_comment, form_of}
 use Rattle.ds2_token.specs.Limits.{limit_fault}
-use Rattle.ds2_token.specs.Reading.{spelled_unless, spelled, IsTokenAt, IsFrontOf, IsNext, IsNextOf}
+use Rattle.ds2_token.specs.Reading.{spelled_unless, spelled_token, IsTokenAt, IsFrontOf, IsNextToken, IsNextOf}
 use Rattle.ds2_token.specs.Scan.{piece_size, found}
-use Rattle.ds2_token.specs.Standing.{IsForm, IsLongest, BeginsWith, LeadsTo, refusal_of, refusal_of_form, HasCause, BeginsWithRefusal, without_mark, StandsFor, IsFirstRefusal, IsReadOf}
+use Rattle.ds2_token.specs.Standing.{IsForm, IsLongest, BeginsWith, LeadsTo, refusal_of, refusal_of_form, IsRefusedFor, BeginsWithRefusal, without_mark, StandsFor, IsFirstRefusal, IsReadOf}
 use Rattle.ds2_token.specs.Words.{quoted_kind, text_kind}
 use Rattle.ds2_token.proofs.Pieces.{clash}
 use Rattle.ds2_token.proofs.Fronts.{There}
@@ -54,22 +54,22 @@ pub there_longest : (text : Bytes) (f : Found) → There text f → IsLongest Is
 there_longest text f t = record {
   is = (f.form, t.form);
   longest = λ other left same is.
-    let within : length other ≤ f.size = t.longest other left (same ∙ take-append-drop f.size text) is in
-    let size : length (take f.size text) ≡ f.size = length-take-le f.size text t.fits in
-    omega arith;
+      let within : length other ≤ f.size = t.longest other left (same ∙ take-append-drop f.size text) is in
+      let size : length (take f.size text) ≡ f.size = length-take-le f.size text t.fits in
+      omega arith;
 }
 
-pub cause_at : (text : Bytes) (f : Found) (kind : LexKind) → There text f → refusal_of (take f.size text) ≡ Some kind → HasCause text kind
+pub cause_at : (text : Bytes) (f : Found) (kind : LexKind) → There text f → refusal_of (take f.size text) ≡ Some kind → IsRefusedFor text kind
 cause_at text f kind t e = inr (take f.size text, drop f.size text, sym (take-append-drop f.size text), there_longest text f t, e)
 
 form_along : (s : Bytes) (form other : Result TokenKind LexKind) → form_of s ≡ Some form → form ≡ other → form_of s ≡ Some other
 form_along s form other e f = e ∙ ap (λ (x : Result TokenKind LexKind). Some x) f
 
-pub refused_at : (text : Bytes) (f : Found) (kind : LexKind) → There text f → f.form ≡ Err kind → HasCause text kind
+pub refused_at : (text : Bytes) (f : Found) (kind : LexKind) → There text f → f.form ≡ Err kind → IsRefusedFor text kind
 refused_at text f kind t e =
     cause_at text f kind t (ap (λ (form : Option (Result TokenKind LexKind)). refusal_of_form form (take f.size text)) (form_along (take f.size text) f.form (Err kind) t.form e))
 
-pub none_at : (text bytes : Bytes) → bytes ≡ text → 0 < length text → None ≡ found bytes → HasCause text BadCharacter
+pub none_at : (text bytes : Bytes) → bytes ≡ text → 0 < length text → None ≡ found bytes → IsRefusedFor text BadCharacter
 none_at text bytes same some is = inl (found_none text some (ap found (sym same) ∙ sym is), refl)
 
 -- ---- a spelling of a kind has the kind's form
@@ -95,9 +95,9 @@ quoted_from s e =
     elim (pick_is quoted_kind (is_quoted_form s) _ _ (pick_not quoted_kind (is_word_form s) _ _ refl e)) [
       | inl f ↦ f
       | inr g ↦ clash (pick_not quoted_kind (is_open_comment s) _ _ refl (pick_not quoted_kind (is_open_form s) _ _ refl
-        (pick_not quoted_kind (is_pointed_form s) _ _ refl (pick_not quoted_kind (is_mark_form s) _ _ refl
-        (pick_not quoted_kind (is_decimal_form s) _ _ refl (pick_not quoted_kind (is_integer_form s) _ _ refl
-        (pick_not quoted_kind (is_text_form s) _ _ refl g)))))))
+          (pick_not quoted_kind (is_pointed_form s) _ _ refl (pick_not quoted_kind (is_mark_form s) _ _ refl
+          (pick_not quoted_kind (is_decimal_form s) _ _ refl (pick_not quoted_kind (is_integer_form s) _ _ refl
+          (pick_not quoted_kind (is_text_form s) _ _ refl g)))))))
     ]
 
 text_from : (s : Bytes) → has_kind text_kind (form_of s) ≡ true → is_text_form s ≡ true
@@ -105,8 +105,8 @@ text_from s e =
     elim (pick_is text_kind (is_text_form s) _ _ (pick_not text_kind (is_quoted_form s) _ _ refl (pick_not text_kind (is_word_form s) _ _ refl e))) [
       | inl f ↦ f
       | inr g ↦ clash (pick_not text_kind (is_open_comment s) _ _ refl (pick_not text_kind (is_open_form s) _ _ refl
-        (pick_not text_kind (is_pointed_form s) _ _ refl (pick_not text_kind (is_mark_form s) _ _ refl
-        (pick_not text_kind (is_decimal_form s) _ _ refl (pick_not text_kind (is_integer_form s) _ _ refl g))))))
+          (pick_not text_kind (is_pointed_form s) _ _ refl (pick_not text_kind (is_mark_form s) _ _ refl
+          (pick_not text_kind (is_decimal_form s) _ _ refl (pick_not text_kind (is_integer_form s) _ _ refl g))))))
     ]
 
 pub kind_at : (text s : Bytes) (f : Found) (kind : TokenKind) → There text f → f.form ≡ Ok kind → s ≡ take f.size text → form_of s ≡ Some (Ok kind)
@@ -162,16 +162,16 @@ front_ok text s f kind at token None utf8 t e same limit says =
 front_ok text s f kind at token (Some fault) utf8 t e same limit says = token_refusal token (record { kind = fault; place = at }) (sym says)
 
 front_err : (text s : Bytes) (f : Found) (kind : TokenKind) (at : Place) (refusal : Refusal LexKind) (l : Option LexKind) → There text f → f.form ≡ Ok kind → s ≡ take f.size text
-    → limit_fault kind s ≡ l → spelled_unless l kind s at ≡ a_refusal refusal → HasCause text refusal.kind × (refusal.place ≡ at)
+    → limit_fault kind s ≡ l → spelled_unless l kind s at ≡ a_refusal refusal → IsRefusedFor text refusal.kind × (refusal.place ≡ at)
 front_err text s f kind at refusal None t e same limit says = token_refusal (record { kind = kind; spelling = s; place = at }) refusal says
 front_err text s f kind at refusal (Some fault) t e same limit says =
-    let P : Refusal LexKind → Type 0 = λ r. HasCause text r.kind × (r.place ≡ at) in
+    let P : Refusal LexKind → Type 0 = λ r. IsRefusedFor text r.kind × (r.place ≡ at) in
     let broken : refusal_of (take f.size text) ≡ Some fault =
-      ap refusal_of (sym same) ∙ ap (λ (form : Form). refusal_of_form form s) (kind_at text s f kind t e same) ∙ limit in
+    ap refusal_of (sym same) ∙ ap (λ (form : Form). refusal_of_form form s) (kind_at text s f kind t e same) ∙ limit in
     subst P (same_refusal (record { kind = fault; place = at }) refusal says) (cause_at text f fault t broken, refl)
 
 pub front_of : (text s : Bytes) (f : Found) (kind : TokenKind) (at : Place) (r : Result Token (Stop (Refusal LexKind))) → IsUtf8 text → There text f → f.form ≡ Ok kind
-    → s ≡ take f.size text → Says r (spelled kind s at) → IsFrontOf at text r
+    → s ≡ take f.size text → Says r (spelled_token kind s at) → IsFrontOf at text r
 front_of text s f kind at (Ok token) utf8 t e same says = front_ok text s f kind at token (limit_fault kind s) utf8 t e same refl says
 front_of text s f kind at (Err (Refused refusal)) utf8 t e same says = front_err text s f kind at refusal (limit_fault kind s) t e same refl says
 front_of text s f kind at (Err OutOfMemory) utf8 t e same says = tt
@@ -186,12 +186,12 @@ gap_all text rest n longest same none =
 
 pub next_is : (at place : Place) (text passed rest : Bytes) (n size : ℕ) (token : Token) → IsLongest IsGap (take n text) (drop n text) → n ≤ length text
     → passed ≡ take n text → rest ≡ drop n text → place ≡ place_past at (chars passed) → IsTokenAt place rest token → size ≡ n + length token.spelling
-    → IsNext at text (record { token = token; size = size })
+    → IsNextToken at text (record { token = token; size = size })
 next_is at place text passed rest n size token longest fits front back placed t whole =
     let behind : drop (length token.spelling) rest ≡ drop size text =
-      ap (drop (length token.spelling)) back ∙ drop-drop (length token.spelling) n text ∙ ap (λ (k : ℕ). drop k text) (sym whole) in
+    ap (drop (length token.spelling)) back ∙ drop-drop (length token.spelling) n text ∙ ap (λ (k : ℕ). drop k text) (sym whole) in
     let follows : drop n text ≡ token.spelling ++ drop size text =
-      sym back ∙ t.cut ∙ ap (λ (xs : Bytes). token.spelling ++ xs) behind in
+    sym back ∙ t.cut ∙ ap (λ (xs : Bytes). token.spelling ++ xs) behind in
     let P : Bytes → Type 0 = λ xs. IsLongest IsGap (take n text) xs in
     let Q : Bytes → Type 0 = λ xs. IsLongest IsForm token.spelling xs in
     let E : Bytes → Type 0 = λ xs. IsCharBoundary xs (length token.spelling) in
@@ -213,9 +213,9 @@ pub longest_along : (text bytes : Bytes) (n : ℕ) → bytes ≡ text → IsLong
 longest_along text bytes n e is = subst (λ (xs : Bytes). IsLongest IsGap (take n xs) (drop n xs)) e is
 
 pub refusal_is : (at place : Place) (text passed rest : Bytes) (n : ℕ) (refusal : Refusal LexKind) → IsLongest IsGap (take n text) (drop n text)
-    → passed ≡ take n text → rest ≡ drop n text → place ≡ place_past at (chars passed) → HasCause rest refusal.kind × (refusal.place ≡ place) → BeginsWithRefusal at text refusal
+    → passed ≡ take n text → rest ≡ drop n text → place ≡ place_past at (chars passed) → IsRefusedFor rest refusal.kind × (refusal.place ≡ place) → BeginsWithRefusal at text refusal
 refusal_is at place text passed rest n refusal longest front back placed is =
-    let P : Bytes → Type 0 = λ xs. HasCause xs refusal.kind in
+    let P : Bytes → Type 0 = λ xs. IsRefusedFor xs refusal.kind in
     record {
       gap = take n text;
       left = drop n text;
@@ -249,7 +249,7 @@ leads_more (t ∷ ts) at mid text rest after token (behind, first, leads) begins
     (behind, first, leads_more ts (place_past t.place (chars t.spelling)) mid behind rest after token leads begins)
 
 pub read_step : (tokens grown : List Token) (at mid place : Place) (text rest after : Bytes) (token : Token) (size : ℕ) → LeadsTo at text tokens mid rest
-    → IsNext mid rest (record { token = token; size = size }) → grown ≡ tokens ++ token ∷ [] → place ≡ place_past token.place (chars token.spelling) → after ≡ drop size rest
+    → IsNextToken mid rest (record { token = token; size = size }) → grown ≡ tokens ++ token ∷ [] → place ≡ place_past token.place (chars token.spelling) → after ≡ drop size rest
     → LeadsTo at text grown place after
 read_step tokens grown at mid place text rest after token size leads is more placed back =
     let P : List Token → Type 0 = λ ts. LeadsTo at text ts place after in

@@ -11,7 +11,7 @@ use Rattle.ds2_token.specs.declared.kinds.LexKind.{LexKind}
 use Rattle.ds2_token.specs.declared.token.Token.{Token}
 use Rattle.ds2_token.specs.Forms.{IsGap, form_of}
 use Rattle.ds2_token.specs.Limits.{limit_fault}
-use Rattle.ds2_token.specs.Standing.{IsForm, IsLongest, BeginsWith, LeadsTo, refusal_of, refusal_of_form, HasCause, BeginsWithRefusal, without_mark}
+use Rattle.ds2_token.specs.Standing.{IsForm, IsLongest, BeginsWith, LeadsTo, refusal_of, refusal_of_form, IsRefusedFor, BeginsWithRefusal, without_mark}
 use Rattle.ds2_token.specs.Laws.{OneListStands, OneRefusalIsFirst, NoRefusalBesideTokens}
 
 -- ---- beginnings of one text
@@ -96,7 +96,7 @@ gap_no_token at text t r is p =
     let sizes : length (t.spelling ++ r) ≡ length t.spelling + length r = length-append t.spelling r in
     omega arith
 
-cause_some : (text : Bytes) (kind : LexKind) → HasCause text kind → 0 < length text
+cause_some : (text : Bytes) (kind : LexKind) → IsRefusedFor text kind → 0 < length text
 cause_some text kind (inl (none, e)) = none.0
 cause_some text kind (inr (s, rest, cut, longest, refused)) =
     let some : 0 < length s = form_some s longest.is in
@@ -110,7 +110,7 @@ gap_no_refusal at text r is p =
     omega arith
 
 token_no_cause : (t : Token) (rest left : Bytes) (kind : LexKind) → t.spelling ++ rest ≡ left → IsLongest IsForm t.spelling rest
-    → form_of t.spelling ≡ Some (Ok t.kind) → limit_fault t.kind t.spelling ≡ None → HasCause left kind → ⊥
+    → form_of t.spelling ≡ Some (Ok t.kind) → limit_fault t.kind t.spelling ≡ None → IsRefusedFor left kind → ⊥
 token_no_cause t rest left kind same longest is within (inl (none, e)) = none.1 t.spelling rest same longest.is
 token_no_cause t rest left kind same longest is within (inr (s, after, cut, most, refused)) =
     let parts : (s ≡ t.spelling) × (after ≡ rest) = longest_same IsForm s after t.spelling rest most longest (sym cut ∙ sym same) in
@@ -122,7 +122,7 @@ token_no_refusal at text t rest r p q =
     longest_same IsGap p.gap (t.spelling ++ rest) q.gap q.left p.gap_is_longest q.gap_is_longest (sym p.cut ∙ q.cut) in
     token_no_cause t rest q.left r.kind gaps.1 p.form_is_longest p.kind p.within q.cause
 
-cause_same : (text other : Bytes) (k l : LexKind) → text ≡ other → HasCause text k → HasCause other l → k ≡ l
+cause_same : (text other : Bytes) (k l : LexKind) → text ≡ other → IsRefusedFor text k → IsRefusedFor other l → k ≡ l
 cause_same text other k l same (inl (none, e)) (inl (never, f)) = e ∙ sym f
 cause_same text other k l same (inl (none, e)) (inr (s, rest, cut, longest, refused)) = absurd (none.1 s rest (sym cut ∙ sym same) longest.is)
 cause_same text other k l same (inr (s, rest, cut, longest, refused)) (inl (none, e)) = absurd (none.1 s rest (sym cut ∙ same) longest.is)

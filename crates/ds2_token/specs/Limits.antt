@@ -22,16 +22,17 @@ undoubled (c ∷ d ∷ cs) = if c == 39 then c ∷ undoubled cs else c ∷ undou
 abbrev pub text_content : Bytes → Bytes
 text_content spelling = undoubled (between_quotes spelling)
 
--- all digits of a number, and how many of them stand behind its point
-abbrev pub digits_of : Bytes → Bytes
-digits_of spelling = filter is_ascii_digit spelling
+-- all digits of a number
+abbrev pub digits_within : Bytes → Bytes
+digits_within spelling = filter is_ascii_digit spelling
 
+-- how many digits of a number stand behind its point
 abbrev pub scale_of : Bytes → ℕ
 scale_of spelling = length (filter is_ascii_digit (past_digits spelling))
 
 -- the number that all digits write
 abbrev pub units_of : Bytes → ℕ
-units_of spelling = digits_value 10 (digits_of spelling)
+units_of spelling = digits_value 10 (digits_within spelling)
 
 -- the refusal where a limit is broken
 abbrev pub unless : Bool → LexKind → Option LexKind

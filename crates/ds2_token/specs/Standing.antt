@@ -46,6 +46,7 @@ refusal_of_form None s = None
 refusal_of_form (Some (Err kind)) s = Some kind
 refusal_of_form (Some (Ok kind)) s = limit_fault kind s
 
+-- why a text that is a form or none is refused
 abbrev pub refusal_of : Bytes → Option LexKind
 refusal_of s = refusal_of_form (form_of s) s
 
@@ -53,11 +54,13 @@ refusal_of s = refusal_of_form (form_of s) s
 abbrev pub BeginsNoForm : Bytes → Type 0
 BeginsNoForm text = (0 < length text) × ((s rest : Bytes) → s ++ rest ≡ text → IsForm s → ⊥)
 
+-- a text begins with a longest form that is refused for this
 abbrev pub BeginsRefused : Bytes → LexKind → Type 0
 BeginsRefused text kind = (s : Bytes) × (rest : Bytes) × (text ≡ s ++ rest) × IsLongest IsForm s rest × (refusal_of s ≡ Some kind)
 
-abbrev pub HasCause : Bytes → LexKind → Type 0
-HasCause text kind = (BeginsNoForm text × (kind ≡ BadCharacter)) ⊎ BeginsRefused text kind
+-- a text begins with what is refused for this
+abbrev pub IsRefusedFor : Bytes → LexKind → Type 0
+IsRefusedFor text kind = (BeginsNoForm text × (kind ≡ BadCharacter)) ⊎ BeginsRefused text kind
 
 -- a text that begins at the place `at` begins with a gap, the longest there, and behind it with what is refused, at its first character
 pub record BeginsWithRefusal (at : Place) (text : Bytes) (refusal : Refusal LexKind) : Type 0 where
@@ -65,7 +68,7 @@ pub record BeginsWithRefusal (at : Place) (text : Bytes) (refusal : Refusal LexK
   pub left : Bytes
   pub cut : text ≡ gap ++ left
   pub gap_is_longest : IsLongest IsGap gap left
-  pub cause : HasCause left refusal.kind
+  pub cause : IsRefusedFor left refusal.kind
   pub place : refusal.place ≡ place_past at (chars gap)
 
 -- the text without a byte order mark at its front

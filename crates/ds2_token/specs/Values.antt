@@ -37,12 +37,12 @@ abbrev pub token_text : Token → Option Bytes
 token_text t = text_of (text_content t.spelling)
 
 -- an integer of 64 bits
-abbrev pub integer_of : ℕ → Option ℤ
-integer_of n = if nat_lt n (2 ^ 63) then Some (pos n) else None
+abbrev pub integer_within : ℕ → Option ℤ
+integer_within n = if nat_lt n (2 ^ 63) then Some (pos n) else None
 
 -- the integer that a token stands for
 abbrev pub token_integer : Token → Option ℤ
-token_integer t = integer_of (units_of t.spelling)
+token_integer t = integer_within (units_of t.spelling)
 
 -- the decimal that a token stands for: all its digits, and as many of them behind the point as stand there
 abbrev pub token_decimal : Token → Option Decimal

@@ -71,7 +71,7 @@ fn gap_len(text: &[u8]) -> usize
 }
 
 /// The token with this spelling, or the limit that it breaks.
-fn spelled(
+fn spelled_token(
     alloc: Global,
     kind: TokenKind,
     spelling: &str,
@@ -79,7 +79,7 @@ fn spelled(
 ) -> Result<Token, Stop<Refusal<LexKind>>>
     requires quoted { kind ≡ variant.Quoted → IsTrue (is_quoted_form spelling.now) }
     requires text_form { kind ≡ variant.Text → IsTrue (is_text_form spelling.now) }
-    ensures { Says result (reading.spelled kind spelling.now place) }
+    ensures { Says result (reading.spelled_token kind spelling.now place) }
 {
     match limit_fault(alloc, kind, spelling.as_bytes())? {
         Some(kind) => Err(Stop::Refused(Refusal { kind, place })),
@@ -102,13 +102,18 @@ fn token_at(alloc: Global, text: &str, place: Place) -> Result<Token, Stop<Refus
             kind: LexKind::BadCharacter,
             place,
         })),
-        Some(Found {
-            form: Err(kind), ..
-        }) => Err(Stop::Refused(Refusal { kind, place })),
-        Some(Found {
-            form: Ok(kind),
-            size,
-        }) => spelled(alloc, kind, text.split_at(size).0, place),
+        Some(
+            Found {
+                form: Err(kind),
+                ..
+            },
+        ) => Err(Stop::Refused(Refusal { kind, place })),
+        Some(
+            Found {
+                form: Ok(kind),
+                size,
+            },
+        ) => spelled_token(alloc, kind, text.split_at(size).0, place),
     }
 }
 

@@ -124,8 +124,8 @@ pub fn digits_len(text: &[u8]) -> usize
 }
 
 /// How many bytes stand before the first double quote.
-fn quoted_len(text: &[u8]) -> usize
-    ensures value { result ≡ spec.quoted_len text.now }
+fn before_double_quote(text: &[u8]) -> usize
+    ensures value { result ≡ spec.before_double_quote text.now }
     ensures within { result ≤ length text.now }
 {
     let mut count = 0;
@@ -186,7 +186,7 @@ fn quoted(rest: &[u8]) -> Found
     requires { length rest.now + 1 < 2 ^ 63 }
     ensures { result ≡ spec.quoted_found rest.now }
 {
-    let size = quoted_len(rest);
+    let size = before_double_quote(rest);
     if size < rest.len() {
         token(TokenKind::Quoted, size + 2)
     } else {
@@ -227,9 +227,9 @@ fn pointed(size: usize, rest: &[u8]) -> Found
 }
 
 /// A number of `size` digits, given what follows them.
-fn number_behind(size: usize, rest: &[u8]) -> Found
+fn number_after_digits(size: usize, rest: &[u8]) -> Found
     requires { size + length rest.now < 2 ^ 63 }
-    ensures { result ≡ spec.number_behind size rest.now }
+    ensures { result ≡ spec.number_after_digits size rest.now }
 {
     if begins_with_n(rest) {
         return token(TokenKind::Decimal, size + 1);
@@ -251,7 +251,7 @@ fn number(text: &[u8]) -> Found
 {
     let size = digits_len(text);
     let (_, rest) = text.split_at(size);
-    number_behind(size, rest)
+    number_after_digits(size, rest)
 }
 
 fn is_mark_byte(c: u8) -> bool

@@ -11,15 +11,15 @@ split_at-requires c =
     let there : There c.args.text.now c.in-Some-Ok.field-0 = there_at _ _ c.in-Some-Ok.field-0 c.as_bytes.ensures.value c.requires.none is in
     there_edge c.args.text.now c.in-Some-Ok.field-0 c.in-Some-Ok.kind c.utf8.text there form
 
-pub spelled-requires-clause-quoted : goal.spelled-requires-clause-quoted
-spelled-requires-clause-quoted c =
+pub spelled_token-requires-clause-quoted : goal.spelled_token-requires-clause-quoted
+spelled_token-requires-clause-quoted c =
     let is : Some c.in-Some-Ok.field-0 ≡ found c.as_bytes.result.now = search rules in
     let form : c.in-Some-Ok.field-0.form ≡ Ok c.in-Some-Ok.kind = search rules in
     let there : There c.args.text.now c.in-Some-Ok.field-0 = there_at _ _ c.in-Some-Ok.field-0 c.as_bytes.ensures.value c.requires.none is in
     quoted_at c.args.text.now c.split_at.result.0.now c.in-Some-Ok.field-0 c.in-Some-Ok.kind there form (search rules)
 
-pub spelled-requires-clause-text_form : goal.spelled-requires-clause-text_form
-spelled-requires-clause-text_form c =
+pub spelled_token-requires-clause-text_form : goal.spelled_token-requires-clause-text_form
+spelled_token-requires-clause-text_form c =
     let is : Some c.in-Some-Ok.field-0 ≡ found c.as_bytes.result.now = search rules in
     let form : c.in-Some-Ok.field-0.form ≡ Ok c.in-Some-Ok.kind = search rules in
     let there : There c.args.text.now c.in-Some-Ok.field-0 = there_at _ _ c.in-Some-Ok.field-0 c.as_bytes.ensures.value c.requires.none is in
@@ -42,4 +42,4 @@ returns-in-Some-Ok c =
     let is : Some c.in-Some-Ok.field-0 ≡ found c.as_bytes.result.now = search rules in
     let form : c.in-Some-Ok.field-0.form ≡ Ok c.in-Some-Ok.kind = search rules in
     let there : There c.args.text.now c.in-Some-Ok.field-0 = there_at _ _ c.in-Some-Ok.field-0 c.as_bytes.ensures.value c.requires.none is in
-    front_of c.args.text.now c.split_at.result.0.now c.in-Some-Ok.field-0 c.in-Some-Ok.kind c.args.place c.spelled.result c.utf8.text there form (search rules) c.spelled.ensures
+    front_of c.args.text.now c.split_at.result.0.now c.in-Some-Ok.field-0 c.in-Some-Ok.kind c.args.place c.spelled_token.result c.utf8.text there form (search rules) c.spelled_token.ensures
