@@ -1,0 +1,4 @@
+pub mod Parsers
+pub mod Levels
+pub mod Acceptance
+pub mod Promise

@@ -1,0 +1,12 @@
+pub mod EveryText
+pub mod FoundForms
+pub mod Fronts
+pub mod Heads
+pub mod LexerSteps
+pub mod LimitLemmas
+pub mod MarkLemmas
+pub mod Numbers
+pub mod OneAnswer
+pub mod Pieces
+pub mod Runs
+pub mod ValueLemmas

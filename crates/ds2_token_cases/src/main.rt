@@ -1,0 +1,36 @@
+//! Texts and their tokens.
+//!
+//! Each line of standard input is a text. Standard output gets the line again and, below it, the place, the kind and the
+//! spelling of each of its tokens and the place of its end, or the place and the kind of its first refusal.
+//!
+//! In a line `\n`, `\r` and `\t` stand for a line feed, a carriage return and a tab, `\m` for a byte order mark, and
+//! `\(64:ab)` for `ab` 64 times. A line that begins with `#` is a heading.
+#![tactic(auto)]
+
+mod answer;
+mod escape;
+
+use crate::answer::answer;
+use crate::escape::unescaped;
+use std::alloc::Global;
+use std::io;
+
+// The answer to a line.
+fn answered(alloc: Global, line: &str) -> anyhow::Result<String> {
+    match unescaped(alloc, line)? {
+        Some(text) => Ok(answer(alloc, text)?),
+        None => Ok(String::from_str(alloc, "an escape that is none")?),
+    }
+}
+
+fn main(rt: HostRuntime) -> anyhow::Result<()> {
+    let input = io::read_to_string(rt.alloc(), rt.reader())?;
+    for line in input.as_str().lines() {
+        println!(rt; "{line}")?;
+        if !line.starts_with('#') && !line.is_empty() {
+            let answer = answered(rt.alloc(), line)?;
+            println!(rt; "    {answer}")?;
+        }
+    }
+    Ok(())
+}

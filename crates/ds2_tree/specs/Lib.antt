@@ -1,0 +1,11 @@
+pub mod Marks
+pub mod Lists
+pub mod Expressions
+pub mod Statements
+pub mod Readings
+pub mod Globals
+pub mod Units
+pub mod ExpressionViews
+pub mod StatementViews
+pub mod UnitViews
+pub mod Examples
