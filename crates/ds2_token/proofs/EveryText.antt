@@ -1,5 +1,5 @@
 -- Each text has an answer.
-use Rattle.std.proofs.Common.{◌≡◌, ℕ, zero, suc, ◌+◌, ◌-◌, ◌<◌, ◌≤◌, ◌⊎◌, inl, inr, Bool, true, false, List, [], ◌∷◌, ◌++◌, length, take, drop, Option, Some, None, Result, Ok, Err, refl, sym, ap, ◌∙◌, subst, arith}
+use Rattle.std.proofs.Common.{◌≡◌, ℕ, zero, suc, ◌+◌, ◌-◌, ◌<◌, ◌≤◌, ◌⊎◌, inl, inr, List, [], ◌∷◌, ◌++◌, length, take, drop, Option, Some, None, Result, Ok, Err, refl, sym, ap, ◌∙◌, subst, arith}
 use Rattle.std.specs.Str.{chars}
 use Rattle.std.proofs.lemmas.List.{append-nil, length-append, length-drop, take-append-drop, nil_from_length, drop_all}
 use Rattle.std.proofs.lemmas.Bool.{cases_lt}
@@ -12,7 +12,7 @@ use Rattle.ds2_token.specs.declared.kinds.LexKind.{LexKind}
 use Rattle.ds2_token.specs.declared.kinds.LexKind.TheVariants.{BadCharacter}
 use Rattle.ds2_token.specs.declared.scan.Found.{Found}
 use Rattle.ds2_token.specs.declared.token.Token.{Token}
-use Rattle.ds2_token.specs.Forms.{IsGap, form_of}
+use Rattle.ds2_token.specs.Forms.{IsGap}
 use Rattle.ds2_token.specs.Laws.{EveryTextIsRead}
 use Rattle.ds2_token.specs.Limits.{limit_fault}
 use Rattle.ds2_token.specs.Scan.{piece_size, found}
@@ -34,13 +34,13 @@ piece_within : (text : Bytes) → piece_size text ≤ length text
 piece_within text =
     elim (cases_lt 0 (piece_size text)) [
       | inl some ↦
-        let front : Bytes = take (piece_size text) text in
-        let whole : front ++ drop (piece_size text) text ≡ text = take-append-drop (piece_size text) text in
-        let size : piece_size text ≡ length front =
+          let front : Bytes = take (piece_size text) text in
+          let whole : front ++ drop (piece_size text) text ≡ text = take-append-drop (piece_size text) text in
+          let size : piece_size text ≡ length front =
           ap piece_size (sym whole) ∙ piece_is_found front (drop (piece_size text) text) (found_is_piece text some) in
-        let sizes : length front + length (drop (piece_size text) text) ≡ length text =
+          let sizes : length front + length (drop (piece_size text) text) ≡ length text =
           sym (length-append front (drop (piece_size text) text)) ∙ ap length whole in
-        omega arith
+          omega arith
       | inr none ↦ omega arith
     ]
 
@@ -98,15 +98,23 @@ behind at text =
 
 refusal_answer : (at : Place) (text : Bytes) (kind : LexKind) (b : Behind at text) → HasCause b.rest kind → Answer at text
 refusal_answer at text kind b cause =
-    inr (record { kind = kind; place = place_past at (chars b.gap) },
-      ([], at, text, (refl, refl), record {
-        gap = b.gap;
-        left = b.rest;
-        cut = b.cut;
-        gap_is_longest = b.longest;
-        cause = cause;
-        place = refl;
-      }))
+    inr (
+      record { kind = kind; place = place_past at (chars b.gap) },
+      (
+        [],
+        at,
+        text,
+        (refl, refl),
+        record {
+          gap = b.gap;
+          left = b.rest;
+          cut = b.cut;
+          gap_is_longest = b.longest;
+          cause = cause;
+          place = refl;
+        },
+      ),
+    )
 
 empty_answer : (at : Place) (text : Bytes) (b : Behind at text) → length b.rest ≡ 0 → Answer at text
 empty_answer at text b none =
@@ -121,7 +129,7 @@ kind_answer : (steps : ℕ) (at : Place) (text : Bytes) (b : Behind at text) (f 
     → ((place : Place) (rest : Bytes) → length rest ≤ steps → Answer place rest) → There b.rest f → f.form ≡ Ok kind → limit_fault kind (take f.size b.rest) ≡ l → Answer at text
 kind_answer steps at text b f kind (Some fault) small go t e limit =
     let broken : refusal_of (take f.size b.rest) ≡ Some fault =
-      ap (λ (form : Form). refusal_of_form form (take f.size b.rest)) (kind_at b.rest (take f.size b.rest) f kind t e refl) ∙ limit in
+    ap (λ (form : Form). refusal_of_form form (take f.size b.rest)) (kind_at b.rest (take f.size b.rest) f kind t e refl) ∙ limit in
     refusal_answer at text fault b (cause_at b.rest f fault t broken)
 kind_answer steps at text b f kind None small go t e limit =
     let place : Place = place_past at (chars b.gap) in
@@ -133,16 +141,16 @@ kind_answer steps at text b f kind None small go t e limit =
     let whole : length text ≡ length b.gap + length b.rest = ap length b.cut ∙ length-append b.gap b.rest in
     let some : 0 < f.size = t.some in
     with_token at text rest (record { kind = kind; spelling = spelling; place = place })
-      (record {
-        gap = b.gap;
-        cut = b.cut ∙ ap (λ (xs : Bytes). b.gap ++ xs) split;
-        gap_is_longest = subst P split b.longest;
-        form_is_longest = there_longest b.rest f t;
-        kind = kind_at b.rest spelling f kind t e refl;
-        within = limit;
-        place = refl;
-      })
-      (go (place_past place (chars spelling)) rest (omega arith))
+    (record {
+      gap = b.gap;
+      cut = b.cut ∙ ap (λ (xs : Bytes). b.gap ++ xs) split;
+      gap_is_longest = subst P split b.longest;
+      form_is_longest = there_longest b.rest f t;
+      kind = kind_at b.rest spelling f kind t e refl;
+      within = limit;
+      place = refl;
+    })
+    (go (place_past place (chars spelling)) rest (omega arith))
 
 form_answer : (steps : ℕ) (at : Place) (text : Bytes) (b : Behind at text) (f : Found) (form : Result TokenKind LexKind) → length text ≤ suc steps
     → ((place : Place) (rest : Bytes) → length rest ≤ steps → Answer place rest) → There b.rest f → f.form ≡ form → Answer at text

@@ -1,19 +1,18 @@
 -- What is found at the front of a text that begins with no gap is the longest form there, and where none is found there is none.
-use Rattle.std.proofs.Common.{◌≡◌, ℕ, zero, suc, ◌+◌, ◌-◌, ◌<◌, ◌≤◌, ◌⊎◌, inl, inr, Bool, true, false, cond, ◌&&◌, ◌||◌, not, List, [], ◌∷◌, ◌++◌, length, take, drop, get_or, Option, Some, None, Result, Ok, Err, refl, sym, ap, ◌∙◌, subst, arith}
+use Rattle.std.proofs.Common.{◌≡◌, ℕ, zero, suc, ◌<◌, ◌≤◌, ◌⊎◌, inl, inr, Bool, true, false, cond, ◌&&◌, ◌||◌, not, [], ◌∷◌, ◌++◌, length, drop, Option, Some, None, Result, refl, sym, ap, ◌∙◌, subst, arith}
 use Rattle.std.specs.Prelude.{◌==◌, codes, nat_lt}
-use Rattle.std.specs.List.{prefix_len}
 use Rattle.std.specs.Char.{is_ascii_digit}
 use Rattle.std.specs.Str.{bytes_eq}
 use Rattle.std.proofs.lemmas.Bool.{and_parts, and_from, and_right, or_cases, eqb-true, cases_Bool, cond-true, cond-false, both_ways, false_from_ne_true, not_from_false, ltb-true}
-use Rattle.std.proofs.lemmas.List.{length-append, take_all}
+use Rattle.std.proofs.lemmas.List.{take_all}
 use Rattle.ds2_base.specs.Bytes.{Bytes}
 use Rattle.ds2_token.specs.declared.kinds.TokenKind.{TokenKind}
-use Rattle.ds2_token.specs.declared.kinds.TokenKind.TheVariants.{Word, Mark}
+use Rattle.ds2_token.specs.declared.kinds.TokenKind.TheVariants.{Mark}
 use Rattle.ds2_token.specs.declared.kinds.LexKind.{LexKind}
 use Rattle.ds2_token.specs.declared.kinds.LexKind.TheVariants.{OpenComment}
 use Rattle.ds2_token.specs.declared.scan.Found.{Found}
-use Rattle.ds2_token.specs.Forms.{is_word_letter, is_word_part, is_mark_form, opens_comment, holds_comment_end, is_open_comment, form_of}
-use Rattle.ds2_token.specs.Scan.{further, comment_end, piece_size, quoted_found, text_found, number_found, is_mark_byte, is_mark_pair, mark_size, mark_found, token_found, fault_found, found}
+use Rattle.ds2_token.specs.Forms.{is_word_letter, is_mark_form, opens_comment, holds_comment_end, is_open_comment, form_of}
+use Rattle.ds2_token.specs.Scan.{further, comment_end, piece_size, quoted_found, text_found, is_mark_byte, is_mark_pair, mark_size, mark_found, token_found, fault_found, found}
 use Rattle.ds2_token.specs.Standing.{IsForm, BeginsNoForm}
 use Rattle.ds2_token.proofs.Pieces.{clash, same_bytes, no_end}
 use Rattle.ds2_token.proofs.Heads
@@ -73,7 +72,7 @@ open_is_comment text e none =
     let size : further 2 (comment_end o.rest) ≡ 0 = ap piece_size (sym o.cut) ∙ none in
     let end : comment_end o.rest ≡ 0 = further_zero (comment_end o.rest) size in
     and_from (opens_comment text) (not (holds_comment_end (drop 2 text))) e
-      (not_from_false (holds_comment_end (drop 2 text)) (ap (λ (xs : Bytes). holds_comment_end (drop 2 xs)) o.cut ∙ no_end o.rest end))
+    (not_from_false (holds_comment_end (drop 2 text)) (ap (λ (xs : Bytes). holds_comment_end (drop 2 xs)) o.cut ∙ no_end o.rest end))
 
 never_shape : (cs : Bytes) → Heads.is_mark_shape (47 ∷ 42 ∷ cs) ≡ true → ⊥
 never_shape [] e = clash e
@@ -103,7 +102,7 @@ other_class : (c : ℕ) → is_word_letter c ≡ false → is_ascii_digit c ≡ 
 unfolding Heads.class_of
 other_class c letter digit double single =
     let here : Heads.class_of c ≡ cond (is_mark_byte c) 4 5 =
-      cond-false (is_word_letter c) 0 _ letter ∙ cond-false (is_ascii_digit c) 1 _ digit ∙ cond-false (c == 34) 2 _ double ∙ cond-false (c == 39) 3 _ single in
+    cond-false (is_word_letter c) 0 _ letter ∙ cond-false (is_ascii_digit c) 1 _ digit ∙ cond-false (c == 34) 2 _ double ∙ cond-false (c == 39) 3 _ single in
     four_or_five (is_mark_byte c) (Heads.class_of c) here
 
 -- only marks stand at the front of a text of such a byte that opens no comment
@@ -116,8 +115,8 @@ mark_only c cs (o ∷ os) left class none same some (form, is) =
     elim (Heads.at_sign o os form (omega arith) is) [
       | inl e ↦ Heads.mark_shape (o ∷ os) e
       | inr e ↦
-        let opens : opens_comment (o ∷ os) ≡ true = (and_parts (opens_comment (o ∷ os)) (not (holds_comment_end (drop 2 (o ∷ os)))) e).0 in
-        absurd (both_ways (opens_comment (c ∷ cs)) none (opens_along (o ∷ os) left (c ∷ cs) opens same))
+          let opens : opens_comment (o ∷ os) ≡ true = (and_parts (opens_comment (o ∷ os)) (not (holds_comment_end (drop 2 (o ∷ os)))) e).0 in
+          absurd (both_ways (opens_comment (c ∷ cs)) none (opens_along (o ∷ os) left (c ∷ cs) opens same))
     ]
 
 -- how long a spelling of a mark's shape is
@@ -150,20 +149,20 @@ pair_good : (c d : ℕ) → is_mark_pair c d ≡ true → is_good_pair c d ≡ t
 pair_good c d e =
     elim (cases_Bool (d == 61)) [
       | inl f ↦
-        let equal : d ≡ 61 = eqb-true d 61 f in
-        elim (or_cases (c == 94 || c == 126 || c == 60) (c == 62) (sym (cond-true (d == 61) (c == 94 || c == 126 || c == 60 || c == 62) (c == 124 && d == 124) f) ∙ e)) [
-          | inr g ↦ pair_of c d 62 61 (eqb-true c 62 g) equal refl
-          | inl g ↦ elim (or_cases (c == 94 || c == 126) (c == 60) g) [
-            | inr h ↦ pair_of c d 60 61 (eqb-true c 60 h) equal refl
-            | inl h ↦ elim (or_cases (c == 94) (c == 126) h) [
-              | inr i ↦ pair_of c d 126 61 (eqb-true c 126 i) equal refl
-              | inl i ↦ pair_of c d 94 61 (eqb-true c 94 i) equal refl
+          let equal : d ≡ 61 = eqb-true d 61 f in
+          elim (or_cases (c == 94 || c == 126 || c == 60) (c == 62) (sym (cond-true (d == 61) (c == 94 || c == 126 || c == 60 || c == 62) (c == 124 && d == 124) f) ∙ e)) [
+            | inr g ↦ pair_of c d 62 61 (eqb-true c 62 g) equal refl
+            | inl g ↦ elim (or_cases (c == 94 || c == 126) (c == 60) g) [
+              | inr h ↦ pair_of c d 60 61 (eqb-true c 60 h) equal refl
+              | inl h ↦ elim (or_cases (c == 94) (c == 126) h) [
+                | inr i ↦ pair_of c d 126 61 (eqb-true c 126 i) equal refl
+                | inl i ↦ pair_of c d 94 61 (eqb-true c 94 i) equal refl
+              ]
             ]
           ]
-        ]
       | inr f ↦
-        let parts = and_parts (c == 124) (d == 124) (sym (cond-false (d == 61) (c == 94 || c == 126 || c == 60 || c == 62) (c == 124 && d == 124) f) ∙ e) in
-        pair_of c d 124 124 (eqb-true c 124 parts.0) (eqb-true d 124 parts.1) refl
+          let parts = and_parts (c == 124) (d == 124) (sym (cond-false (d == 61) (c == 94 || c == 126 || c == 60 || c == 62) (c == 124 && d == 124) f) ∙ e) in
+          pair_of c d 124 124 (eqb-true c 124 parts.0) (eqb-true d 124 parts.1) refl
     ]
 
 single_most : (c : ℕ) (cs other left : Bytes) → 4 ≤ Heads.class_of c → opens_comment (c ∷ cs) ≡ false
@@ -179,9 +178,9 @@ single_there : (c : ℕ) (cs : Bytes) → 4 ≤ Heads.class_of c → opens_comme
     → ((s left : Bytes) → Heads.is_mark_shape s ≡ true → s ++ left ≡ c ∷ cs → length s ≤ 1) → There (c ∷ cs) (token_found Mark 1)
 single_there c cs class none mark most =
     there_of (c ∷ cs) (c ∷ []) cs (token_found Mark 1) refl refl (omega arith)
-      (Heads.mark_form c [] (Heads.sign_class c mark) (Heads.mark_byte_form c mark))
-      (λ other left same is. single_most c cs other left class none most same is)
-      (λ kind f. Heads.mark_byte_ascii c mark)
+    (Heads.mark_form c [] (Heads.sign_class c mark) (Heads.mark_byte_form c mark))
+    (λ other left same is. single_most c cs other left class none most same is)
+    (λ kind f. Heads.mark_byte_ascii c mark)
 
 pair_there : (c d : ℕ) (cs : Bytes) → 4 ≤ Heads.class_of c → opens_comment (c ∷ d ∷ cs) ≡ false → is_mark_pair c d ≡ true → There (c ∷ d ∷ cs) (token_found Mark 2)
 pair_there c d cs class none pair =
@@ -189,9 +188,9 @@ pair_there c d cs class none pair =
     let one = and_parts (is_mark_byte c && is_mark_form (c ∷ d ∷ [])) (nat_lt d 128) good in
     let two = and_parts (is_mark_byte c) (is_mark_form (c ∷ d ∷ [])) one.0 in
     there_of (c ∷ d ∷ cs) (c ∷ d ∷ []) cs (token_found Mark 2) refl refl (omega arith)
-      (Heads.mark_form c (d ∷ []) (Heads.sign_class c two.0) two.1)
-      (λ other left same is. within_two c (d ∷ cs) other left class none same is)
-      (λ kind f. ltb-true d 128 one.1)
+    (Heads.mark_form c (d ∷ []) (Heads.sign_class c two.0) two.1)
+    (λ other left same is. within_two c (d ∷ cs) other left class none same is)
+    (λ kind f. ltb-true d 128 one.1)
 
 abbrev MarkFound : Bytes → ℕ → Type 0
 MarkFound text n = (f : Found) → mark_found n ≡ Some f → There text f
@@ -206,7 +205,7 @@ mark_there : (c : ℕ) (cs : Bytes) → 4 ≤ Heads.class_of c → opens_comment
 mark_there c [] class none =
     elim (cases_Bool (is_mark_byte c)) [
       | inl e ↦ subst (MarkFound (c ∷ [])) (sym (cond-true (is_mark_byte c) 1 0 e))
-        (mark_is (c ∷ []) 0 (single_there c [] class none e (λ s left shape same. omega (arith, whole_longest (c ∷ []) s left same))))
+          (mark_is (c ∷ []) 0 (single_there c [] class none e (λ s left shape same. omega (arith, whole_longest (c ∷ []) s left same))))
       | inr e ↦ subst (MarkFound (c ∷ [])) (sym (cond-false (is_mark_byte c) 1 0 e)) (mark_not (c ∷ []))
     ]
 mark_there c (d ∷ cs) class none =
@@ -214,10 +213,10 @@ mark_there c (d ∷ cs) class none =
       | inl e ↦ subst (MarkFound (c ∷ d ∷ cs)) (sym (cond-true (is_mark_pair c d) 2 (cond (is_mark_byte c) 1 0) e)) (mark_is (c ∷ d ∷ cs) 1 (pair_there c d cs class none e))
       | inr e ↦ elim (cases_Bool (is_mark_byte c)) [
         | inl f ↦
-          subst (MarkFound (c ∷ d ∷ cs)) (sym (cond-false (is_mark_pair c d) 2 (cond (is_mark_byte c) 1 0) e ∙ cond-true (is_mark_byte c) 1 0 f))
+            subst (MarkFound (c ∷ d ∷ cs)) (sym (cond-false (is_mark_pair c d) 2 (cond (is_mark_byte c) 1 0) e ∙ cond-true (is_mark_byte c) 1 0 f))
             (mark_is (c ∷ d ∷ cs) 0 (single_there c (d ∷ cs) class none f (λ s left shape same. shape_pair c d cs s left shape same e)))
         | inr f ↦
-          subst (MarkFound (c ∷ d ∷ cs)) (sym (cond-false (is_mark_pair c d) 2 (cond (is_mark_byte c) 1 0) e ∙ cond-false (is_mark_byte c) 1 0 f)) (mark_not (c ∷ d ∷ cs))
+            subst (MarkFound (c ∷ d ∷ cs)) (sym (cond-false (is_mark_pair c d) 2 (cond (is_mark_byte c) 1 0) e ∙ cond-false (is_mark_byte c) 1 0 f)) (mark_not (c ∷ d ∷ cs))
       ]
     ]
 

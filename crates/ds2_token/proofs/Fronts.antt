@@ -1,23 +1,22 @@
 -- The form that is found at the front of a text has the spelling of its kind, and no longer form stands there.
-use Rattle.std.proofs.Common.{◌≡◌, ℕ, zero, suc, ◌+◌, ◌-◌, ◌<◌, ◌≤◌, ◌⊎◌, inl, inr, Bool, true, false, cond, ltb, ◌&&◌, ◌||◌, not, List, [], ◌∷◌, ◌++◌, length, take, drop, get_or, Option, Some, None, Result, Ok, Err, refl, sym, ap, ◌∙◌, arith, append_assoc}
-use Rattle.std.specs.Prelude.{◌==◌, nat_le, nat_lt, codes, slice_index}
-use Rattle.std.specs.List.{list_all, list_any, prefix_len}
+use Rattle.std.proofs.Common.{◌≡◌, ℕ, suc, ◌+◌, ◌-◌, ◌<◌, ◌≤◌, inl, inr, Bool, true, false, cond, ◌&&◌, not, [], ◌∷◌, ◌++◌, length, take, drop, get_or, Some, Result, Ok, Err, refl, sym, ap, ◌∙◌, arith, append_assoc}
+use Rattle.std.specs.Prelude.{◌==◌, nat_le, nat_lt, slice_index}
+use Rattle.std.specs.List.{list_all, prefix_len}
 use Rattle.std.specs.Char.{is_ascii_digit}
-use Rattle.std.proofs.lemmas.Bool.{and_parts, and_from, and_right, and_left, or_cases, or_parts, or_left, or_right, or_from, eqb-true, eq-eqb, leb-true, le-leb, ltb-true, ltb-false, not-true, not_from_false, cases_Bool, cond-true, cond-false, cond_both, both_ways, false_from_ne_true}
+use Rattle.std.proofs.lemmas.Bool.{and_parts, and_from, or_cases, or_left, or_right, eqb-true, eq-eqb, leb-true, le-leb, ltb-true, ltb-false, not-true, not_from_false, cases_Bool, cond-true, cond-false, cond_both, both_ways, false_from_ne_true}
 use Rattle.std.proofs.lemmas.Bool.Decides.{nat_tests}
-use Rattle.std.proofs.lemmas.List.{append-nil, length-append, length-take-le, length-drop, take-append-drop, take_at, drop_at, take_all, get_or_at, get_or-append_right}
+use Rattle.std.proofs.lemmas.List.{length-append, length-take-le, take-append-drop, take_at, take_all, get_or_at}
 use Rattle.std.proofs.lemmas.List.Sums.{prefix_len-le-length, prefix_len_passes}
 use Rattle.ds2_base.specs.Bytes.{Bytes}
 use Rattle.ds2_token.specs.declared.kinds.TokenKind.{TokenKind}
-use Rattle.ds2_token.specs.declared.kinds.TokenKind.TheVariants.{Word, Quoted, Text, Integer, Decimal, Mark}
+use Rattle.ds2_token.specs.declared.kinds.TokenKind.TheVariants.{Word, Quoted, Text}
 use Rattle.ds2_token.specs.declared.kinds.LexKind.{LexKind}
-use Rattle.ds2_token.specs.declared.kinds.LexKind.TheVariants.{DoubleConstant, OpenText, OpenComment}
+use Rattle.ds2_token.specs.declared.kinds.LexKind.TheVariants.{OpenText}
 use Rattle.ds2_token.specs.declared.scan.Found.{Found}
-use Rattle.ds2_token.specs.Forms.{is_word_letter, is_word_part, is_word_form, is_mark_form, is_enclosed, between_quotes, begins_with, holds_double_quote, is_paired, is_quoted_form, is_text_form, is_open_form, is_integer_form, leading_digits, past_digits, is_fraction, is_pointed_form, without_last, ends_in_n, is_decimal_form, opens_comment, holds_comment_end, is_open_comment, form_of}
-use Rattle.ds2_token.specs.Scan.{piece_size, comment_end, quoted_len, quoted_found, paired_len, text_found, digits_len, begins_with_n, pointed_found, number_behind, number_found, is_mark_byte, is_mark_pair, mark_size, mark_found, token_found, fault_found, found}
-use Rattle.ds2_token.specs.Standing.{IsForm, BeginsNoForm}
-use Rattle.ds2_token.proofs.Pieces.{clash, same_bytes, no_end}
-use Rattle.ds2_token.proofs.Runs.{first_passes, run_size_yes, run_all, run_stops, run_len, run_within, run_same, Stop, run_stop, none_from_all, all_from_none}
+use Rattle.ds2_token.specs.Forms.{is_word_letter, is_word_part, is_word_form, is_enclosed, between_quotes, begins_with, holds_double_quote, is_paired, is_quoted_form, is_text_form, is_open_form, form_of}
+use Rattle.ds2_token.specs.Scan.{quoted_len, quoted_found, paired_len, text_found, token_found, fault_found}
+use Rattle.ds2_token.specs.Standing.{IsForm}
+use Rattle.ds2_token.proofs.Runs.{run_size_yes, run_all, run_within, run_stop, none_from_all, all_from_none}
 use Rattle.ds2_token.proofs.Heads
 
 -- what is said of a form that was found
@@ -88,14 +87,14 @@ word_there c cs e =
     let size : prefix_len is_word_part (c ∷ cs) ≡ suc (prefix_len is_word_part cs) = run_size_yes is_word_part c cs (letter_part c e) in
     let front : take (prefix_len is_word_part (c ∷ cs)) (c ∷ cs) ≡ c ∷ take (prefix_len is_word_part cs) cs = ap (λ (n : ℕ). take n (c ∷ cs)) size in
     let word : is_word_form (c ∷ take (prefix_len is_word_part cs) cs) ≡ true =
-      and_from (is_word_letter c) (list_all is_word_part (take (prefix_len is_word_part cs) cs)) e (run_all is_word_part cs) in
+    and_from (is_word_letter c) (list_all is_word_part (take (prefix_len is_word_part cs) cs)) e (run_all is_word_part cs) in
     record {
       some = omega arith;
       fits = prefix_len-le-length is_word_part (c ∷ cs);
       form = ap form_of front ∙ Heads.word_form (c ∷ take (prefix_len is_word_part cs) cs) word;
       longest = λ other left same is. word_bound c cs other left e same is;
       ends = λ kind f. part_ascii (get_or (c ∷ cs) (prefix_len is_word_part (c ∷ cs) - 1) 0)
-        (prefix_len_passes is_word_part (c ∷ cs) (prefix_len is_word_part (c ∷ cs) - 1) 0 (omega arith));
+          (prefix_len_passes is_word_part (c ∷ cs) (prefix_len is_word_part (c ∷ cs) - 1) 0 (omega arith));
     }
 
 -- ---- quotes
@@ -106,8 +105,8 @@ enclosed_is q body =
     let size : length s ≡ length body + 2 = omega (arith, length-append body (q ∷ [])) in
     let last : slice_index s (length s - 1) ≡ q = get_or_at (q ∷ body) q [] 0 (length s - 1) (omega arith) in
     and_from (nat_le 2 (length s) && slice_index s 0 == q) (slice_index s (length s - 1) == q)
-      (and_from (nat_le 2 (length s)) (q == q) (le-leb 2 (length s) (omega arith)) (eq-eqb q q refl))
-      (eq-eqb (slice_index s (length s - 1)) q last)
+    (and_from (nat_le 2 (length s)) (q == q) (le-leb 2 (length s) (omega arith)) (eq-eqb q q refl))
+    (eq-eqb (slice_index s (length s - 1)) q last)
 
 inside_is : (q : ℕ) (body : Bytes) → between_quotes (q ∷ (body ++ q ∷ [])) ≡ body
 inside_is q body =
@@ -118,7 +117,7 @@ inside_is q body =
 enclosed_front : (q : ℕ) (cs after : Bytes) (k : ℕ) → k ≤ length cs → drop k cs ≡ q ∷ after → take (k + 2) (q ∷ cs) ≡ q ∷ (take k cs ++ q ∷ [])
 enclosed_front q cs after k fits cut =
     let split : cs ≡ (take k cs ++ q ∷ []) ++ after =
-      sym (take-append-drop k cs) ∙ ap (λ (xs : Bytes). take k cs ++ xs) cut ∙ sym (append_assoc (take k cs) (q ∷ []) after) in
+    sym (take-append-drop k cs) ∙ ap (λ (xs : Bytes). take k cs ++ xs) cut ∙ sym (append_assoc (take k cs) (q ∷ []) after) in
     let size : length (q ∷ (take k cs ++ q ∷ [])) ≡ k + 2 = omega (arith, length-append (take k cs) (q ∷ []), length-take-le k cs fits) in
     ap (λ (xs : Bytes). take (k + 2) (q ∷ xs)) split ∙ take_at (q ∷ (take k cs ++ q ∷ [])) after (k + 2) size
 
@@ -132,27 +131,27 @@ quoted_bound cs (o ∷ os) left same (form, is) =
     let rest : os ++ left ≡ cs = rest_same 34 o cs os left same in
     elim (Heads.at_double o os form (Heads.double_class o first) is) [
       | inl quoted ↦
-        let m : ℕ = length (o ∷ os) - 2 in
-        let parts = and_parts (is_enclosed 34 (o ∷ os)) (not (holds_double_quote (between_quotes (o ∷ os)))) quoted in
-        let all : list_all not_double (take m os) ≡ true = all_from_none (λ c. c == 34) (take m os) (not-true (holds_double_quote (take m os)) parts.1) in
-        let cut : take m os ++ (drop m os ++ left) ≡ cs =
+          let m : ℕ = length (o ∷ os) - 2 in
+          let parts = and_parts (is_enclosed 34 (o ∷ os)) (not (holds_double_quote (between_quotes (o ∷ os)))) quoted in
+          let all : list_all not_double (take m os) ≡ true = all_from_none (λ c. c == 34) (take m os) (not-true (holds_double_quote (take m os)) parts.1) in
+          let cut : take m os ++ (drop m os ++ left) ≡ cs =
           sym (append_assoc (take m os) (drop m os) left) ∙ ap (λ (xs : Bytes). xs ++ left) (take-append-drop m os) ∙ rest in
-        let within : length (take m os) ≤ prefix_len not_double (take m os ++ (drop m os ++ left)) = run_within not_double (take m os) (drop m os ++ left) all in
-        let here : prefix_len not_double (take m os ++ (drop m os ++ left)) ≡ quoted_len cs = ap (prefix_len not_double) cut in
-        let size : length (take m os) ≡ m = length-take-le m os (omega arith) in
-        omega arith
+          let within : length (take m os) ≤ prefix_len not_double (take m os ++ (drop m os ++ left)) = run_within not_double (take m os) (drop m os ++ left) all in
+          let here : prefix_len not_double (take m os ++ (drop m os ++ left)) ≡ quoted_len cs = ap (prefix_len not_double) cut in
+          let size : length (take m os) ≡ m = length-take-le m os (omega arith) in
+          omega arith
       | inr unclosed ↦
-        elim (or_cases (o == 34 && not (holds_double_quote os)) (o == 39 && is_paired os) unclosed) [
-          | inl e ↦
-            let parts = and_parts (o == 34) (not (holds_double_quote os)) e in
-            let all : list_all not_double os ≡ true = all_from_none (λ c. c == 34) os (not-true (holds_double_quote os) parts.1) in
-            let within : length os ≤ prefix_len not_double (os ++ left) = run_within not_double os left all in
-            let here : prefix_len not_double (os ++ left) ≡ quoted_len cs = ap (prefix_len not_double) rest in
-            omega arith
-          | inr e ↦
-            let other : o ≡ 39 = eqb-true o 39 (and_parts (o == 39) (is_paired os) e).0 in
-            absurd (omega arith)
-        ]
+          elim (or_cases (o == 34 && not (holds_double_quote os)) (o == 39 && is_paired os) unclosed) [
+            | inl e ↦
+                let parts = and_parts (o == 34) (not (holds_double_quote os)) e in
+                let all : list_all not_double os ≡ true = all_from_none (λ c. c == 34) os (not-true (holds_double_quote os) parts.1) in
+                let within : length os ≤ prefix_len not_double (os ++ left) = run_within not_double os left all in
+                let here : prefix_len not_double (os ++ left) ≡ quoted_len cs = ap (prefix_len not_double) rest in
+                omega arith
+            | inr e ↦
+                let other : o ≡ 39 = eqb-true o 39 (and_parts (o == 39) (is_paired os) e).0 in
+                absurd (omega arith)
+          ]
     ]
 
 double_stop : (c : ℕ) → not_double c ≡ false → c ≡ 34
@@ -167,9 +166,9 @@ closed_quoted cs short =
     let front : take (k + 2) (34 ∷ cs) ≡ 34 ∷ (take k cs ++ 34 ∷ []) = enclosed_front 34 cs stop.rest k (omega arith) cut in
     let plain : holds_double_quote (take k cs) ≡ false = none_from_all (λ c. c == 34) (take k cs) (run_all not_double cs) in
     let quoted : is_quoted_form (34 ∷ (take k cs ++ 34 ∷ [])) ≡ true =
-      and_from (is_enclosed 34 (34 ∷ (take k cs ++ 34 ∷ []))) (not (holds_double_quote (between_quotes (34 ∷ (take k cs ++ 34 ∷ [])))))
-        (enclosed_is 34 (take k cs))
-        (not_from_false (holds_double_quote (between_quotes (34 ∷ (take k cs ++ 34 ∷ [])))) (ap holds_double_quote (inside_is 34 (take k cs)) ∙ plain)) in
+    and_from (is_enclosed 34 (34 ∷ (take k cs ++ 34 ∷ []))) (not (holds_double_quote (between_quotes (34 ∷ (take k cs ++ 34 ∷ [])))))
+    (enclosed_is 34 (take k cs))
+    (not_from_false (holds_double_quote (between_quotes (34 ∷ (take k cs ++ 34 ∷ [])))) (ap holds_double_quote (inside_is 34 (take k cs)) ∙ plain)) in
     let last : get_or cs k 0 ≡ 34 = last_of k cs 34 stop.rest (omega arith) cut in
     record {
       some = omega arith;
@@ -193,16 +192,16 @@ open_quoted cs long =
     let plain : holds_double_quote cs ≡ false = none_from_all (λ c. c == 34) cs all in
     let front : take (length cs + 1) (34 ∷ cs) ≡ 34 ∷ cs = take_all (length cs + 1) (34 ∷ cs) (omega arith) in
     let not_closed : is_quoted_form (34 ∷ cs) ≡ false =
-      false_from_ne_true (is_quoted_form (34 ∷ cs)) (λ is.
-        let parts = and_parts (is_enclosed 34 (34 ∷ cs)) (not (holds_double_quote (between_quotes (34 ∷ cs)))) is in
-        let ends = and_parts (nat_le 2 (length (34 ∷ cs)) && slice_index (34 ∷ cs) 0 == 34) (slice_index (34 ∷ cs) (length (34 ∷ cs) - 1) == 34) parts.0 in
-        let long2 : 2 ≤ length (34 ∷ cs) = leb-true 2 (length (34 ∷ cs)) (and_parts (nat_le 2 (length (34 ∷ cs))) (slice_index (34 ∷ cs) 0 == 34) ends.0).0 in
-        let last : get_or cs (length cs - 1) 0 ≡ 34 = sym (last_after 34 cs (omega arith)) ∙ eqb-true (slice_index (34 ∷ cs) (length (34 ∷ cs) - 1)) 34 ends.1 in
-        let passes : not_double (get_or cs (length cs - 1) 0) ≡ true = prefix_len_passes not_double cs (length cs - 1) 0 (omega arith) in
-        both_ways (get_or cs (length cs - 1) 0 == 34) (not-true (get_or cs (length cs - 1) 0 == 34) passes) (eq-eqb (get_or cs (length cs - 1) 0) 34 last)) in
+    false_from_ne_true (is_quoted_form (34 ∷ cs)) (λ is.
+    let parts = and_parts (is_enclosed 34 (34 ∷ cs)) (not (holds_double_quote (between_quotes (34 ∷ cs)))) is in
+    let ends = and_parts (nat_le 2 (length (34 ∷ cs)) && slice_index (34 ∷ cs) 0 == 34) (slice_index (34 ∷ cs) (length (34 ∷ cs) - 1) == 34) parts.0 in
+    let long2 : 2 ≤ length (34 ∷ cs) = leb-true 2 (length (34 ∷ cs)) (and_parts (nat_le 2 (length (34 ∷ cs))) (slice_index (34 ∷ cs) 0 == 34) ends.0).0 in
+    let last : get_or cs (length cs - 1) 0 ≡ 34 = sym (last_after 34 cs (omega arith)) ∙ eqb-true (slice_index (34 ∷ cs) (length (34 ∷ cs) - 1)) 34 ends.1 in
+    let passes : not_double (get_or cs (length cs - 1) 0) ≡ true = prefix_len_passes not_double cs (length cs - 1) 0 (omega arith) in
+    both_ways (get_or cs (length cs - 1) 0 == 34) (not-true (get_or cs (length cs - 1) 0 == 34) passes) (eq-eqb (get_or cs (length cs - 1) 0) 34 last)) in
     let not_text : is_text_form (34 ∷ cs) ≡ false = Heads.not_text 34 2 cs (Heads.double_class 34 refl) refl in
     let unclosed : is_open_form (34 ∷ cs) ≡ true =
-      or_left (begins_with 34 (34 ∷ cs) && not (holds_double_quote cs)) (begins_with 39 (34 ∷ cs) && is_paired cs) (not_from_false (holds_double_quote cs) plain) in
+    or_left (begins_with 34 (34 ∷ cs) && not (holds_double_quote cs)) (begins_with 39 (34 ∷ cs) && is_paired cs) (not_from_false (holds_double_quote cs) plain) in
     record {
       some = omega arith;
       fits = omega arith;
@@ -214,8 +213,8 @@ open_quoted cs long =
 pub quoted_there : (cs : Bytes) → There (34 ∷ cs) (quoted_found cs)
 quoted_there cs =
     cond_both (nat_lt (quoted_len cs) (length cs)) (token_found Quoted (quoted_len cs + 2)) (fault_found OpenText (length cs + 1)) (There (34 ∷ cs))
-      (λ e. closed_quoted cs (ltb-true (quoted_len cs) (length cs) e))
-      (λ e. open_quoted cs (ltb-false (quoted_len cs) (length cs) e))
+    (λ e. closed_quoted cs (ltb-true (quoted_len cs) (length cs) e))
+    (λ e. open_quoted cs (ltb-false (quoted_len cs) (length cs) e))
 
 -- ---- pairs of quotes
 
@@ -245,14 +244,14 @@ paired_within (x ∷ []) left e =
 paired_within (x ∷ y ∷ ys) left e =
     elim (cases_Bool (x == 39)) [
       | inl f ↦
-        let parts = and_parts (y == 39) (is_paired ys) (sym (paired_pair x y ys f) ∙ e) in
-        let size : paired_len (x ∷ y ∷ (ys ++ left)) ≡ suc (suc (paired_len (ys ++ left))) = paired_len_pair x y (ys ++ left) f parts.0 in
-        let rest : length ys ≤ paired_len (ys ++ left) = paired_within ys left parts.1 in
-        omega arith
+          let parts = and_parts (y == 39) (is_paired ys) (sym (paired_pair x y ys f) ∙ e) in
+          let size : paired_len (x ∷ y ∷ (ys ++ left)) ≡ suc (suc (paired_len (ys ++ left))) = paired_len_pair x y (ys ++ left) f parts.0 in
+          let rest : length ys ≤ paired_len (ys ++ left) = paired_within ys left parts.1 in
+          omega arith
       | inr f ↦
-        let size : paired_len (x ∷ (y ∷ (ys ++ left))) ≡ suc (paired_len (y ∷ (ys ++ left))) = paired_len_other x (y ∷ (ys ++ left)) f in
-        let rest : length (y ∷ ys) ≤ paired_len (y ∷ (ys ++ left)) = paired_within (y ∷ ys) left (sym (paired_other x (y ∷ ys) f) ∙ e) in
-        omega arith
+          let size : paired_len (x ∷ (y ∷ (ys ++ left))) ≡ suc (paired_len (y ∷ (ys ++ left))) = paired_len_other x (y ∷ (ys ++ left)) f in
+          let rest : length (y ∷ ys) ≤ paired_len (y ∷ (ys ++ left)) = paired_within (y ∷ ys) left (sym (paired_other x (y ∷ ys) f) ∙ e) in
+          omega arith
     ]
 
 paired_front : (cs : Bytes) → is_paired (take (paired_len cs) cs) ≡ true
@@ -266,15 +265,15 @@ paired_front (c ∷ d ∷ cs) =
     elim (cases_Bool (c == 39)) [
       | inl e ↦ elim (cases_Bool (d == 39)) [
         | inl f ↦
-          ap (λ (n : ℕ). is_paired (take n (c ∷ d ∷ cs))) (paired_len_pair c d cs e f)
-          ∙ paired_pair c d (take (paired_len cs) cs) e
-          ∙ and_from (d == 39) (is_paired (take (paired_len cs) cs)) f (paired_front cs)
+            ap (λ (n : ℕ). is_paired (take n (c ∷ d ∷ cs))) (paired_len_pair c d cs e f)
+            ∙ paired_pair c d (take (paired_len cs) cs) e
+            ∙ and_from (d == 39) (is_paired (take (paired_len cs) cs)) f (paired_front cs)
         | inr f ↦ ap (λ (n : ℕ). is_paired (take n (c ∷ d ∷ cs))) (paired_len_stop c d cs e f)
       ]
       | inr e ↦
-        ap (λ (n : ℕ). is_paired (take n (c ∷ d ∷ cs))) (paired_len_other c (d ∷ cs) e)
-        ∙ paired_other c (take (paired_len (d ∷ cs)) (d ∷ cs)) e
-        ∙ paired_front (d ∷ cs)
+          ap (λ (n : ℕ). is_paired (take n (c ∷ d ∷ cs))) (paired_len_other c (d ∷ cs) e)
+          ∙ paired_other c (take (paired_len (d ∷ cs)) (d ∷ cs)) e
+          ∙ paired_front (d ∷ cs)
     ]
 
 -- where it stops before the end, a quote stands
@@ -299,16 +298,16 @@ paired_stop (c ∷ d ∷ cs) short =
     elim (cases_Bool (c == 39)) [
       | inl e ↦ elim (cases_Bool (d == 39)) [
         | inl f ↦
-          let size : paired_len (c ∷ d ∷ cs) ≡ suc (suc (paired_len cs)) = paired_len_pair c d cs e f in
-          quote_along (drop (paired_len (c ∷ d ∷ cs)) (c ∷ d ∷ cs)) (drop (paired_len cs) cs) (ap (λ (n : ℕ). drop n (c ∷ d ∷ cs)) size)
+            let size : paired_len (c ∷ d ∷ cs) ≡ suc (suc (paired_len cs)) = paired_len_pair c d cs e f in
+            quote_along (drop (paired_len (c ∷ d ∷ cs)) (c ∷ d ∷ cs)) (drop (paired_len cs) cs) (ap (λ (n : ℕ). drop n (c ∷ d ∷ cs)) size)
             (paired_stop cs (omega arith))
         | inr f ↦
-          quote_along (drop (paired_len (c ∷ d ∷ cs)) (c ∷ d ∷ cs)) (c ∷ d ∷ cs) (ap (λ (n : ℕ). drop n (c ∷ d ∷ cs)) (paired_len_stop c d cs e f))
+            quote_along (drop (paired_len (c ∷ d ∷ cs)) (c ∷ d ∷ cs)) (c ∷ d ∷ cs) (ap (λ (n : ℕ). drop n (c ∷ d ∷ cs)) (paired_len_stop c d cs e f))
             (quote_at c (d ∷ cs) e)
       ]
       | inr e ↦
-        let size : paired_len (c ∷ d ∷ cs) ≡ suc (paired_len (d ∷ cs)) = paired_len_other c (d ∷ cs) e in
-        quote_along (drop (paired_len (c ∷ d ∷ cs)) (c ∷ d ∷ cs)) (drop (paired_len (d ∷ cs)) (d ∷ cs)) (ap (λ (n : ℕ). drop n (c ∷ d ∷ cs)) size)
+          let size : paired_len (c ∷ d ∷ cs) ≡ suc (paired_len (d ∷ cs)) = paired_len_other c (d ∷ cs) e in
+          quote_along (drop (paired_len (c ∷ d ∷ cs)) (c ∷ d ∷ cs)) (drop (paired_len (d ∷ cs)) (d ∷ cs)) (ap (λ (n : ℕ). drop n (c ∷ d ∷ cs)) size)
           (paired_stop (d ∷ cs) (omega arith))
     ]
 
@@ -319,24 +318,24 @@ text_bound cs (o ∷ os) left same (form, is) =
     let rest : os ++ left ≡ cs = rest_same 39 o cs os left same in
     elim (Heads.at_single o os form (Heads.single_class o first) is) [
       | inl text ↦
-        let m : ℕ = length (o ∷ os) - 2 in
-        let parts = and_parts (is_enclosed 39 (o ∷ os)) (is_paired (between_quotes (o ∷ os))) text in
-        let cut : take m os ++ (drop m os ++ left) ≡ cs =
+          let m : ℕ = length (o ∷ os) - 2 in
+          let parts = and_parts (is_enclosed 39 (o ∷ os)) (is_paired (between_quotes (o ∷ os))) text in
+          let cut : take m os ++ (drop m os ++ left) ≡ cs =
           sym (append_assoc (take m os) (drop m os) left) ∙ ap (λ (xs : Bytes). xs ++ left) (take-append-drop m os) ∙ rest in
-        let within : length (take m os) ≤ paired_len (take m os ++ (drop m os ++ left)) = paired_within (take m os) (drop m os ++ left) parts.1 in
-        let here : paired_len (take m os ++ (drop m os ++ left)) ≡ paired_len cs = ap paired_len cut in
-        let size : length (take m os) ≡ m = length-take-le m os (omega arith) in
-        omega arith
+          let within : length (take m os) ≤ paired_len (take m os ++ (drop m os ++ left)) = paired_within (take m os) (drop m os ++ left) parts.1 in
+          let here : paired_len (take m os ++ (drop m os ++ left)) ≡ paired_len cs = ap paired_len cut in
+          let size : length (take m os) ≡ m = length-take-le m os (omega arith) in
+          omega arith
       | inr unclosed ↦
-        elim (or_cases (o == 34 && not (holds_double_quote os)) (o == 39 && is_paired os) unclosed) [
-          | inl e ↦
-            let other : o ≡ 34 = eqb-true o 34 (and_parts (o == 34) (not (holds_double_quote os)) e).0 in
-            absurd (omega arith)
-          | inr e ↦
-            let within : length os ≤ paired_len (os ++ left) = paired_within os left (and_parts (o == 39) (is_paired os) e).1 in
-            let here : paired_len (os ++ left) ≡ paired_len cs = ap paired_len rest in
-            omega arith
-        ]
+          elim (or_cases (o == 34 && not (holds_double_quote os)) (o == 39 && is_paired os) unclosed) [
+            | inl e ↦
+                let other : o ≡ 34 = eqb-true o 34 (and_parts (o == 34) (not (holds_double_quote os)) e).0 in
+                absurd (omega arith)
+            | inr e ↦
+                let within : length os ≤ paired_len (os ++ left) = paired_within os left (and_parts (o == 39) (is_paired os) e).1 in
+                let here : paired_len (os ++ left) ≡ paired_len cs = ap paired_len rest in
+                omega arith
+          ]
     ]
 
 closed_text : (cs : Bytes) → paired_len cs < length cs → There (39 ∷ cs) (token_found Text (paired_len cs + 2))
@@ -345,8 +344,8 @@ closed_text cs short =
     let stop = paired_stop cs short in
     let front : take (k + 2) (39 ∷ cs) ≡ 39 ∷ (take k cs ++ 39 ∷ []) = enclosed_front 39 cs stop.rest k (omega arith) stop.cut in
     let text : is_text_form (39 ∷ (take k cs ++ 39 ∷ [])) ≡ true =
-      and_from (is_enclosed 39 (39 ∷ (take k cs ++ 39 ∷ []))) (is_paired (between_quotes (39 ∷ (take k cs ++ 39 ∷ []))))
-        (enclosed_is 39 (take k cs)) (ap is_paired (inside_is 39 (take k cs)) ∙ paired_front cs) in
+    and_from (is_enclosed 39 (39 ∷ (take k cs ++ 39 ∷ []))) (is_paired (between_quotes (39 ∷ (take k cs ++ 39 ∷ []))))
+    (enclosed_is 39 (take k cs)) (ap is_paired (inside_is 39 (take k cs)) ∙ paired_front cs) in
     let last : get_or cs k 0 ≡ 39 = last_of k cs 39 stop.rest (omega arith) stop.cut in
     record {
       some = omega arith;
@@ -379,8 +378,8 @@ paired_exact (x ∷ []) e = paired_len_other x (39 ∷ []) (not-true (x == 39) e
 paired_exact (x ∷ y ∷ ys) e =
     elim (cases_Bool (x == 39)) [
       | inl f ↦
-        let parts = and_parts (y == 39) (is_paired ys) (sym (paired_pair x y ys f) ∙ e) in
-        omega (arith, paired_len_pair x y (ys ++ 39 ∷ []) f parts.0, paired_exact ys parts.1)
+          let parts = and_parts (y == 39) (is_paired ys) (sym (paired_pair x y ys f) ∙ e) in
+          omega (arith, paired_len_pair x y (ys ++ 39 ∷ []) f parts.0, paired_exact ys parts.1)
       | inr f ↦ omega (arith, paired_len_other x (y ∷ (ys ++ 39 ∷ [])) f, paired_exact (y ∷ ys) (sym (paired_other x (y ∷ ys) f) ∙ e))
     ]
 
@@ -400,21 +399,21 @@ open_text cs long =
     let paired : is_paired cs ≡ true = ap is_paired (sym (take_all (paired_len cs) cs long)) ∙ paired_front cs in
     let front : take (length cs + 1) (39 ∷ cs) ≡ 39 ∷ cs = take_all (length cs + 1) (39 ∷ cs) (omega arith) in
     let not_closed : is_text_form (39 ∷ cs) ≡ false =
-      false_from_ne_true (is_text_form (39 ∷ cs)) (λ is.
-        let parts = and_parts (is_enclosed 39 (39 ∷ cs)) (is_paired (between_quotes (39 ∷ cs))) is in
-        let ends = and_parts (nat_le 2 (length (39 ∷ cs)) && slice_index (39 ∷ cs) 0 == 39) (slice_index (39 ∷ cs) (length (39 ∷ cs) - 1) == 39) parts.0 in
-        let long2 : 2 ≤ length (39 ∷ cs) = leb-true 2 (length (39 ∷ cs)) (and_parts (nat_le 2 (length (39 ∷ cs))) (slice_index (39 ∷ cs) 0 == 39) ends.0).0 in
-        let last : get_or cs (length cs - 1) 0 ≡ 39 = sym (last_after 39 cs (omega arith)) ∙ eqb-true (slice_index (39 ∷ cs) (length (39 ∷ cs) - 1)) 39 ends.1 in
-        let cut : cs ≡ take (length cs - 1) cs ++ 39 ∷ [] = last_cut cs 39 (omega arith) last in
-        let less : length (39 ∷ cs) - 2 ≡ length cs - 1 = omega arith in
-        let body : is_paired (take (length cs - 1) cs) ≡ true = ap (λ (n : ℕ). is_paired (take n cs)) (sym less) ∙ parts.1 in
-        let exact : paired_len (take (length cs - 1) cs ++ 39 ∷ []) ≡ length (take (length cs - 1) cs) = paired_exact (take (length cs - 1) cs) body in
-        let here : paired_len cs ≡ paired_len (take (length cs - 1) cs ++ 39 ∷ []) = ap paired_len cut in
-        let short : length (take (length cs - 1) cs) ≡ length cs - 1 = length-take-le (length cs - 1) cs (omega arith) in
-        omega arith) in
+    false_from_ne_true (is_text_form (39 ∷ cs)) (λ is.
+    let parts = and_parts (is_enclosed 39 (39 ∷ cs)) (is_paired (between_quotes (39 ∷ cs))) is in
+    let ends = and_parts (nat_le 2 (length (39 ∷ cs)) && slice_index (39 ∷ cs) 0 == 39) (slice_index (39 ∷ cs) (length (39 ∷ cs) - 1) == 39) parts.0 in
+    let long2 : 2 ≤ length (39 ∷ cs) = leb-true 2 (length (39 ∷ cs)) (and_parts (nat_le 2 (length (39 ∷ cs))) (slice_index (39 ∷ cs) 0 == 39) ends.0).0 in
+    let last : get_or cs (length cs - 1) 0 ≡ 39 = sym (last_after 39 cs (omega arith)) ∙ eqb-true (slice_index (39 ∷ cs) (length (39 ∷ cs) - 1)) 39 ends.1 in
+    let cut : cs ≡ take (length cs - 1) cs ++ 39 ∷ [] = last_cut cs 39 (omega arith) last in
+    let less : length (39 ∷ cs) - 2 ≡ length cs - 1 = omega arith in
+    let body : is_paired (take (length cs - 1) cs) ≡ true = ap (λ (n : ℕ). is_paired (take n cs)) (sym less) ∙ parts.1 in
+    let exact : paired_len (take (length cs - 1) cs ++ 39 ∷ []) ≡ length (take (length cs - 1) cs) = paired_exact (take (length cs - 1) cs) body in
+    let here : paired_len cs ≡ paired_len (take (length cs - 1) cs ++ 39 ∷ []) = ap paired_len cut in
+    let short : length (take (length cs - 1) cs) ≡ length cs - 1 = length-take-le (length cs - 1) cs (omega arith) in
+    omega arith) in
     let not_quoted : is_quoted_form (39 ∷ cs) ≡ false = Heads.not_quoted 39 3 cs (Heads.single_class 39 refl) refl in
     let unclosed : is_open_form (39 ∷ cs) ≡ true =
-      or_right (begins_with 34 (39 ∷ cs) && not (holds_double_quote cs)) (begins_with 39 (39 ∷ cs) && is_paired cs) paired in
+    or_right (begins_with 34 (39 ∷ cs) && not (holds_double_quote cs)) (begins_with 39 (39 ∷ cs) && is_paired cs) paired in
     record {
       some = omega arith;
       fits = omega arith;
@@ -426,5 +425,5 @@ open_text cs long =
 pub text_there : (cs : Bytes) → There (39 ∷ cs) (text_found cs)
 text_there cs =
     cond_both (nat_lt (paired_len cs) (length cs)) (token_found Text (paired_len cs + 2)) (fault_found OpenText (length cs + 1)) (There (39 ∷ cs))
-      (λ e. closed_text cs (ltb-true (paired_len cs) (length cs) e))
-      (λ e. open_text cs (ltb-false (paired_len cs) (length cs) e))
+    (λ e. closed_text cs (ltb-true (paired_len cs) (length cs) e))
+    (λ e. open_text cs (ltb-false (paired_len cs) (length cs) e))

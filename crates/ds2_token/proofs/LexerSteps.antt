@@ -1,8 +1,8 @@
 -- Steps of the lexer.
-use Rattle.std.proofs.Common.{◌≡◌, ℕ, zero, suc, ◌+◌, ◌-◌, ◌<◌, ◌≤◌, ◌⊎◌, inl, inr, Bool, true, false, cond, List, [], ◌∷◌, ◌++◌, length, take, drop, get_or, Option, Some, None, Result, Ok, Err, refl, sym, ap, ◌∙◌, subst, arith, append_assoc}
+use Rattle.std.proofs.Common.{◌≡◌, ℕ, zero, suc, ◌+◌, ◌-◌, ◌<◌, ◌≤◌, ◌⊎◌, inl, inr, Bool, true, false, cond, List, [], ◌∷◌, ◌++◌, length, take, drop, get_or, Option, Some, None, Result, Ok, Err, refl, sym, ap, ◌∙◌, subst, arith}
 use Rattle.std.specs.Str.{chars, IsUtf8, IsCharBoundary}
 use Rattle.std.proofs.lemmas.Str.{IsCharBoundary-after_ascii, IsCharBoundary-start, IsCharBoundary-from_rest}
-use Rattle.std.proofs.lemmas.List.{append-nil, length-append, length-take-le, take-append-drop, drop-drop, nil_from_length}
+use Rattle.std.proofs.lemmas.List.{append-nil, length-take-le, take-append-drop, drop-drop, nil_from_length}
 use Rattle.ds2_base.specs.Bytes.{Bytes}
 use Rattle.ds2_base.specs.Place.{start_place, place_past}
 use Rattle.ds2_base.specs.Says.{Says}
@@ -11,9 +11,9 @@ use Rattle.ds2_base.specs.declared.place.Refusal.{Refusal}
 use Rattle.ds2_base.specs.declared.stop.Stop.{Stop}
 use Rattle.ds2_base.specs.declared.stop.Stop.TheVariants.{Refused, OutOfMemory}
 use Rattle.ds2_token.specs.declared.kinds.TokenKind.{TokenKind}
-use Rattle.ds2_token.specs.declared.kinds.TokenKind.TheVariants.{Word, Quoted, Text, Integer, Decimal, Mark}
+use Rattle.ds2_token.specs.declared.kinds.TokenKind.TheVariants.{Quoted, Text}
 use Rattle.ds2_token.specs.declared.kinds.LexKind.{LexKind}
-use Rattle.ds2_token.specs.declared.kinds.LexKind.TheVariants.{BadCharacter, DoubleConstant, OpenText, OpenComment}
+use Rattle.ds2_token.specs.declared.kinds.LexKind.TheVariants.{BadCharacter}
 use Rattle.ds2_token.specs.declared.lexer.Next.{Next}
 use Rattle.ds2_token.specs.declared.scan.Found.{Found}
 use Rattle.ds2_token.specs.declared.token.Token.{Token}
@@ -54,9 +54,9 @@ pub there_longest : (text : Bytes) (f : Found) → There text f → IsLongest Is
 there_longest text f t = record {
   is = (f.form, t.form);
   longest = λ other left same is.
-    let within : length other ≤ f.size = t.longest other left (same ∙ take-append-drop f.size text) is in
-    let size : length (take f.size text) ≡ f.size = length-take-le f.size text t.fits in
-    omega arith;
+      let within : length other ≤ f.size = t.longest other left (same ∙ take-append-drop f.size text) is in
+      let size : length (take f.size text) ≡ f.size = length-take-le f.size text t.fits in
+      omega arith;
 }
 
 pub cause_at : (text : Bytes) (f : Found) (kind : LexKind) → There text f → refusal_of (take f.size text) ≡ Some kind → HasCause text kind
@@ -95,9 +95,9 @@ quoted_from s e =
     elim (pick_is quoted_kind (is_quoted_form s) _ _ (pick_not quoted_kind (is_word_form s) _ _ refl e)) [
       | inl f ↦ f
       | inr g ↦ clash (pick_not quoted_kind (is_open_comment s) _ _ refl (pick_not quoted_kind (is_open_form s) _ _ refl
-        (pick_not quoted_kind (is_pointed_form s) _ _ refl (pick_not quoted_kind (is_mark_form s) _ _ refl
-        (pick_not quoted_kind (is_decimal_form s) _ _ refl (pick_not quoted_kind (is_integer_form s) _ _ refl
-        (pick_not quoted_kind (is_text_form s) _ _ refl g)))))))
+          (pick_not quoted_kind (is_pointed_form s) _ _ refl (pick_not quoted_kind (is_mark_form s) _ _ refl
+          (pick_not quoted_kind (is_decimal_form s) _ _ refl (pick_not quoted_kind (is_integer_form s) _ _ refl
+          (pick_not quoted_kind (is_text_form s) _ _ refl g)))))))
     ]
 
 text_from : (s : Bytes) → has_kind text_kind (form_of s) ≡ true → is_text_form s ≡ true
@@ -105,8 +105,8 @@ text_from s e =
     elim (pick_is text_kind (is_text_form s) _ _ (pick_not text_kind (is_quoted_form s) _ _ refl (pick_not text_kind (is_word_form s) _ _ refl e))) [
       | inl f ↦ f
       | inr g ↦ clash (pick_not text_kind (is_open_comment s) _ _ refl (pick_not text_kind (is_open_form s) _ _ refl
-        (pick_not text_kind (is_pointed_form s) _ _ refl (pick_not text_kind (is_mark_form s) _ _ refl
-        (pick_not text_kind (is_decimal_form s) _ _ refl (pick_not text_kind (is_integer_form s) _ _ refl g))))))
+          (pick_not text_kind (is_pointed_form s) _ _ refl (pick_not text_kind (is_mark_form s) _ _ refl
+          (pick_not text_kind (is_decimal_form s) _ _ refl (pick_not text_kind (is_integer_form s) _ _ refl g))))))
     ]
 
 pub kind_at : (text s : Bytes) (f : Found) (kind : TokenKind) → There text f → f.form ≡ Ok kind → s ≡ take f.size text → form_of s ≡ Some (Ok kind)
@@ -167,7 +167,7 @@ front_err text s f kind at refusal None t e same limit says = token_refusal (rec
 front_err text s f kind at refusal (Some fault) t e same limit says =
     let P : Refusal LexKind → Type 0 = λ r. HasCause text r.kind × (r.place ≡ at) in
     let broken : refusal_of (take f.size text) ≡ Some fault =
-      ap refusal_of (sym same) ∙ ap (λ (form : Form). refusal_of_form form s) (kind_at text s f kind t e same) ∙ limit in
+    ap refusal_of (sym same) ∙ ap (λ (form : Form). refusal_of_form form s) (kind_at text s f kind t e same) ∙ limit in
     subst P (same_refusal (record { kind = fault; place = at }) refusal says) (cause_at text f fault t broken, refl)
 
 pub front_of : (text s : Bytes) (f : Found) (kind : TokenKind) (at : Place) (r : Result Token (Stop (Refusal LexKind))) → IsUtf8 text → There text f → f.form ≡ Ok kind
@@ -189,9 +189,9 @@ pub next_is : (at place : Place) (text passed rest : Bytes) (n size : ℕ) (toke
     → IsNext at text (record { token = token; size = size })
 next_is at place text passed rest n size token longest fits front back placed t whole =
     let behind : drop (length token.spelling) rest ≡ drop size text =
-      ap (drop (length token.spelling)) back ∙ drop-drop (length token.spelling) n text ∙ ap (λ (k : ℕ). drop k text) (sym whole) in
+    ap (drop (length token.spelling)) back ∙ drop-drop (length token.spelling) n text ∙ ap (λ (k : ℕ). drop k text) (sym whole) in
     let follows : drop n text ≡ token.spelling ++ drop size text =
-      sym back ∙ t.cut ∙ ap (λ (xs : Bytes). token.spelling ++ xs) behind in
+    sym back ∙ t.cut ∙ ap (λ (xs : Bytes). token.spelling ++ xs) behind in
     let P : Bytes → Type 0 = λ xs. IsLongest IsGap (take n text) xs in
     let Q : Bytes → Type 0 = λ xs. IsLongest IsForm token.spelling xs in
     let E : Bytes → Type 0 = λ xs. IsCharBoundary xs (length token.spelling) in

@@ -1,16 +1,15 @@
 -- The number that is found at the front of a text.
-use Rattle.std.proofs.Common.{◌≡◌, ℕ, zero, suc, ◌+◌, ◌-◌, ◌<◌, ◌≤◌, ◌⊎◌, inl, inr, Bool, true, false, cond, ◌&&◌, ◌||◌, not, List, [], ◌∷◌, ◌++◌, length, take, drop, get_or, Option, Some, None, Result, Ok, Err, refl, sym, ap, ◌∙◌, subst, arith, append_assoc}
+use Rattle.std.proofs.Common.{◌≡◌, ℕ, zero, suc, ◌+◌, ◌-◌, ◌<◌, ◌≤◌, inl, inr, Bool, true, false, ◌||◌, not, [], ◌∷◌, ◌++◌, length, take, drop, get_or, Some, Ok, refl, sym, ap, ◌∙◌, subst, arith, append_assoc}
 use Rattle.std.specs.Prelude.{◌==◌, slice_index}
 use Rattle.std.specs.List.{list_all, prefix_len}
 use Rattle.std.specs.Char.{is_ascii_digit}
-use Rattle.std.proofs.lemmas.Bool.{and_parts, and_from, and_right, and_left, or_cases, or_left, or_right, or_from, eqb-true, cases_Bool, cond-true, cond-false, cond_both, both_ways, false_from_ne_true, not-true, not_from_false}
+use Rattle.std.proofs.lemmas.Bool.{and_parts, and_from, and_left, or_cases, or_left, or_right, eqb-true, cases_Bool, cond-true, cond-false, cond_both, both_ways, false_from_ne_true, not-true, not_from_false}
 use Rattle.std.proofs.lemmas.Bool.Decides.{nat_tests}
-use Rattle.std.proofs.lemmas.List.{append-nil, length-append, length-take-le, take-append-drop, take_at, drop_at, get_or_at, get_or_append_left}
+use Rattle.std.proofs.lemmas.List.{length-append, take-append-drop, take_at, drop_at, get_or_at, get_or_append_left}
 use Rattle.std.proofs.lemmas.List.Folds.{list_all-append, length-prefix_len}
 use Rattle.ds2_base.specs.Bytes.{Bytes}
 use Rattle.ds2_token.specs.declared.kinds.TokenKind.{TokenKind}
-use Rattle.ds2_token.specs.declared.kinds.TokenKind.TheVariants.{Word, Quoted, Text, Integer, Decimal, Mark}
-use Rattle.ds2_token.specs.declared.kinds.LexKind.{LexKind}
+use Rattle.ds2_token.specs.declared.kinds.TokenKind.TheVariants.{Integer, Decimal}
 use Rattle.ds2_token.specs.declared.kinds.LexKind.TheVariants.{DoubleConstant}
 use Rattle.ds2_token.specs.declared.scan.Found.{Found}
 use Rattle.ds2_token.specs.Forms.{begins_with, is_integer_form, leading_digits, past_digits, is_fraction, is_pointed_form, without_last, ends_in_n, is_decimal_form, form_of}
@@ -104,7 +103,7 @@ pointed_is whole fraction some all rest =
     let front : leading_digits s ≡ whole = take_at whole (46 ∷ fraction) (prefix_len is_ascii_digit s) (sym size) in
     let back : past_digits s ≡ 46 ∷ fraction = drop_at whole (46 ∷ fraction) (prefix_len is_ascii_digit s) (sym size) in
     and_from (is_integer_form (leading_digits s)) (is_fraction (past_digits s))
-      (ap is_integer_form front ∙ integer_is whole some all) (ap is_fraction back ∙ rest)
+    (ap is_integer_form front ∙ integer_is whole some all) (ap is_fraction back ∙ rest)
 
 -- all but the last byte, and the last
 without_last_is : (front : Bytes) (e : ℕ) → without_last (front ++ e ∷ []) ≡ front
@@ -116,8 +115,8 @@ last_is front e = get_or_at front e [] 0 (length (front ++ e ∷ []) - 1) (omega
 decimal_is : (front : Bytes) (e : ℕ) → is_n e ≡ true → (is_integer_form front || is_pointed_form front) ≡ true → is_decimal_form (front ++ e ∷ []) ≡ true
 decimal_is front e n is =
     and_from (ends_in_n (front ++ e ∷ [])) (is_integer_form (without_last (front ++ e ∷ [])) || is_pointed_form (without_last (front ++ e ∷ [])))
-      (ap is_n (last_is front e) ∙ n)
-      (ap (λ (xs : Bytes). is_integer_form xs || is_pointed_form xs) (without_last_is front e) ∙ is)
+    (ap is_n (last_is front e) ∙ n)
+    (ap (λ (xs : Bytes). is_integer_form xs || is_pointed_form xs) (without_last_is front e) ∙ is)
 
 record Decimals (s : Bytes) : Type 0 where
   front : Bytes
@@ -141,9 +140,9 @@ decimal_parts s some e =
 no_integer : (front : Bytes) (e : ℕ) (back : Bytes) → is_ascii_digit e ≡ false → is_integer_form (front ++ e ∷ back) ≡ false
 no_integer front e back other =
     false_from_ne_true (is_integer_form (front ++ e ∷ back)) (λ is.
-      let all : list_all is_ascii_digit (front ++ e ∷ back) ≡ true = integer_all (front ++ e ∷ back) is in
-      let parts = and_parts (list_all is_ascii_digit front) (list_all is_ascii_digit (e ∷ back)) (sym (list_all-append is_ascii_digit front (e ∷ back)) ∙ all) in
-      both_ways (is_ascii_digit e) other (and_parts (is_ascii_digit e) (list_all is_ascii_digit back) parts.1).0)
+    let all : list_all is_ascii_digit (front ++ e ∷ back) ≡ true = integer_all (front ++ e ∷ back) is in
+    let parts = and_parts (list_all is_ascii_digit front) (list_all is_ascii_digit (e ∷ back)) (sym (list_all-append is_ascii_digit front (e ∷ back)) ∙ all) in
+    both_ways (is_ascii_digit e) other (and_parts (is_ascii_digit e) (list_all is_ascii_digit back) parts.1).0)
 
 -- ---- no longer number
 
@@ -155,8 +154,8 @@ behind_least : (n : ℕ) (rest : Bytes) → n ≤ (number_behind n rest).size
 behind_least n rest =
     let points : ℕ = n + 1 + digits_len (drop 1 rest) in
     cond_both (begins_with_n rest) (token_found Decimal (n + 1)) _ (λ (f : Found). n ≤ f.size) (λ e. omega arith)
-      (λ e. cond_both (begins_with 46 rest) (pointed_found points (drop (1 + digits_len (drop 1 rest)) rest)) (token_found Integer n) (λ (f : Found). n ≤ f.size)
-        (λ f. omega (arith, pointed_least points (drop (1 + digits_len (drop 1 rest)) rest))) (λ f. omega arith))
+    (λ e. cond_both (begins_with 46 rest) (pointed_found points (drop (1 + digits_len (drop 1 rest)) rest)) (token_found Integer n) (λ (f : Found). n ≤ f.size)
+    (λ f. omega (arith, pointed_least points (drop (1 + digits_len (drop 1 rest)) rest))) (λ f. omega arith))
 
 drop_next : (k c : ℕ) (cs : Bytes) → drop (1 + k) (c ∷ cs) ≡ drop k cs
 drop_next k c cs =
@@ -178,13 +177,13 @@ pointed_bound : (xs left whole rest : Bytes) → all_digits whole ≡ true → f
     → Pointed xs → length xs ≤ (number_behind (length whole) rest).size
 pointed_bound xs left whole rest all stops same p =
     let text : p.whole ++ 46 ∷ (p.fraction ++ left) ≡ whole ++ rest =
-      sym (append_assoc p.whole (46 ∷ p.fraction) left) ∙ ap (λ (ys : Bytes). ys ++ left) (sym p.cut) ∙ same in
+    sym (append_assoc p.whole (46 ∷ p.fraction) left) ∙ ap (λ (ys : Bytes). ys ++ left) (sym p.cut) ∙ same in
     let cuts = run_same is_ascii_digit p.whole (46 ∷ (p.fraction ++ left)) whole rest p.whole_all refl all stops text in
     let size : number_behind (length whole) rest ≡ pointed_found (length whole + 1 + digits_len (p.fraction ++ left)) (drop (digits_len (p.fraction ++ left)) (p.fraction ++ left)) =
-      ap (number_behind (length whole)) (sym cuts.1) ∙ point_size (length whole) (p.fraction ++ left) in
+    ap (number_behind (length whole)) (sym cuts.1) ∙ point_size (length whole) (p.fraction ++ left) in
     let least = pointed_least (length whole + 1 + digits_len (p.fraction ++ left)) (drop (digits_len (p.fraction ++ left)) (p.fraction ++ left)) in
     let sizes : (number_behind (length whole) rest).size ≡ (pointed_found (length whole + 1 + digits_len (p.fraction ++ left)) (drop (digits_len (p.fraction ++ left)) (p.fraction ++ left))).size =
-      ap (λ (f : Found). f.size) size in
+    ap (λ (f : Found). f.size) size in
     let within : length p.fraction ≤ digits_len (p.fraction ++ left) = run_within is_ascii_digit p.fraction left p.fraction_all in
     let front : length p.whole ≡ length whole = ap length cuts.0 in
     let total : length xs ≡ length p.whole + suc (length p.fraction) = ap length p.cut ∙ length-append p.whole (46 ∷ p.fraction) in
@@ -203,23 +202,23 @@ decimal_bound xs left whole rest all stops same d =
     let total : length xs ≡ length d.front + 1 = ap length d.cut ∙ length-append d.front (d.last ∷ []) in
     elim (or_cases (is_integer_form d.front) (is_pointed_form d.front) d.number) [
       | inl is ↦
-        let cuts = run_same is_ascii_digit d.front (d.last ∷ left) whole rest (integer_all d.front is) (n_no_digit d.last d.is_last) all stops text in
-        let size : number_behind (length whole) rest ≡ token_found Decimal (length whole + 1) =
+          let cuts = run_same is_ascii_digit d.front (d.last ∷ left) whole rest (integer_all d.front is) (n_no_digit d.last d.is_last) all stops text in
+          let size : number_behind (length whole) rest ≡ token_found Decimal (length whole + 1) =
           ap (number_behind (length whole)) (sym cuts.1) ∙ n_size (length whole) d.last left d.is_last in
-        omega (arith, ap length cuts.0, ap (λ (f : Found). f.size) size)
+          omega (arith, ap length cuts.0, ap (λ (f : Found). f.size) size)
       | inr is ↦
-        let p = pointed_parts d.front is in
-        let behind : Bytes = p.fraction ++ d.last ∷ left in
-        let whole_text : p.whole ++ 46 ∷ behind ≡ whole ++ rest =
+          let p = pointed_parts d.front is in
+          let behind : Bytes = p.fraction ++ d.last ∷ left in
+          let whole_text : p.whole ++ 46 ∷ behind ≡ whole ++ rest =
           sym (append_assoc p.whole (46 ∷ p.fraction) (d.last ∷ left)) ∙ ap (λ (ys : Bytes). ys ++ d.last ∷ left) (sym p.cut) ∙ text in
-        let cuts = run_same is_ascii_digit p.whole (46 ∷ behind) whole rest p.whole_all refl all stops whole_text in
-        let digits : digits_len behind ≡ length p.fraction = run_len is_ascii_digit p.fraction (d.last ∷ left) p.fraction_all (n_no_digit d.last d.is_last) in
-        let after : drop (digits_len behind) behind ≡ d.last ∷ left = drop_at p.fraction (d.last ∷ left) (digits_len behind) (sym digits) in
-        let size : number_behind (length whole) rest ≡ token_found Decimal (length whole + 1 + digits_len behind + 1) =
+          let cuts = run_same is_ascii_digit p.whole (46 ∷ behind) whole rest p.whole_all refl all stops whole_text in
+          let digits : digits_len behind ≡ length p.fraction = run_len is_ascii_digit p.fraction (d.last ∷ left) p.fraction_all (n_no_digit d.last d.is_last) in
+          let after : drop (digits_len behind) behind ≡ d.last ∷ left = drop_at p.fraction (d.last ∷ left) (digits_len behind) (sym digits) in
+          let size : number_behind (length whole) rest ≡ token_found Decimal (length whole + 1 + digits_len behind + 1) =
           ap (number_behind (length whole)) (sym cuts.1) ∙ point_size (length whole) behind
           ∙ ap (pointed_found (length whole + 1 + digits_len behind)) after ∙ n_pointed (length whole + 1 + digits_len behind) d.last left d.is_last in
-        let front : length d.front ≡ length p.whole + suc (length p.fraction) = ap length p.cut ∙ length-append p.whole (46 ∷ p.fraction) in
-        omega (arith, ap length cuts.0, ap (λ (f : Found). f.size) size)
+          let front : length d.front ≡ length p.whole + suc (length p.fraction) = ap length p.cut ∙ length-append p.whole (46 ∷ p.fraction) in
+          omega (arith, ap length cuts.0, ap (λ (f : Found). f.size) size)
     ]
 
 number_bound_of : (xs left whole rest : Bytes) → 0 < length xs → all_digits whole ≡ true → first_passes is_ascii_digit rest ≡ false → xs ++ left ≡ whole ++ rest
@@ -251,9 +250,9 @@ there_of text s after f cut size some form longest ends =
       form = ap form_of front ∙ form;
       longest = longest;
       ends = λ kind e.
-        let last : get_or text (f.size - 1) 0 ≡ get_or s (length s - 1) 0 =
+          let last : get_or text (f.size - 1) 0 ≡ get_or s (length s - 1) 0 =
           ap (λ (xs : Bytes). get_or xs (f.size - 1) 0) cut ∙ get_or_append_left s after 0 (f.size - 1) (omega arith) ∙ ap (λ (n : ℕ). get_or s (n - 1) 0) (sym size) in
-        omega (arith, ends kind e);
+          omega (arith, ends kind e);
     }
 
 there_as : (text : Bytes) (f g : Found) → f ≡ g → There text g → There text f
@@ -272,11 +271,11 @@ whole_decimal c body e after all n =
     let cut : c ∷ (body ++ e ∷ after) ≡ s ++ after = ap (λ (xs : Bytes). c ∷ xs) (sym (append_assoc body (e ∷ []) after)) in
     let sizes : (number_behind (length (c ∷ body)) (e ∷ after)).size ≡ length (c ∷ body) + 1 = ap (λ (f : Found). f.size) size in
     there_as (c ∷ (body ++ e ∷ after)) (number_behind (length (c ∷ body)) (e ∷ after)) (token_found Decimal (length (c ∷ body) + 1)) size
-      (there_of (c ∷ (body ++ e ∷ after)) s after (token_found Decimal (length (c ∷ body) + 1)) cut (omega (arith, length-append body (e ∷ []))) (omega arith)
-        (Heads.decimal_form c (body ++ e ∷ []) (Heads.digit_class c digit) (no_integer (c ∷ body) e [] (n_no_digit e n))
-          (decimal_is (c ∷ body) e n (or_left (is_integer_form (c ∷ body)) (is_pointed_form (c ∷ body)) all)))
-        (λ other left same is. omega (arith, number_bound c body (e ∷ after) other left all (n_no_digit e n) same is, sizes))
-        (λ kind f. last_n (c ∷ body) e n))
+    (there_of (c ∷ (body ++ e ∷ after)) s after (token_found Decimal (length (c ∷ body) + 1)) cut (omega (arith, length-append body (e ∷ []))) (omega arith)
+    (Heads.decimal_form c (body ++ e ∷ []) (Heads.digit_class c digit) (no_integer (c ∷ body) e [] (n_no_digit e n))
+    (decimal_is (c ∷ body) e n (or_left (is_integer_form (c ∷ body)) (is_pointed_form (c ∷ body)) all)))
+    (λ other left same is. omega (arith, number_bound c body (e ∷ after) other left all (n_no_digit e n) same is, sizes))
+    (λ kind f. last_n (c ∷ body) e n))
 
 -- digits alone
 whole_integer : (c : ℕ) (body rest : Bytes) → all_digits (c ∷ body) ≡ true → first_passes is_ascii_digit rest ≡ false
@@ -285,10 +284,10 @@ whole_integer c body rest all stops size =
     let digit : is_ascii_digit c ≡ true = (and_parts (is_ascii_digit c) (list_all is_ascii_digit body) all).0 in
     let sizes : (number_behind (length (c ∷ body)) rest).size ≡ length (c ∷ body) = ap (λ (f : Found). f.size) size in
     there_as (c ∷ (body ++ rest)) (number_behind (length (c ∷ body)) rest) (token_found Integer (length (c ∷ body))) size
-      (there_of (c ∷ (body ++ rest)) (c ∷ body) rest (token_found Integer (length (c ∷ body))) refl refl (omega arith)
-        (Heads.integer_form c body (Heads.digit_class c digit) all)
-        (λ other left same is. omega (arith, number_bound c body rest other left all stops same is, sizes))
-        (λ kind f. digit_ascii (get_or (c ∷ body) (length (c ∷ body) - 1) 0) (all_at is_ascii_digit (c ∷ body) (length (c ∷ body) - 1) all (omega arith))))
+    (there_of (c ∷ (body ++ rest)) (c ∷ body) rest (token_found Integer (length (c ∷ body))) refl refl (omega arith)
+    (Heads.integer_form c body (Heads.digit_class c digit) all)
+    (λ other left same is. omega (arith, number_bound c body rest other left all stops same is, sizes))
+    (λ kind f. digit_ascii (get_or (c ∷ body) (length (c ∷ body) - 1) 0) (all_at is_ascii_digit (c ∷ body) (length (c ∷ body) - 1) all (omega arith))))
 
 -- digits, a point, digits and n
 point_decimal : (c : ℕ) (body fraction : Bytes) (e : ℕ) (after : Bytes) → all_digits (c ∷ body) ≡ true → all_digits fraction ≡ true → is_n e ≡ true
@@ -303,19 +302,19 @@ point_decimal c body fraction e after all rest n =
     let follows : drop (digits_len behind) behind ≡ e ∷ after = drop_at fraction (e ∷ after) (digits_len behind) (sym digits) in
     let total : ℕ = length (c ∷ body) + 1 + digits_len behind in
     let size : number_behind (length (c ∷ body)) (46 ∷ behind) ≡ token_found Decimal (total + 1) =
-      point_size (length (c ∷ body)) behind ∙ ap (pointed_found total) follows ∙ n_pointed total e after n in
+    point_size (length (c ∷ body)) behind ∙ ap (pointed_found total) follows ∙ n_pointed total e after n in
     let cut : text ≡ s ++ after =
-      ap (λ (xs : Bytes). c ∷ (body ++ 46 ∷ xs)) (sym (append_assoc fraction (e ∷ []) after))
-      ∙ ap (λ (xs : Bytes). c ∷ xs) (sym (append_assoc body (46 ∷ (fraction ++ e ∷ [])) after))
-      ∙ ap (λ (xs : Bytes). c ∷ (xs ++ after)) (sym (append_assoc body (46 ∷ fraction) (e ∷ []))) in
+    ap (λ (xs : Bytes). c ∷ (body ++ 46 ∷ xs)) (sym (append_assoc fraction (e ∷ []) after))
+    ∙ ap (λ (xs : Bytes). c ∷ xs) (sym (append_assoc body (46 ∷ (fraction ++ e ∷ [])) after))
+    ∙ ap (λ (xs : Bytes). c ∷ (xs ++ after)) (sym (append_assoc body (46 ∷ fraction) (e ∷ []))) in
     let s_size : length s ≡ total + 1 = omega (arith, length-append front (e ∷ []), length-append body (46 ∷ fraction), digits) in
     let sizes : (number_behind (length (c ∷ body)) (46 ∷ behind)).size ≡ total + 1 = ap (λ (f : Found). f.size) size in
     there_as text (number_behind (length (c ∷ body)) (46 ∷ behind)) (token_found Decimal (total + 1)) size
-      (there_of text s after (token_found Decimal (total + 1)) cut s_size (omega arith)
-        (Heads.decimal_form c (front ++ e ∷ []) (Heads.digit_class c digit) (no_integer (c ∷ front) e [] (n_no_digit e n))
-          (decimal_is (c ∷ front) e n (or_right (is_integer_form (c ∷ front)) (is_pointed_form (c ∷ front)) (pointed_is (c ∷ body) fraction (omega arith) all rest))))
-        (λ other left same is. omega (arith, number_bound c body (46 ∷ behind) other left all refl same is, sizes))
-        (λ kind f. last_n (c ∷ front) e n))
+    (there_of text s after (token_found Decimal (total + 1)) cut s_size (omega arith)
+    (Heads.decimal_form c (front ++ e ∷ []) (Heads.digit_class c digit) (no_integer (c ∷ front) e [] (n_no_digit e n))
+    (decimal_is (c ∷ front) e n (or_right (is_integer_form (c ∷ front)) (is_pointed_form (c ∷ front)) (pointed_is (c ∷ body) fraction (omega arith) all rest))))
+    (λ other left same is. omega (arith, number_bound c body (46 ∷ behind) other left all refl same is, sizes))
+    (λ kind f. last_n (c ∷ front) e n))
 
 -- no byte of a number with a point is n
 all_mono : (p q : ℕ → Bool) (xs : Bytes) → ((c : ℕ) → p c ≡ true → q c ≡ true) → list_all p xs ≡ true → list_all q xs ≡ true
@@ -335,7 +334,7 @@ no_n_pointed whole fraction all rest =
 not_ended : (s : Bytes) → 0 < length s → list_all no_n s ≡ true → is_decimal_form s ≡ false
 not_ended s some all =
     and_left (ends_in_n s) (is_integer_form (without_last s) || is_pointed_form (without_last s))
-      (not-true (is_n (get_or s (length s - 1) 0)) (all_at no_n s (length s - 1) all (omega arith)))
+    (not-true (is_n (get_or s (length s - 1) 0)) (all_at no_n s (length s - 1) all (omega arith)))
 
 -- digits, a point and digits
 point_double : (c : ℕ) (body fraction after : Bytes) → all_digits (c ∷ body) ≡ true → all_digits fraction ≡ true → first_passes is_ascii_digit after ≡ false
@@ -350,17 +349,17 @@ point_double c body fraction after all rest stops no_end =
     let follows : drop (digits_len behind) behind ≡ after = drop_at fraction after (digits_len behind) (sym digits) in
     let total : ℕ = length (c ∷ body) + 1 + digits_len behind in
     let size : number_behind (length (c ∷ body)) (46 ∷ behind) ≡ fault_found DoubleConstant total =
-      point_size (length (c ∷ body)) behind ∙ ap (pointed_found total) follows
-      ∙ cond-false (begins_with_n after) (token_found Decimal (total + 1)) (fault_found DoubleConstant total) no_end in
+    point_size (length (c ∷ body)) behind ∙ ap (pointed_found total) follows
+    ∙ cond-false (begins_with_n after) (token_found Decimal (total + 1)) (fault_found DoubleConstant total) no_end in
     let cut : text ≡ s ++ after = ap (λ (xs : Bytes). c ∷ xs) (sym (append_assoc body (46 ∷ fraction) after)) in
     let s_size : length s ≡ total = omega (arith, length-append body (46 ∷ fraction), digits) in
     let sizes : (number_behind (length (c ∷ body)) (46 ∷ behind)).size ≡ total = ap (λ (f : Found). f.size) size in
     there_as text (number_behind (length (c ∷ body)) (46 ∷ behind)) (fault_found DoubleConstant total) size
-      (there_of text s after (fault_found DoubleConstant total) cut s_size (omega arith)
-        (Heads.pointed_form c tail (Heads.digit_class c digit) (no_integer (c ∷ body) 46 fraction refl)
-          (not_ended s (omega arith) (no_n_pointed (c ∷ body) fraction all rest)) (pointed_is (c ∷ body) fraction (omega arith) all rest))
-        (λ other left same is. omega (arith, number_bound c body (46 ∷ behind) other left all refl same is, sizes))
-        (λ kind f. fault_kind kind DoubleConstant f))
+    (there_of text s after (fault_found DoubleConstant total) cut s_size (omega arith)
+    (Heads.pointed_form c tail (Heads.digit_class c digit) (no_integer (c ∷ body) 46 fraction refl)
+    (not_ended s (omega arith) (no_n_pointed (c ∷ body) fraction all rest)) (pointed_is (c ∷ body) fraction (omega arith) all rest))
+    (λ other left same is. omega (arith, number_bound c body (46 ∷ behind) other left all refl same is, sizes))
+    (λ kind f. fault_kind kind DoubleConstant f))
 
 first_n : (after : Bytes) (P : Bytes → Type 0) → begins_with_n after ≡ true → ((e : ℕ) (rest : Bytes) → is_n e ≡ true → P (e ∷ rest)) → P after
 first_n [] P e go = clash e
@@ -373,10 +372,10 @@ point_there c body behind all =
     let P : Bytes → Type 0 = λ xs. There (c ∷ (body ++ 46 ∷ xs)) (number_behind (length (c ∷ body)) (46 ∷ xs)) in
     let rest : all_digits (take k behind) ≡ true = run_all is_ascii_digit behind in
     subst P (take-append-drop k behind) (
-      elim (cases_Bool (begins_with_n (drop k behind))) [
-        | inl e ↦ first_n (drop k behind) (λ after. P (take k behind ++ after)) e (λ n after is. point_decimal c body (take k behind) n after all rest is)
-        | inr e ↦ point_double c body (take k behind) (drop k behind) all rest (run_stops is_ascii_digit behind) e
-      ])
+    elim (cases_Bool (begins_with_n (drop k behind))) [
+      | inl e ↦ first_n (drop k behind) (λ after. P (take k behind ++ after)) e (λ n after is. point_decimal c body (take k behind) n after all rest is)
+      | inr e ↦ point_double c body (take k behind) (drop k behind) all rest (run_stops is_ascii_digit behind) e
+    ])
 
 behind_there : (c : ℕ) (body rest : Bytes) → all_digits (c ∷ body) ≡ true → first_passes is_ascii_digit rest ≡ false
     → There (c ∷ (body ++ rest)) (number_behind (length (c ∷ body)) rest)
@@ -386,10 +385,10 @@ behind_there c body (x ∷ xs) all stops =
       | inl e ↦ whole_decimal c body x xs all e
       | inr e ↦ elim (cases_Bool (x == 46)) [
         | inl f ↦
-          let P : ℕ → Type 0 = λ d. There (c ∷ (body ++ d ∷ xs)) (number_behind (length (c ∷ body)) (d ∷ xs)) in
-          subst P (sym (eqb-true x 46 f)) (point_there c body xs all)
+            let P : ℕ → Type 0 = λ d. There (c ∷ (body ++ d ∷ xs)) (number_behind (length (c ∷ body)) (d ∷ xs)) in
+            subst P (sym (eqb-true x 46 f)) (point_there c body xs all)
         | inr f ↦
-          whole_integer c body (x ∷ xs) all stops
+            whole_integer c body (x ∷ xs) all stops
             (cond-false (begins_with_n (x ∷ xs)) (token_found Decimal (length (c ∷ body) + 1)) _ e
             ∙ cond-false (begins_with 46 (x ∷ xs)) _ (token_found Integer (length (c ∷ body))) f)
       ]
@@ -403,7 +402,7 @@ number_there c cs digit =
     let size : digits_len (c ∷ cs) ≡ suc k = run_size_yes is_ascii_digit c cs digit in
     let whole : length (c ∷ body) ≡ suc k = omega (arith, length-prefix_len is_ascii_digit cs) in
     let here : number_found (c ∷ cs) ≡ number_behind (length (c ∷ body)) (drop k cs) =
-      ap (λ (n : ℕ). number_behind n (drop n (c ∷ cs))) size ∙ ap (λ (n : ℕ). number_behind n (drop k cs)) (sym whole) in
+    ap (λ (n : ℕ). number_behind n (drop n (c ∷ cs))) size ∙ ap (λ (n : ℕ). number_behind n (drop k cs)) (sym whole) in
     let P : Bytes → Type 0 = λ xs. There (c ∷ xs) (number_behind (length (c ∷ body)) (drop k cs)) in
     there_as (c ∷ cs) (number_found (c ∷ cs)) (number_behind (length (c ∷ body)) (drop k cs)) here
-      (subst P (take-append-drop k cs) (behind_there c body (drop k cs) all (run_stops is_ascii_digit cs)))
+    (subst P (take-append-drop k cs) (behind_there c body (drop k cs) all (run_stops is_ascii_digit cs)))

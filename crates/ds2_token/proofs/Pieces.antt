@@ -1,14 +1,14 @@
 -- Gaps: what piece stands at the front of a text, and the longest gap there.
-use Rattle.std.proofs.Common.{◌≡◌, ℕ, zero, suc, ◌+◌, ◌-◌, ◌<◌, ◌≤◌, ◌⊎◌, inl, inr, Bool, true, false, cond, ◌&&◌, ◌||◌, not, List, [], ◌∷◌, ◌++◌, length, take, drop, get_or, refl, sym, ap, ◌∙◌, subst, arith, append_assoc}
+use Rattle.std.proofs.Common.{◌≡◌, ℕ, zero, suc, ◌+◌, ◌-◌, ◌<◌, ◌≤◌, inl, inr, Bool, true, false, cond, ◌&&◌, ◌||◌, not, List, [], ◌∷◌, ◌++◌, length, take, drop, get_or, refl, sym, ap, ◌∙◌, subst, arith, append_assoc}
 use Rattle.std.specs.Prelude.{◌==◌, nat_le, codes}
 use Rattle.std.specs.List.{concat, list_all}
 use Rattle.std.specs.Str.{bytes_eq}
 use Rattle.std.specs.Cmp.Lexicographic.{bytes_decides}
-use Rattle.std.proofs.lemmas.Bool.{and_parts, or_parts, or_cases, and_from, and_right, and_left, or_left, or_right, or_from, eqb-true, leb-true, le-leb, not-true, not_from_false, cases_Bool, cond-true, cond-false, both_ways}
+use Rattle.std.proofs.lemmas.Bool.{and_parts, or_parts, or_cases, and_from, and_right, or_left, or_right, or_from, eqb-true, leb-true, le-leb, not-true, not_from_false, cases_Bool, cond-true, cond-false, both_ways}
 use Rattle.std.proofs.lemmas.Bool.Decides.{nat_tests}
 use Rattle.std.proofs.lemmas.List.{append-nil, length-append, take-append-drop, take_at, drop_at, take_all, length-take-le, take-take, drop-take, get_or_at, get_or-take, get_or-drop}
 use Rattle.ds2_base.specs.Bytes.{Bytes}
-use Rattle.ds2_token.specs.Forms.{is_blank_piece, opens_comment, closes_comment, holds_comment_end, is_comment, is_open_comment, IsGap}
+use Rattle.ds2_token.specs.Forms.{is_blank_piece, opens_comment, closes_comment, holds_comment_end, is_comment, IsGap}
 use Rattle.ds2_token.specs.Scan.{is_blank_byte, further, closes_here, comment_end, piece_size}
 use Rattle.ds2_token.specs.Standing.{IsLongest}
 use Rattle.ds2_token.proofs.OneAnswer.{same_cut}
@@ -79,7 +79,7 @@ more_plain c d cs (b ∷ body) rest apart cut plain =
     let whole : d ∷ cs ≡ b ∷ (body ++ 42 ∷ 47 ∷ rest) = cut in
     let heads : d ≡ b = cc in
     or_from (c == 42 && (b == 47 && true)) (holds_comment_end (b ∷ body))
-      (pair_test (c == 42) (b == 47) ∙ ap (λ (x : ℕ). c == 42 && x == 47) (sym heads) ∙ apart) plain
+    (pair_test (c == 42) (b == 47) ∙ ap (λ (x : ℕ). c == 42 && x == 47) (sym heads) ∙ apart) plain
 
 end_here : (c d : ℕ) (cs : Bytes) (k : ℕ) → (c == 42 && d == 47) ≡ true → comment_end (c ∷ d ∷ cs) ≡ suc k → End (c ∷ d ∷ cs) (suc k)
 end_here c d cs k e is =
@@ -133,8 +133,8 @@ no_end (c ∷ d ∷ cs) is =
     elim (cases_Bool (c == 42 && d == 47)) [
       | inl e ↦ absurd (two_zero (comment_end (c ∷ d ∷ cs)) (end_branch true c d cs e) is)
       | inr e ↦
-        let rest : further 1 (comment_end (d ∷ cs)) ≡ 0 = sym (end_branch false c d cs e) ∙ is in
-        or_from (c == 42 && (d == 47 && true)) (holds_comment_end (d ∷ cs)) (pair_test (c == 42) (d == 47) ∙ e)
+          let rest : further 1 (comment_end (d ∷ cs)) ≡ 0 = sym (end_branch false c d cs e) ∙ is in
+          or_from (c == 42 && (d == 47 && true)) (holds_comment_end (d ∷ cs)) (pair_test (c == 42) (d == 47) ∙ e)
           (no_end (d ∷ cs) (further_none (comment_end (d ∷ cs)) 1 rest (omega arith)))
     ]
 
@@ -207,7 +207,7 @@ comment_parts (a ∷ b ∷ q) e =
     let less : length s - 2 ≡ length q = omega arith in
     let closes : drop (length s - 2) s ≡ drop (length q - 2) q = ap (λ (k : ℕ). drop k s) less ∙ drop_two (length q) a b q long in
     comment_of a b q long three.1 (ap (λ (xs : Bytes). bytes_eq xs (codes "*/")) (sym closes) ∙ two.1)
-      (ap (λ (k : ℕ). holds_comment_end (take k q)) (sym places) ∙ plain)
+    (ap (λ (k : ℕ). holds_comment_end (take k q)) (sym places) ∙ plain)
 
 -- a comment of this body is one
 comment_is : (body : Bytes) → holds_comment_end body ≡ false → is_comment (47 ∷ 42 ∷ (body ++ 42 ∷ 47 ∷ [])) ≡ true
@@ -218,13 +218,13 @@ comment_is body plain =
     let less : length s - 2 ≡ length q = omega arith in
     let least : length s - 4 ≡ length body = omega arith in
     let back : drop (length s - 2) s ≡ 42 ∷ 47 ∷ [] =
-      ap (λ (k : ℕ). drop k s) less ∙ drop_two (length q) 47 42 q (omega arith) ∙ drop_at body (42 ∷ 47 ∷ []) (length q - 2) (omega arith) in
+    ap (λ (k : ℕ). drop k s) less ∙ drop_two (length q) 47 42 q (omega arith) ∙ drop_at body (42 ∷ 47 ∷ []) (length q - 2) (omega arith) in
     let inner : take (length s - 4) q ≡ body = take_at body (42 ∷ 47 ∷ []) (length s - 4) (sym least) in
     and_from (nat_le 4 (length s) && opens_comment s && closes_comment s) (not (holds_comment_end (take (length s - 4) (drop 2 s))))
-      (and_from (nat_le 4 (length s) && opens_comment s) (closes_comment s)
-        (and_from (nat_le 4 (length s)) (opens_comment s) (le-leb 4 (length s) (omega arith)) refl)
-        (ap (λ (xs : Bytes). bytes_eq xs (codes "*/")) back))
-      (not_from_false _ (ap holds_comment_end inner ∙ plain))
+    (and_from (nat_le 4 (length s) && opens_comment s) (closes_comment s)
+    (and_from (nat_le 4 (length s)) (opens_comment s) (le-leb 4 (length s) (omega arith)) refl)
+    (ap (λ (xs : Bytes). bytes_eq xs (codes "*/")) back))
+    (not_from_false _ (ap holds_comment_end inner ∙ plain))
 
 -- ---- the piece at the front
 
@@ -237,24 +237,24 @@ pub piece_is_found : (p left : Bytes) → is_piece p ≡ true → piece_size (p 
 piece_is_found p left e =
     elim (or_cases (is_blank_piece p) (is_comment p) e) [
       | inl f ↦
-        let b = blank_parts p f in
-        ap (λ (xs : Bytes). piece_size (xs ++ left)) b.cut ∙ blank_size b.byte left b.blank ∙ sym (ap length b.cut)
+          let b = blank_parts p f in
+          ap (λ (xs : Bytes). piece_size (xs ++ left)) b.cut ∙ blank_size b.byte left b.blank ∙ sym (ap length b.cut)
       | inr f ↦
-        let k = comment_parts p f in
-        let size : length p ≡ length k.body + 4 = omega (arith, ap length k.cut, length-append k.body (42 ∷ 47 ∷ [])) in
-        let text : p ++ left ≡ 47 ∷ 42 ∷ (k.body ++ 42 ∷ 47 ∷ left) =
+          let k = comment_parts p f in
+          let size : length p ≡ length k.body + 4 = omega (arith, ap length k.cut, length-append k.body (42 ∷ 47 ∷ [])) in
+          let text : p ++ left ≡ 47 ∷ 42 ∷ (k.body ++ 42 ∷ 47 ∷ left) =
           ap (λ (xs : Bytes). xs ++ left) k.cut ∙ ap (λ (xs : Bytes). 47 ∷ 42 ∷ xs) (append_assoc k.body (42 ∷ 47 ∷ []) left) in
-        ap piece_size text ∙ ap (further 2) (end_of_body k.body left k.plain) ∙ further_some (length k.body + 2) 2 (omega arith) ∙ omega (arith, size)
+          ap piece_size text ∙ ap (further 2) (end_of_body k.body left k.plain) ∙ further_some (length k.body + 2) 2 (omega arith) ∙ omega (arith, size)
     ]
 
 comment_front : (text : Bytes) (k : ℕ) → comment_end text ≡ suc k → is_piece (take (suc k + 2) (47 ∷ 42 ∷ text)) ≡ true
 comment_front text k is =
     let found = end_found text k is in
     let whole : 47 ∷ 42 ∷ text ≡ (47 ∷ 42 ∷ (found.body ++ 42 ∷ 47 ∷ [])) ++ found.rest =
-      ap (λ (xs : Bytes). 47 ∷ 42 ∷ xs) (found.cut ∙ sym (append_assoc found.body (42 ∷ 47 ∷ []) found.rest)) in
+    ap (λ (xs : Bytes). 47 ∷ 42 ∷ xs) (found.cut ∙ sym (append_assoc found.body (42 ∷ 47 ∷ []) found.rest)) in
     let size : length (47 ∷ 42 ∷ (found.body ++ 42 ∷ 47 ∷ [])) ≡ suc k + 2 = omega (arith, found.sized, length-append found.body (42 ∷ 47 ∷ [])) in
     let front : take (suc k + 2) (47 ∷ 42 ∷ text) ≡ 47 ∷ 42 ∷ (found.body ++ 42 ∷ 47 ∷ []) =
-      ap (λ (xs : Bytes). take (suc k + 2) xs) whole ∙ take_at (47 ∷ 42 ∷ (found.body ++ 42 ∷ 47 ∷ [])) found.rest (suc k + 2) size in
+    ap (λ (xs : Bytes). take (suc k + 2) xs) whole ∙ take_at (47 ∷ 42 ∷ (found.body ++ 42 ∷ 47 ∷ [])) found.rest (suc k + 2) size in
     ap is_piece front ∙ or_right (is_blank_piece (47 ∷ 42 ∷ (found.body ++ 42 ∷ 47 ∷ []))) (is_comment (47 ∷ 42 ∷ (found.body ++ 42 ∷ 47 ∷ []))) (comment_is found.body found.plain)
 
 take_one : (c : ℕ) (cs : Bytes) → take 1 (c ∷ cs) ≡ c ∷ []
@@ -286,14 +286,14 @@ found_is_piece (c ∷ d ∷ cs) some =
     elim (cases_Bool (is_blank_byte c)) [
       | inl e ↦ blank_front c (d ∷ cs) e
       | inr e ↦
-        let other : piece_size (c ∷ d ∷ cs) ≡ cond (c == 47 && d == 42) (further 2 (comment_end cs)) 0 = cond-false (is_blank_byte c) 1 _ e in
-        elim (cases_Bool (c == 47 && d == 42)) [
-          | inl f ↦
-            let size : piece_size (c ∷ d ∷ cs) ≡ further 2 (comment_end cs) = other ∙ cond-true (c == 47 && d == 42) _ 0 f in
-            ap (λ (n : ℕ). is_piece (take n (c ∷ d ∷ cs))) size
-            ∙ slash_front c d cs (comment_end cs) f refl (omega (arith, size))
-          | inr f ↦ let none : piece_size (c ∷ d ∷ cs) ≡ 0 = other ∙ cond-false (c == 47 && d == 42) _ 0 f in absurd (omega arith)
-        ]
+          let other : piece_size (c ∷ d ∷ cs) ≡ cond (c == 47 && d == 42) (further 2 (comment_end cs)) 0 = cond-false (is_blank_byte c) 1 _ e in
+          elim (cases_Bool (c == 47 && d == 42)) [
+            | inl f ↦
+                let size : piece_size (c ∷ d ∷ cs) ≡ further 2 (comment_end cs) = other ∙ cond-true (c == 47 && d == 42) _ 0 f in
+                ap (λ (n : ℕ). is_piece (take n (c ∷ d ∷ cs))) size
+                ∙ slash_front c d cs (comment_end cs) f refl (omega (arith, size))
+            | inr f ↦ let none : piece_size (c ∷ d ∷ cs) ≡ 0 = other ∙ cond-false (c == 47 && d == 42) _ 0 f in absurd (omega arith)
+          ]
     ]
 
 -- ---- the longest gap
@@ -316,7 +316,7 @@ pieces_within (a ∷ ps) (b ∷ qs) left rest p q same none =
     let two = and_parts (is_piece b) (list_all is_piece qs) q in
     let text : a ++ (concat ps ++ left) ≡ b ++ (concat qs ++ rest) = sym (append_assoc a (concat ps) left) ∙ same ∙ append_assoc b (concat qs) rest in
     let sizes : length a ≡ length b =
-      sym (piece_is_found a (concat ps ++ left) one.0) ∙ ap piece_size text ∙ piece_is_found b (concat qs ++ rest) two.0 in
+    sym (piece_is_found a (concat ps ++ left) one.0) ∙ ap piece_size text ∙ piece_is_found b (concat qs ++ rest) two.0 in
     let cuts : (a ≡ b) × (concat ps ++ left ≡ concat qs ++ rest) = same_cut a (concat ps ++ left) b (concat qs ++ rest) text sizes in
     let behind : length (concat ps) ≤ length (concat qs) = pieces_within ps qs left rest one.1 two.1 cuts.1 none in
     let a_size : length (concat (a ∷ ps)) ≡ length a + length (concat ps) = length-append a (concat ps) in
@@ -328,12 +328,12 @@ pub gap_stops : (gap rest : Bytes) → IsGap gap → piece_size rest ≡ 0 → I
 gap_stops gap rest (qs, whole, all) none = record {
   is = (qs, whole, all);
   longest = λ other left same is.
-    let text : concat is.0 ++ left ≡ concat qs ++ rest =
+      let text : concat is.0 ++ left ≡ concat qs ++ rest =
       ap (λ (xs : Bytes). xs ++ left) (sym is.1) ∙ same ∙ ap (λ (xs : Bytes). xs ++ rest) whole in
-    let within : length (concat is.0) ≤ length (concat qs) = pieces_within is.0 qs left rest is.2 all text none in
-    let front : length other ≡ length (concat is.0) = ap length is.1 in
-    let size : length gap ≡ length (concat qs) = ap length whole in
-    omega arith;
+      let within : length (concat is.0) ≤ length (concat qs) = pieces_within is.0 qs left rest is.2 all text none in
+      let front : length other ≡ length (concat is.0) = ap length is.1 in
+      let size : length gap ≡ length (concat qs) = ap length whole in
+      omega arith;
 }
 
 -- no gap, and a gap with one more piece
@@ -368,7 +368,7 @@ take_more m n xs =
 pub gap_grows : (text : Bytes) (passed size : ℕ) → IsGap (take passed text) → size ≡ piece_size (drop passed text) → 0 < size → IsGap (take (passed + size) text)
 gap_grows text passed size gap is some =
     let piece : is_piece (take size (drop passed text)) ≡ true =
-      ap (λ (n : ℕ). is_piece (take n (drop passed text))) is ∙ found_is_piece (drop passed text) (omega arith) in
+    ap (λ (n : ℕ). is_piece (take n (drop passed text))) is ∙ found_is_piece (drop passed text) (omega arith) in
     subst IsGap (sym (take_more passed size text)) (gap_more (take passed text) (take size (drop passed text)) gap piece)
 
 blank_ascii : (c : ℕ) → is_blank_byte c ≡ true → c < 128
@@ -386,23 +386,23 @@ piece_ascii : (p : Bytes) → is_piece p ≡ true → get_or p (length p - 1) 0 
 piece_ascii p e =
     elim (or_cases (is_blank_piece p) (is_comment p) e) [
       | inl f ↦
-        let b = blank_parts p f in
-        let last : get_or p (length p - 1) 0 ≡ b.byte = ap (λ (xs : Bytes). get_or xs (length xs - 1) 0) b.cut in
-        omega (arith, last, blank_ascii b.byte b.blank)
+          let b = blank_parts p f in
+          let last : get_or p (length p - 1) 0 ≡ b.byte = ap (λ (xs : Bytes). get_or xs (length xs - 1) 0) b.cut in
+          omega (arith, last, blank_ascii b.byte b.blank)
       | inr f ↦
-        let k = comment_parts p f in
-        let last : get_or p (length p - 1) 0 ≡ 47 = ap (λ (xs : Bytes). get_or xs (length xs - 1) 0) k.cut ∙ last_of_comment k.body in
-        omega arith
+          let k = comment_parts p f in
+          let last : get_or p (length p - 1) 0 ≡ 47 = ap (λ (xs : Bytes). get_or xs (length xs - 1) 0) k.cut ∙ last_of_comment k.body in
+          omega arith
     ]
 
 pub gap_ends : (text : Bytes) (passed size : ℕ) → size ≡ piece_size (drop passed text) → 0 < size → size ≤ length (drop passed text) → get_or text (passed + size - 1) 0 < 128
 gap_ends text passed size is some fits =
     let piece : is_piece (take size (drop passed text)) ≡ true =
-      ap (λ (n : ℕ). is_piece (take n (drop passed text))) is ∙ found_is_piece (drop passed text) (omega arith) in
+    ap (λ (n : ℕ). is_piece (take n (drop passed text))) is ∙ found_is_piece (drop passed text) (omega arith) in
     let last : get_or (take size (drop passed text)) (length (take size (drop passed text)) - 1) 0 < 128 = piece_ascii (take size (drop passed text)) piece in
     let whole : length (take size (drop passed text)) ≡ size = length-take-le size (drop passed text) fits in
     let here : get_or (take size (drop passed text)) (length (take size (drop passed text)) - 1) 0 ≡ get_or (drop passed text) (size - 1) 0 =
-      ap (λ (n : ℕ). get_or (take size (drop passed text)) (n - 1) 0) whole ∙ get_or-take size (drop passed text) (size - 1) 0 (omega arith) in
+    ap (λ (n : ℕ). get_or (take size (drop passed text)) (n - 1) 0) whole ∙ get_or-take size (drop passed text) (size - 1) 0 (omega arith) in
     let there : get_or (drop passed text) (size - 1) 0 ≡ get_or text (passed + size - 1) 0 =
-      get_or-drop passed text (size - 1) 0 ∙ ap (λ (n : ℕ). get_or text n 0) (add_less passed size some) in
+    get_or-drop passed text (size - 1) 0 ∙ ap (λ (n : ℕ). get_or text n 0) (add_less passed size some) in
     omega arith

@@ -31,6 +31,7 @@ marks =
     codes "<=" ∷ codes ">" ∷ codes ">=" ∷ codes "+" ∷ codes "-" ∷ codes "*" ∷ codes "/" ∷ codes "||" ∷ codes "&" ∷ codes "|" ∷
     codes "^" ∷ codes "~" ∷ codes "." ∷ []
 
+-- it is one of the marks
 abbrev pub is_mark_form : List ℕ → Bool
 is_mark_form s = list_any (λ mark. bytes_eq mark s) marks
 
@@ -40,7 +41,7 @@ is_mark_form s = list_any (λ mark. bytes_eq mark s) marks
 abbrev pub is_enclosed : ℕ → List ℕ → Bool
 is_enclosed quote s = nat_le 2 (length s) && slice_index s 0 == quote && slice_index s (length s - 1) == quote
 
--- what stands between the two ends
+-- what stands between the first character and the last
 abbrev pub between_quotes : List ℕ → List ℕ
 between_quotes s = take (length s - 2) (drop 1 s)
 
@@ -67,7 +68,7 @@ is_quoted_form s = is_enclosed 34 s && not (holds_double_quote (between_quotes s
 abbrev pub is_text_form : List ℕ → Bool
 is_text_form s = is_enclosed 39 s && is_paired (between_quotes s)
 
--- either of the two without its closing quote
+-- a quoted name or a text constant without its closing quote
 abbrev pub is_open_form : List ℕ → Bool
 is_open_form s = begins_with 34 s && not (holds_double_quote (drop 1 s)) || begins_with 39 s && is_paired (drop 1 s)
 
@@ -78,10 +79,11 @@ abbrev pub is_integer_form : List ℕ → Bool
 is_integer_form [] = false
 is_integer_form (c ∷ cs) = list_all is_ascii_digit (c ∷ cs)
 
--- the digits at the front, and what stands behind them
+-- the digits at the front
 abbrev pub leading_digits : List ℕ → List ℕ
 leading_digits s = take_while is_ascii_digit s
 
+-- what stands behind the digits at the front
 abbrev pub past_digits : List ℕ → List ℕ
 past_digits s = drop (prefix_len is_ascii_digit s) s
 
@@ -94,10 +96,11 @@ is_fraction (c ∷ cs) = c == 46 && list_all is_ascii_digit cs
 abbrev pub is_pointed_form : List ℕ → Bool
 is_pointed_form s = is_integer_form (leading_digits s) && is_fraction (past_digits s)
 
--- all but the last character, and whether that is `n`
+-- all but the last character
 abbrev pub without_last : List ℕ → List ℕ
 without_last s = take (length s - 1) s
 
+-- the last character is `n` or `N`
 abbrev pub ends_in_n : List ℕ → Bool
 ends_in_n s = slice_index s (length s - 1) == 110 || slice_index s (length s - 1) == 78
 
@@ -111,13 +114,15 @@ is_decimal_form s = ends_in_n s && (is_integer_form (without_last s) || is_point
 abbrev pub is_blank_piece : List ℕ → Bool
 is_blank_piece s = bytes_eq s (32 ∷ []) || bytes_eq s (9 ∷ []) || bytes_eq s (13 ∷ []) || bytes_eq s (10 ∷ [])
 
--- `/*` at the front, `*/` at the end, and `*/` somewhere
+-- `/*` stands at the front
 abbrev pub opens_comment : List ℕ → Bool
 opens_comment s = bytes_eq (take 2 s) (codes "/*")
 
+-- `*/` stands at the end
 abbrev pub closes_comment : List ℕ → Bool
 closes_comment s = bytes_eq (drop (length s - 2) s) (codes "*/")
 
+-- `*/` stands somewhere
 abbrev pub holds_comment_end : List ℕ → Bool
 holds_comment_end [] = false
 holds_comment_end (c ∷ cs) = bytes_eq (take 2 (c ∷ cs)) (codes "*/") || holds_comment_end cs

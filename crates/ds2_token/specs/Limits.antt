@@ -22,10 +22,11 @@ undoubled (c ∷ d ∷ cs) = if c == 39 then c ∷ undoubled cs else c ∷ undou
 abbrev pub text_content : Bytes → Bytes
 text_content spelling = undoubled (between_quotes spelling)
 
--- all digits of a number, and how many of them stand behind its point
+-- all digits of a number
 abbrev pub digits_of : Bytes → Bytes
 digits_of spelling = filter is_ascii_digit spelling
 
+-- how many digits of a number stand behind its point
 abbrev pub scale_of : Bytes → ℕ
 scale_of spelling = length (filter is_ascii_digit (past_digits spelling))
 

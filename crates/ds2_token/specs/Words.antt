@@ -12,26 +12,32 @@ use Rattle.ds2_token.specs.Forms.{is_word_form, between_quotes}
 
 -- ---- kinds
 
+-- the kind of words
 abbrev pub word_kind : TokenKind → Bool
 word_kind Word = true
 word_kind _ = false
 
+-- the kind of names between double quotes
 abbrev pub quoted_kind : TokenKind → Bool
 quoted_kind Quoted = true
 quoted_kind _ = false
 
+-- the kind of text constants
 abbrev pub text_kind : TokenKind → Bool
 text_kind Text = true
 text_kind _ = false
 
+-- the kind of integer constants
 abbrev pub integer_kind : TokenKind → Bool
 integer_kind Integer = true
 integer_kind _ = false
 
+-- the kind of decimal constants
 abbrev pub decimal_kind : TokenKind → Bool
 decimal_kind Decimal = true
 decimal_kind _ = false
 
+-- the kind of marks
 abbrev pub mark_kind : TokenKind → Bool
 mark_kind Mark = true
 mark_kind _ = false
@@ -40,12 +46,15 @@ mark_kind _ = false
 abbrev pub is_any_word : Token → Bool
 is_any_word t = word_kind t.kind
 
+-- a text constant
 abbrev pub is_text : Token → Bool
 is_text t = text_kind t.kind
 
+-- an integer constant
 abbrev pub is_integer : Token → Bool
 is_integer t = integer_kind t.kind
 
+-- a decimal constant
 abbrev pub is_decimal : Token → Bool
 is_decimal t = decimal_kind t.kind
 
@@ -67,6 +76,7 @@ is_one_of words marks t = list_any (λ word. is_word word t) words || list_any (
 
 -- ---- names
 
+-- the words that name nothing unless they stand between double quotes
 abbrev pub reserved_words : List (List ℕ)
 reserved_words =
     codes "and" ∷ codes "bigint" ∷ codes "by" ∷ codes "char" ∷ codes "continue" ∷ codes "data" ∷ codes "dcl" ∷ codes "decimal" ∷
@@ -77,7 +87,7 @@ reserved_words =
     codes "retain" ∷ codes "return" ∷ codes "returns" ∷ codes "select" ∷ codes "set" ∷ codes "then" ∷ codes "thread" ∷
     codes "to" ∷ codes "until" ∷ codes "varchar" ∷ codes "when" ∷ codes "while" ∷ []
 
--- letters are one of them
+-- letters are a reserved word, without regard to their case
 abbrev pub spells_reserved : List ℕ → Bool
 spells_reserved letters = list_any (λ word. spells letters word) reserved_words
 
