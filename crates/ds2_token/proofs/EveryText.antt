@@ -1,5 +1,5 @@
 -- Each text has an answer.
-use Rattle.std.proofs.Common.{◌≡◌, ℕ, zero, suc, ◌+◌, ◌-◌, ◌<◌, ◌≤◌, ◌⊎◌, inl, inr, Bool, true, false, List, [], ◌∷◌, ◌++◌, length, take, drop, Option, Some, None, Result, Ok, Err, refl, sym, ap, ◌∙◌, subst, arith}
+use Rattle.std.proofs.Common.{◌≡◌, ℕ, zero, suc, ◌+◌, ◌-◌, ◌<◌, ◌≤◌, ◌⊎◌, inl, inr, List, [], ◌∷◌, ◌++◌, length, take, drop, Option, Some, None, Result, Ok, Err, refl, sym, ap, ◌∙◌, subst, arith}
 use Rattle.std.specs.Str.{chars}
 use Rattle.std.proofs.lemmas.List.{append-nil, length-append, length-drop, take-append-drop, nil_from_length, drop_all}
 use Rattle.std.proofs.lemmas.Bool.{cases_lt}
@@ -12,7 +12,7 @@ use Rattle.ds2_token.specs.declared.kinds.LexKind.{LexKind}
 use Rattle.ds2_token.specs.declared.kinds.LexKind.TheVariants.{BadCharacter}
 use Rattle.ds2_token.specs.declared.scan.Found.{Found}
 use Rattle.ds2_token.specs.declared.token.Token.{Token}
-use Rattle.ds2_token.specs.Forms.{IsGap, form_of}
+use Rattle.ds2_token.specs.Forms.{IsGap}
 use Rattle.ds2_token.specs.Laws.{EveryTextIsRead}
 use Rattle.ds2_token.specs.Limits.{limit_fault}
 use Rattle.ds2_token.specs.Scan.{piece_size, found}

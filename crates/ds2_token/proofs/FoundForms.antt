@@ -1,19 +1,18 @@
 -- What is found at the front of a text that begins with no gap is the longest form there, and where none is found there is none.
-use Rattle.std.proofs.Common.{◌≡◌, ℕ, zero, suc, ◌+◌, ◌-◌, ◌<◌, ◌≤◌, ◌⊎◌, inl, inr, Bool, true, false, cond, ◌&&◌, ◌||◌, not, List, [], ◌∷◌, ◌++◌, length, take, drop, get_or, Option, Some, None, Result, Ok, Err, refl, sym, ap, ◌∙◌, subst, arith}
+use Rattle.std.proofs.Common.{◌≡◌, ℕ, zero, suc, ◌<◌, ◌≤◌, ◌⊎◌, inl, inr, Bool, true, false, cond, ◌&&◌, ◌||◌, not, [], ◌∷◌, ◌++◌, length, drop, Option, Some, None, Result, refl, sym, ap, ◌∙◌, subst, arith}
 use Rattle.std.specs.Prelude.{◌==◌, codes, nat_lt}
-use Rattle.std.specs.List.{prefix_len}
 use Rattle.std.specs.Char.{is_ascii_digit}
 use Rattle.std.specs.Str.{bytes_eq}
 use Rattle.std.proofs.lemmas.Bool.{and_parts, and_from, and_right, or_cases, eqb-true, cases_Bool, cond-true, cond-false, both_ways, false_from_ne_true, not_from_false, ltb-true}
-use Rattle.std.proofs.lemmas.List.{length-append, take_all}
+use Rattle.std.proofs.lemmas.List.{take_all}
 use Rattle.ds2_base.specs.Bytes.{Bytes}
 use Rattle.ds2_token.specs.declared.kinds.TokenKind.{TokenKind}
-use Rattle.ds2_token.specs.declared.kinds.TokenKind.TheVariants.{Word, Mark}
+use Rattle.ds2_token.specs.declared.kinds.TokenKind.TheVariants.{Mark}
 use Rattle.ds2_token.specs.declared.kinds.LexKind.{LexKind}
 use Rattle.ds2_token.specs.declared.kinds.LexKind.TheVariants.{OpenComment}
 use Rattle.ds2_token.specs.declared.scan.Found.{Found}
-use Rattle.ds2_token.specs.Forms.{is_word_letter, is_word_part, is_mark_form, opens_comment, holds_comment_end, is_open_comment, form_of}
-use Rattle.ds2_token.specs.Scan.{further, comment_end, piece_size, quoted_found, text_found, number_found, is_mark_byte, is_mark_pair, mark_size, mark_found, token_found, fault_found, found}
+use Rattle.ds2_token.specs.Forms.{is_word_letter, is_mark_form, opens_comment, holds_comment_end, is_open_comment, form_of}
+use Rattle.ds2_token.specs.Scan.{further, comment_end, piece_size, quoted_found, text_found, is_mark_byte, is_mark_pair, mark_size, mark_found, token_found, fault_found, found}
 use Rattle.ds2_token.specs.Standing.{IsForm, BeginsNoForm}
 use Rattle.ds2_token.proofs.Pieces.{clash, same_bytes, no_end}
 use Rattle.ds2_token.proofs.Heads

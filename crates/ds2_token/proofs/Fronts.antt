@@ -1,23 +1,22 @@
 -- The form that is found at the front of a text has the spelling of its kind, and no longer form stands there.
-use Rattle.std.proofs.Common.{◌≡◌, ℕ, zero, suc, ◌+◌, ◌-◌, ◌<◌, ◌≤◌, ◌⊎◌, inl, inr, Bool, true, false, cond, ltb, ◌&&◌, ◌||◌, not, List, [], ◌∷◌, ◌++◌, length, take, drop, get_or, Option, Some, None, Result, Ok, Err, refl, sym, ap, ◌∙◌, arith, append_assoc}
-use Rattle.std.specs.Prelude.{◌==◌, nat_le, nat_lt, codes, slice_index}
-use Rattle.std.specs.List.{list_all, list_any, prefix_len}
+use Rattle.std.proofs.Common.{◌≡◌, ℕ, suc, ◌+◌, ◌-◌, ◌<◌, ◌≤◌, inl, inr, Bool, true, false, cond, ◌&&◌, not, [], ◌∷◌, ◌++◌, length, take, drop, get_or, Some, Result, Ok, Err, refl, sym, ap, ◌∙◌, arith, append_assoc}
+use Rattle.std.specs.Prelude.{◌==◌, nat_le, nat_lt, slice_index}
+use Rattle.std.specs.List.{list_all, prefix_len}
 use Rattle.std.specs.Char.{is_ascii_digit}
-use Rattle.std.proofs.lemmas.Bool.{and_parts, and_from, and_right, and_left, or_cases, or_parts, or_left, or_right, or_from, eqb-true, eq-eqb, leb-true, le-leb, ltb-true, ltb-false, not-true, not_from_false, cases_Bool, cond-true, cond-false, cond_both, both_ways, false_from_ne_true}
+use Rattle.std.proofs.lemmas.Bool.{and_parts, and_from, or_cases, or_left, or_right, eqb-true, eq-eqb, leb-true, le-leb, ltb-true, ltb-false, not-true, not_from_false, cases_Bool, cond-true, cond-false, cond_both, both_ways, false_from_ne_true}
 use Rattle.std.proofs.lemmas.Bool.Decides.{nat_tests}
-use Rattle.std.proofs.lemmas.List.{append-nil, length-append, length-take-le, length-drop, take-append-drop, take_at, drop_at, take_all, get_or_at, get_or-append_right}
+use Rattle.std.proofs.lemmas.List.{length-append, length-take-le, take-append-drop, take_at, take_all, get_or_at}
 use Rattle.std.proofs.lemmas.List.Sums.{prefix_len-le-length, prefix_len_passes}
 use Rattle.ds2_base.specs.Bytes.{Bytes}
 use Rattle.ds2_token.specs.declared.kinds.TokenKind.{TokenKind}
-use Rattle.ds2_token.specs.declared.kinds.TokenKind.TheVariants.{Word, Quoted, Text, Integer, Decimal, Mark}
+use Rattle.ds2_token.specs.declared.kinds.TokenKind.TheVariants.{Word, Quoted, Text}
 use Rattle.ds2_token.specs.declared.kinds.LexKind.{LexKind}
-use Rattle.ds2_token.specs.declared.kinds.LexKind.TheVariants.{DoubleConstant, OpenText, OpenComment}
+use Rattle.ds2_token.specs.declared.kinds.LexKind.TheVariants.{OpenText}
 use Rattle.ds2_token.specs.declared.scan.Found.{Found}
-use Rattle.ds2_token.specs.Forms.{is_word_letter, is_word_part, is_word_form, is_mark_form, is_enclosed, between_quotes, begins_with, holds_double_quote, is_paired, is_quoted_form, is_text_form, is_open_form, is_integer_form, leading_digits, past_digits, is_fraction, is_pointed_form, without_last, ends_in_n, is_decimal_form, opens_comment, holds_comment_end, is_open_comment, form_of}
-use Rattle.ds2_token.specs.Scan.{piece_size, comment_end, before_double_quote, quoted_found, paired_len, text_found, digits_len, begins_with_n, pointed_found, number_after_digits, number_found, is_mark_byte, is_mark_pair, mark_size, mark_found, token_found, fault_found, found}
-use Rattle.ds2_token.specs.Standing.{IsForm, BeginsNoForm}
-use Rattle.ds2_token.proofs.Pieces.{clash, same_bytes, no_end}
-use Rattle.ds2_token.proofs.Runs.{first_passes, run_size_yes, run_all, run_stops, run_len, run_within, run_same, Stop, run_stop, none_from_all, all_from_none}
+use Rattle.ds2_token.specs.Forms.{is_word_letter, is_word_part, is_word_form, is_enclosed, between_quotes, begins_with, holds_double_quote, is_paired, is_quoted_form, is_text_form, is_open_form, form_of}
+use Rattle.ds2_token.specs.Scan.{before_double_quote, quoted_found, paired_len, text_found, token_found, fault_found}
+use Rattle.ds2_token.specs.Standing.{IsForm}
+use Rattle.ds2_token.proofs.Runs.{run_size_yes, run_all, run_within, run_stop, none_from_all, all_from_none}
 use Rattle.ds2_token.proofs.Heads
 
 -- what is said of a form that was found

@@ -1,8 +1,8 @@
 -- Steps of the lexer.
-use Rattle.std.proofs.Common.{◌≡◌, ℕ, zero, suc, ◌+◌, ◌-◌, ◌<◌, ◌≤◌, ◌⊎◌, inl, inr, Bool, true, false, cond, List, [], ◌∷◌, ◌++◌, length, take, drop, get_or, Option, Some, None, Result, Ok, Err, refl, sym, ap, ◌∙◌, subst, arith, append_assoc}
+use Rattle.std.proofs.Common.{◌≡◌, ℕ, zero, suc, ◌+◌, ◌-◌, ◌<◌, ◌≤◌, ◌⊎◌, inl, inr, Bool, true, false, cond, List, [], ◌∷◌, ◌++◌, length, take, drop, get_or, Option, Some, None, Result, Ok, Err, refl, sym, ap, ◌∙◌, subst, arith}
 use Rattle.std.specs.Str.{chars, IsUtf8, IsCharBoundary}
 use Rattle.std.proofs.lemmas.Str.{IsCharBoundary-after_ascii, IsCharBoundary-start, IsCharBoundary-from_rest}
-use Rattle.std.proofs.lemmas.List.{append-nil, length-append, length-take-le, take-append-drop, drop-drop, nil_from_length}
+use Rattle.std.proofs.lemmas.List.{append-nil, length-take-le, take-append-drop, drop-drop, nil_from_length}
 use Rattle.ds2_base.specs.Bytes.{Bytes}
 use Rattle.ds2_base.specs.Place.{start_place, place_past}
 use Rattle.ds2_base.specs.Says.{Says}
@@ -11,9 +11,9 @@ use Rattle.ds2_base.specs.declared.place.Refusal.{Refusal}
 use Rattle.ds2_base.specs.declared.stop.Stop.{Stop}
 use Rattle.ds2_base.specs.declared.stop.Stop.TheVariants.{Refused, OutOfMemory}
 use Rattle.ds2_token.specs.declared.kinds.TokenKind.{TokenKind}
-use Rattle.ds2_token.specs.declared.kinds.TokenKind.TheVariants.{Word, Quoted, Text, Integer, Decimal, Mark}
+use Rattle.ds2_token.specs.declared.kinds.TokenKind.TheVariants.{Quoted, Text}
 use Rattle.ds2_token.specs.declared.kinds.LexKind.{LexKind}
-use Rattle.ds2_token.specs.declared.kinds.LexKind.TheVariants.{BadCharacter, DoubleConstant, OpenText, OpenComment}
+use Rattle.ds2_token.specs.declared.kinds.LexKind.TheVariants.{BadCharacter}
 use Rattle.ds2_token.specs.declared.lexer.Next.{Next}
 use Rattle.ds2_token.specs.declared.scan.Found.{Found}
 use Rattle.ds2_token.specs.declared.token.Token.{Token}

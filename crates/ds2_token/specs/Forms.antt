@@ -41,7 +41,6 @@ is_mark_form s = list_any (λ mark. bytes_eq mark s) marks
 abbrev pub is_enclosed : ℕ → List ℕ → Bool
 is_enclosed quote s = nat_le 2 (length s) && slice_index s 0 == quote && slice_index s (length s - 1) == quote
 
--- what stands between the two ends
 -- what stands between the first character and the last
 abbrev pub between_quotes : List ℕ → List ℕ
 between_quotes s = take (length s - 2) (drop 1 s)

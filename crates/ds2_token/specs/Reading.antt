@@ -1,5 +1,5 @@
 -- What the parts of the lexer answer.
-use Rattle.std.specs.Prelude.{◌≡◌, ℕ, ◌<◌, ◌++◌, length, drop, Option, Some, None, Result, Ok, Err}
+use Rattle.std.specs.Prelude.{◌≡◌, ◌<◌, ◌++◌, length, drop, Option, Some, None, Result, Ok, Err}
 use Rattle.std.specs.Str.{IsCharBoundary}
 use Rattle.ds2_base.specs.Bytes.{Bytes}
 use Rattle.ds2_base.specs.declared.place.Place.{Place}
@@ -19,7 +19,7 @@ abbrev pub spelled_unless : Option LexKind → TokenKind → Bytes → Place →
 spelled_unless None kind spelling place = Ok (record { kind = kind; spelling = spelling; place = place })
 spelled_unless (Some fault) kind spelling place = Err (record { kind = fault; place = place })
 
--- a token with this spelling, or the limit that it breaks
+-- the token with this spelling, or its refusal
 abbrev pub spelled_token : TokenKind → Bytes → Place → Result Token (Refusal LexKind)
 spelled_token kind spelling place = spelled_unless (limit_fault kind spelling) kind spelling place
 

@@ -1,5 +1,5 @@
 -- What is found at the front of a text, as the private functions compute it.
-use Rattle.std.specs.Prelude.{ℕ, zero, suc, ◌+◌, ◌-◌, Bool, true, false, not, ◌&&◌, ◌||◌, ◌==◌, nat_lt, if◌then◌else◌, List, [], ◌∷◌, length, drop, Option, Some, None, Result, Ok, Err}
+use Rattle.std.specs.Prelude.{ℕ, zero, suc, ◌+◌, Bool, false, not, ◌&&◌, ◌||◌, ◌==◌, nat_lt, if◌then◌else◌, [], ◌∷◌, length, drop, Option, Some, None, Ok, Err}
 use Rattle.std.specs.List.{prefix_len}
 use Rattle.std.specs.Char.{is_ascii_digit}
 use Rattle.ds2_base.specs.Bytes.{Bytes}
@@ -12,7 +12,7 @@ use Rattle.ds2_token.specs.Forms.{is_word_letter, is_word_part, begins_with, ope
 
 -- ---- gaps
 
--- a blank, a tabulator, or an end of line
+-- a blank, a tab, a carriage return or a line feed
 abbrev pub is_blank_byte : ℕ → Bool
 is_blank_byte c = c == 32 || c == 9 || c == 13 || c == 10
 
@@ -40,11 +40,11 @@ piece_size (c ∷ d ∷ cs) = if is_blank_byte c then 1 else (if c == 47 && d ==
 
 -- ---- forms
 
--- a token of this kind, of so many bytes
+-- a token of this kind and so many bytes
 abbrev pub token_found : TokenKind → ℕ → Found
 token_found kind size = record { form = Ok kind; size = size }
 
--- a refusal of this kind, behind so many bytes
+-- a form of so many bytes that is refused
 abbrev pub fault_found : LexKind → ℕ → Found
 fault_found kind size = record { form = Err kind; size = size }
 
@@ -85,17 +85,17 @@ number_after_digits n rest =
     else (if begins_with 46 rest then pointed_found (n + 1 + digits_len (drop 1 rest)) (drop (1 + digits_len (drop 1 rest)) rest)
     else token_found Integer n)
 
--- the number at the front of a text that begins with a digit
+-- the number at the front
 abbrev pub number_found : Bytes → Found
 number_found text = number_after_digits (digits_len text) (drop (digits_len text) text)
 
--- a mark of one byte
+-- the marks of one byte
 abbrev pub is_mark_byte : ℕ → Bool
 is_mark_byte c =
     c == 59 || c == 44 || c == 40 || c == 41 || c == 91 || c == 93 || c == 61 || c == 60 || c == 62 || c == 43 || c == 45 || c == 42
     || c == 47 || c == 38 || c == 124 || c == 94 || c == 126 || c == 46
 
--- a mark of two bytes
+-- the marks of two bytes
 abbrev pub is_mark_pair : ℕ → ℕ → Bool
 is_mark_pair c d = if d == 61 then c == 94 || c == 126 || c == 60 || c == 62 else c == 124 && d == 124
 
@@ -105,7 +105,7 @@ mark_size [] = 0
 mark_size (c ∷ []) = if is_mark_byte c then 1 else 0
 mark_size (c ∷ d ∷ cs) = if is_mark_pair c d then 2 else (if is_mark_byte c then 1 else 0)
 
--- the mark of so many bytes; none where there are none
+-- the mark of so many bytes, where there is one
 abbrev pub mark_found : ℕ → Option Found
 mark_found zero = None
 mark_found (suc n) = Some (token_found Mark (suc n))

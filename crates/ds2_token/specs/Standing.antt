@@ -40,25 +40,25 @@ LeadsTo at text [] end left = (at ≡ end) × (text ≡ left)
 LeadsTo at text (token ∷ tokens) end left =
     (rest : Bytes) × BeginsWith at text token rest × LeadsTo (place_past token.place (chars token.spelling)) rest tokens end left
 
--- why a spelling is refused: its form always is, or it breaks a limit
+-- why a spelling of this form is refused: the form always is, or the spelling breaks a limit
 abbrev pub refusal_of_form : Option (Result TokenKind LexKind) → Bytes → Option LexKind
 refusal_of_form None s = None
 refusal_of_form (Some (Err kind)) s = Some kind
 refusal_of_form (Some (Ok kind)) s = limit_fault kind s
 
--- why a text that is a form or none is refused
+-- why a spelling is refused, where it is
 abbrev pub refusal_of : Bytes → Option LexKind
 refusal_of s = refusal_of_form (form_of s) s
 
--- a text with no gap at its front begins with a character with which no form begins, or with a spelling that is refused
+-- a text begins with a character with which no form begins
 abbrev pub BeginsNoForm : Bytes → Type 0
 BeginsNoForm text = (0 < length text) × ((s rest : Bytes) → s ++ rest ≡ text → IsForm s → ⊥)
 
--- a text begins with a longest form that is refused for this
+-- a text begins with a spelling that is refused, the longest of a form there
 abbrev pub BeginsRefused : Bytes → LexKind → Type 0
 BeginsRefused text kind = (s : Bytes) × (rest : Bytes) × (text ≡ s ++ rest) × IsLongest IsForm s rest × (refusal_of s ≡ Some kind)
 
--- a text begins with what is refused for this
+-- why a text with no gap at its front is refused: no form begins it, or the one that does is refused
 abbrev pub IsRefusedFor : Bytes → LexKind → Type 0
 IsRefusedFor text kind = (BeginsNoForm text × (kind ≡ BadCharacter)) ⊎ BeginsRefused text kind
 

@@ -87,11 +87,11 @@ reserved_words =
     codes "retain" ∷ codes "return" ∷ codes "returns" ∷ codes "select" ∷ codes "set" ∷ codes "then" ∷ codes "thread" ∷
     codes "to" ∷ codes "until" ∷ codes "varchar" ∷ codes "when" ∷ codes "while" ∷ []
 
--- letters are one of them
+-- letters are a reserved word, without regard to their case
 abbrev pub spells_reserved : List ℕ → Bool
 spells_reserved letters = list_any (λ word. spells letters word) reserved_words
 
--- one of the reserved words, without regard to case
+-- a reserved word
 abbrev pub is_reserved : Token → Bool
 is_reserved t = word_kind t.kind && spells_reserved t.spelling
 

@@ -1,6 +1,7 @@
 //! From a text to its tokens.
-ghost use Rattle.std.specs.Prelude.{◌≡◌, ◌^◌, ◌<◌, ◌≤◌, [], ◌∷◌, List as Items, length, take, drop, IsTrue, Ok, Err, Some};
-ghost use Rattle.std.specs.Str.{bytes_eq, IsUtf8, IsCharBoundary};
+ghost use Rattle.std.specs.Prelude.{◌≡◌, ◌<◌, [], ◌∷◌, List as Items, length, take, drop, IsTrue, Ok, Err};
+ghost use Rattle.std.specs.Str.{bytes_eq, chars, IsUtf8, IsCharBoundary};
+ghost use Rattle.ds2_base.specs.Place.{place_past};
 ghost use Rattle.ds2_base.specs.Says.{Says};
 ghost use Rattle.ds2_base.specs.declared.place.Refusal.{Refusal as RefusalOf};
 ghost use Rattle.ds2_token.specs.Forms.{IsGap, is_quoted_form, is_text_form};
@@ -50,6 +51,13 @@ pub fn end_place(text: &Text) -> Place
     ensures { result ≡ standing.end_place text.now }
 {
     Place::start().past(without_mark(text.as_str()))
+}
+
+/// The place directly behind a token.
+fn place_behind(token: &Token) -> Place
+    ensures { result ≡ place_past token.now.place (chars token.now.spelling) }
+{
+    token.place.past(token.spelling.as_str())
 }
 
 /// How many bytes the gap at the front has.
@@ -144,7 +152,7 @@ fn read(alloc: Global, text: &str) -> Result<List<Token>, Stop<Refusal<LexKind>>
     let mut place = Place::start();
     let mut rest = without_mark(text);
     while let Some(next) = next_token(alloc, rest, place)? {
-        place = next.token.place.past(next.token.spelling.as_str());
+        place = place_behind(&next.token);
         rest = rest.split_at(next.size).1;
         tokens.push(next.token)?;
     }

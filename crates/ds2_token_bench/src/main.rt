@@ -73,7 +73,11 @@ fn show(rt: &HostRuntime, timed: bool, kilobytes: usize) -> anyhow::Result<()>
     let spent = start.elapsed(rt)?.as_nanos();
     let read = (bytes as u128).wrapping_mul(u128::from(TIMED_TURNS)).max(1);
     let tenths = spent.wrapping_mul(10) / read;
-    println!(rt; "{kilobytes} KB: {}.{} ns a byte ({count} tokens in all turns)", tenths / 10, tenths % 10)?;
+    println!(rt;
+        "{kilobytes} KB: {}.{} ns a byte ({count} tokens in all turns)",
+        tenths / 10,
+        tenths % 10
+    )?;
     Ok(())
 }
 

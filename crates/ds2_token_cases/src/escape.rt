@@ -5,7 +5,9 @@ use std::alloc::{AllocError, Global};
 fn number(digits: &str) -> Option<u32> {
     let mut value: u32 = 0;
     for c in digits.bytes() {
-        value = value.checked_mul(10)?.checked_add(u32::from(c.checked_sub(b'0')?))?;
+        value = value
+            .checked_mul(10)?
+            .checked_add(u32::from(c.checked_sub(b'0')?))?;
     }
     Some(value)
 }

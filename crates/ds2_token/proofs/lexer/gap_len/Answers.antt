@@ -1,6 +1,5 @@
-use Rattle.std.proofs.Common.{◌≡◌, ◌<◌, ◌≤◌, length, take, drop, sym, ap, ◌∙◌, arith, subst, rules}
+use Rattle.std.proofs.Common.{◌≡◌, ◌<◌, ◌≤◌, length, take, drop, sym, ap, ◌∙◌, arith}
 use Rattle.std.proofs.lemmas.List.{length-drop, drop-drop}
-use Rattle.ds2_token.specs.Forms.{IsGap}
 use Rattle.ds2_token.specs.Scan.{piece_size}
 use Rattle.ds2_token.proofs.Pieces.{gap_grows, gap_ends, gap_stops}
 use Rattle.ds2_token.proofs.LexerSteps.{gap_edge}

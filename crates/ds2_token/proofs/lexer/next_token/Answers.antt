@@ -1,7 +1,4 @@
-use Rattle.std.proofs.Common.{◌≡◌, ◌+◌, List, ℕ, Ok, Err, Some, None, sym, ap, ◌∙◌, refl, rules}
-use Rattle.std.specs.Str.{chars}
-use Rattle.ds2_base.specs.Bytes.{Bytes}
-use Rattle.ds2_base.specs.Place.{place_past}
+use Rattle.std.proofs.Common.{◌≡◌, ◌+◌, ℕ, Err, ap, rules}
 use Rattle.ds2_token.proofs.LexerSteps.{longest_along, next_is, err_next}
 use Rattle.ds2_token.proofs.lexer.next_token.Goals as goal
 

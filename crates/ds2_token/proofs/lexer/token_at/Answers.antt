@@ -1,4 +1,4 @@
-use Rattle.std.proofs.Common.{◌≡◌, Ok, Err, Some, None, sym, ap, ◌∙◌, refl, rules}
+use Rattle.std.proofs.Common.{◌≡◌, Ok, Err, Some, None, refl, rules}
 use Rattle.ds2_token.specs.Scan.{found}
 use Rattle.ds2_token.proofs.Fronts.{There}
 use Rattle.ds2_token.proofs.LexerSteps.{there_at, there_edge, quoted_at, text_at, none_at, refused_at, front_of}

@@ -1,5 +1,3 @@
-use Rattle.std.proofs.Common.{◌≡◌, subst, List, ℕ}
-use Rattle.ds2_token.specs.Standing.{IsReadOf}
 use Rattle.ds2_token.proofs.LexerSteps.{accepts_of, refuses_of, read_along}
 use Rattle.ds2_token.proofs.lexer.tokens.Goals as goal
 
