@@ -1,0 +1,43 @@
+//! What holds of any list of instructions.
+ghost use Rattle.ds2_code.specs.CodeLaws.{RunHasOneEnd, RunsCountAlike, UnitsCountAlike, InstructionsLeaveLess, UnitsBeginWithLittle, UnitsEndInTime, UnitsArePaid, UnitsHaveTheirEnd};
+
+/// A run has one end, after one number of instructions, however long it is followed.
+pub fn run_has_one_end()
+    ensures { RunHasOneEnd }
+{}
+
+/// The way of a run tells how many instructions it executes.
+pub fn runs_count_alike()
+    ensures { RunsCountAlike }
+{}
+
+/// The way of a unit tells how many instructions it executes, whatever its budget and data.
+pub fn units_count_alike()
+    ensures { UnitsCountAlike }
+{}
+
+/// Where each jump goes forward or to a step of the budget, each instruction that does not end a run leaves less work: the
+/// measure of a loop that executes code.
+pub fn instructions_leave_less()
+    ensures { InstructionsLeaveLess }
+{}
+
+/// A unit begins with at most (budget + 1) times as much work as the list is long.
+pub fn units_begin_with_little()
+    ensures { UnitsBeginWithLittle }
+{}
+
+/// So it comes to an end after at most (budget + 1) times as many instructions as the list is long.
+pub fn units_end_in_time()
+    ensures { UnitsEndInTime }
+{}
+
+/// It executes at most (steps and calls begun + 1) times as many.
+pub fn units_are_paid()
+    ensures { UnitsArePaid }
+{}
+
+/// Where no run leaves the list either, its run is over within the bound, and has no other end.
+pub fn units_have_their_end()
+    ensures { UnitsHaveTheirEnd }
+{}
