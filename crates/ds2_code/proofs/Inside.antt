@@ -13,7 +13,7 @@ use Rattle.ds2_code.specs.declared.parts.ProgramParts.{ProgramParts}
 use Rattle.ds2_code.specs.Desk.{Desk, pushed, Taken, take_off, with_value_for, with_result_for, loaded_value, top_into, without_top}
 use Rattle.ds2_code.specs.HashCalls.{hash_called, iterator_called}
 use Rattle.ds2_code.specs.InstructionTable.{Kind, Pure, Partial, Loads, Stores, Drops, CallsHash, CallsIterator, Writes, Puts, Ticks, Jumps, Tests, Calls, Returns, Raises, Finishes, kind_of}
-use Rattle.ds2_code.specs.CodeRun.{CallFrame, MachineState, CodeEnd, NextState, GoesOn, Stops, on_desk, on_result, on_step, on_outcome, on_condition, on_arguments, on_method, method_result, on_callee, on_return, on_output, on_texts, perform, after_instruction, RunState, UnderWay, Over, and_one, then_run, run_code}
+use Rattle.ds2_code.specs.CodeRun.{CallFrame, MachineState, CodeEnd, NextState, GoesOn, Stops, on_desk, on_result, on_step, on_outcome, on_condition, on_arguments, on_method, method_result, on_callee, on_return, on_output, on_texts, perform, after_instruction, CodeRun, UnderWay, Over, and_one, then_run, run_code}
 use Rattle.ds2_code.specs.CodeBound.{jump_target, falls_through, StaysInList}
 use Rattle.ds2_code.specs.CodeLaws.{HasComeToAnEnd, UnitsHaveTheirEnd}
 use Rattle.ds2_code.specs.CodeUnit.{unit_begun, most_executed}
@@ -33,7 +33,7 @@ abbrev NextInside : List Instr → NextState → Type 0
 NextInside instrs (GoesOn m) = Inside instrs m
 NextInside instrs (Stops e) = Unit {0}
 
-abbrev StateInside : List Instr → RunState → Type 0
+abbrev StateInside : List Instr → CodeRun → Type 0
 StateInside instrs (UnderWay m) = Inside instrs m
 StateInside instrs (Over n e) = Unit {0}
 
@@ -124,7 +124,7 @@ module _ (code : ProgramParts) (closed : StaysInList code) (m : MachineState) (i
   instruction_inside (Some i) here = kind_inside i here (kind_of i) refl
 
 module _ (code : ProgramParts) (closed : StaysInList code) where
-  inside_more : (s : RunState) → StateInside code.instrs s → StateInside code.instrs (and_one s)
+  inside_more : (s : CodeRun) → StateInside code.instrs s → StateInside code.instrs (and_one s)
   inside_more (UnderWay m) h = h
   inside_more (Over n e) h = tt
 
@@ -143,10 +143,10 @@ some_there (i ∷ instrs) zero h e = cc
 some_there (i ∷ instrs) (suc at) h e = some_there instrs at (omega (arith, h)) e
 
 -- a run that is over within so many instructions
-abbrev IsOver : ℕ → RunState → Type 0
+abbrev IsOver : ℕ → CodeRun → Type 0
 IsOver most s = (n : ℕ) × (e : CodeEnd) × (s ≡ Over n e) × (n ≤ most)
 
-over : (code : ProgramParts) (most : ℕ) (s : RunState) → HasComeToAnEnd code most s → StateInside code.instrs s → IsOver most s
+over : (code : ProgramParts) (most : ℕ) (s : CodeRun) → HasComeToAnEnd code most s → StateInside code.instrs s → IsOver most s
 over code most (UnderWay m) h k = absurd (some_there code.instrs m.at k.here h)
 over code most (Over n e) h k = (n, e, refl, h)
 

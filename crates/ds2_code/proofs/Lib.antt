@@ -1,6 +1,9 @@
+pub mod Counts
 pub mod Inside
 pub mod InstructionsFall
 pub mod Lockstep
+pub mod NeverStuck
 pub mod Paid
+pub mod Points
 pub mod RunsEnd
 pub mod WorkFalls

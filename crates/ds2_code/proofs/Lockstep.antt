@@ -16,8 +16,8 @@ use Rattle.ds2_code.specs.declared.parts.ProgramParts.{ProgramParts}
 use Rattle.ds2_code.specs.Desk.{Desk, Taken, take_off, with_value_for, with_result_for, top_into, without_top}
 use Rattle.ds2_code.specs.HashCalls.{hash_called, iterator_called}
 use Rattle.ds2_code.specs.InstructionTable.{Kind, Pure, Partial, Loads, Stores, Drops, CallsHash, CallsIterator, Writes, Puts, Ticks, Jumps, Tests, Calls, Returns, Raises, Finishes, kind_of}
-use Rattle.ds2_code.specs.CodeRun.{CallFrame, MachineState, CodeEnd, Halted, Broken, Stuck, NextState, GoesOn, Stops, on_desk, on_result, on_step, on_outcome, on_condition, on_arguments, on_method, method_result, on_callee, on_return, on_output, on_texts, perform, after_instruction, RunState, UnderWay, Over, then_run, run_code}
-use Rattle.ds2_code.specs.CodeLaws.{IsNotStuck, way_of_end, returns_of, RunsCountAlike, unit_way, unit_executed, UnitsCountAlike}
+use Rattle.ds2_code.specs.CodeRun.{CallFrame, MachineState, CodeEnd, Halted, Broken, Stuck, NextState, GoesOn, Stops, on_desk, on_result, on_step, on_outcome, on_condition, on_arguments, on_method, method_result, on_callee, on_return, on_output, on_texts, perform, after_instruction, CodeRun, UnderWay, Over, then_run, run_code}
+use Rattle.ds2_code.specs.CodeLaws.{IsNotStuck, way_of_end, return_places, RunsCountAlike, unit_way, unit_executed, UnitsCountAlike}
 use Rattle.ds2_code.specs.CodeUnit.{unit_begun, outcome_of_run, most_executed}
 use Rattle.ds2_code.proofs.RunsEnd.{one_less}
 
@@ -33,7 +33,7 @@ at_end (Broken f r) = Halt
 at_end Stuck = Jam
 
 abbrev control : NextState → Control
-control (GoesOn m) = At m.at (returns_of m.frames)
+control (GoesOn m) = At m.at (return_places m.frames)
 control (Stops e) = at_end e
 
 abbrev after : NextState → List Event
@@ -47,15 +47,15 @@ data Law (w : List Event) (x y : NextState) : Type 0 where
   quiet : after x ≡ w → after y ≡ w → control x ≡ control y → Law w x y
   marked : (a b : Event) → after x ≡ w ++ a ∷ [] → after y ≡ w ++ b ∷ [] → (a ≡ b → control x ≡ control y) → Law w x y
 
-module _ (m u : MachineState) (same_at : m.at ≡ u.at) (same_calls : returns_of m.frames ≡ returns_of u.frames) (same_way : u.progress.way ≡ m.progress.way) where
-  next : At (m.at + 1) (returns_of m.frames) ≡ At (u.at + 1) (returns_of u.frames)
-  next = ap (λ n. At (n + 1) (returns_of m.frames)) same_at ∙ ap (λ r. At (u.at + 1) r) same_calls
+module _ (m u : MachineState) (same_at : m.at ≡ u.at) (same_calls : return_places m.frames ≡ return_places u.frames) (same_way : u.progress.way ≡ m.progress.way) where
+  next : At (m.at + 1) (return_places m.frames) ≡ At (u.at + 1) (return_places u.frames)
+  next = ap (λ n. At (n + 1) (return_places m.frames)) same_at ∙ ap (λ r. At (u.at + 1) r) same_calls
 
-  there : (t : ℕ) → At t (returns_of m.frames) ≡ At t (returns_of u.frames)
+  there : (t : ℕ) → At t (return_places m.frames) ≡ At t (return_places u.frames)
   there t = ap (λ r. At t r) same_calls
 
-  deeper : (t : ℕ) → At t ((m.at + 1) ∷ returns_of m.frames) ≡ At t ((u.at + 1) ∷ returns_of u.frames)
-  deeper t = ap (λ n. At t ((n + 1) ∷ returns_of m.frames)) same_at ∙ ap (λ r. At t ((u.at + 1) ∷ r)) same_calls
+  deeper : (t : ℕ) → At t ((m.at + 1) ∷ return_places m.frames) ≡ At t ((u.at + 1) ∷ return_places u.frames)
+  deeper t = ap (λ n. At t ((n + 1) ∷ return_places m.frames)) same_at ∙ ap (λ r. At t ((u.at + 1) ∷ r)) same_calls
 
   mark : (a : Event) → u.progress.way ++ a ∷ [] ≡ m.progress.way ++ a ∷ []
   mark a = ap (λ w. w ++ a ∷ []) same_way
@@ -124,12 +124,12 @@ module _ (m u : MachineState) (same_at : m.at ≡ u.at) (same_calls : returns_of
   method_law c (Some k) =
       arguments_law c k (take_off (length k.parameters) [] m.desk.stack) (take_off (length k.parameters) [] u.desk.stack) m.progress.left u.progress.left (nat_lt (length m.frames) CALL_DEPTH) (nat_lt (length u.frames) CALL_DEPTH)
 
-  callee_law : (r s : Row) (o p : Option MethodPart) (f g : CallFrame) (fs gs : List CallFrame) → returns_of (f ∷ fs) ≡ returns_of (g ∷ gs) → Law m.progress.way (on_callee r o f fs m) (on_callee s p g gs u)
+  callee_law : (r s : Row) (o p : Option MethodPart) (f g : CallFrame) (fs gs : List CallFrame) → return_places (f ∷ fs) ≡ return_places (g ∷ gs) → Law m.progress.way (on_callee r o f fs m) (on_callee s p g gs u)
   callee_law r s None p f g fs gs h = jams_left refl
   callee_law r s (Some k) None f g fs gs h = jams_right refl
   callee_law r s (Some k) (Some j) f g fs gs h = quiet refl same_way (cc h)
 
-  return_law : (code : ProgramParts) (o p : Option Row) (fs gs : List CallFrame) → returns_of fs ≡ returns_of gs → Law m.progress.way (on_return code o fs m) (on_return code p gs u)
+  return_law : (code : ProgramParts) (o p : Option Row) (fs gs : List CallFrame) → return_places fs ≡ return_places gs → Law m.progress.way (on_return code o fs m) (on_return code p gs u)
   return_law code None p fs gs h = jams_left refl
   return_law code (Some r) p [] gs h = jams_left refl
   return_law code (Some r) None (f ∷ fs) gs h = jams_right refl
@@ -195,11 +195,11 @@ end_jams (Halted d r) s j = cc
 end_jams (Broken f r) s j = cc
 end_jams Stuck s j = s
 
-end_moves : (x : NextState) (run_on : MachineState → RunState) (k : ℕ) (e : CodeEnd) → then_run x run_on ≡ Over k e → IsNotStuck e → Moves x
+end_moves : (x : NextState) (run_on : MachineState → CodeRun) (k : ℕ) (e : CodeEnd) → then_run x run_on ≡ Over k e → IsNotStuck e → Moves x
 end_moves (GoesOn m) run_on k e h s j = absurd cc
 end_moves (Stops d) run_on k e h s j = let same : d ≡ e = cc in end_jams d (subst IsNotStuck (sym same) s) j
 
-end_or_jam : (m : MachineState) (e : CodeEnd) → At m.at (returns_of m.frames) ≡ at_end e → ⊥
+end_or_jam : (m : MachineState) (e : CodeEnd) → At m.at (return_places m.frames) ≡ at_end e → ⊥
 end_or_jam m (Halted d r) h = cc
 end_or_jam m (Broken f r) h = cc
 end_or_jam m Stuck h = cc
@@ -223,7 +223,7 @@ module _ (code : ProgramParts) where
   -- runs from one place with one way, which end with one way
   abbrev Alike : ℕ → Type 0
   Alike n =
-      (k i j : ℕ) (m u : MachineState) (e f : CodeEnd) → m.at ≡ u.at → returns_of m.frames ≡ returns_of u.frames → m.progress.way ≡ u.progress.way
+      (k i j : ℕ) (m u : MachineState) (e f : CodeEnd) → m.at ≡ u.at → return_places m.frames ≡ return_places u.frames → m.progress.way ≡ u.progress.way
       → run_code code n m ≡ Over i e → run_code code k u ≡ Over j f → IsNotStuck e → IsNotStuck f → way_of_end e ≡ way_of_end f → i ≡ j
 
   pair : (n : ℕ) → Alike n → (k i j : ℕ) (x y : NextState) (e f : CodeEnd) → (control x ≡ control y) × (after y ≡ after x) → then_run x (run_code code n) ≡ Over i e → then_run y (run_code code k) ≡ Over j f → IsNotStuck e → IsNotStuck f → way_of_end e ≡ way_of_end f → i ≡ j
@@ -231,7 +231,7 @@ module _ (code : ProgramParts) where
       let a = one_less (run_code code n m) i e g in
       let b = one_less (run_code code k u) j f h in
       let at : m.at ≡ u.at = cc (c.0) in
-      let returns : returns_of m.frames ≡ returns_of u.frames = cc (c.0) in
+      let returns : return_places m.frames ≡ return_places u.frames = cc (c.0) in
       a.2 ∙ ap (λ z. suc z) (ih k a.0 b.0 m u e f at returns (sym (c.1)) a.1 b.1 s t w) ∙ sym b.2
   pair n ih k i j (Stops d) (Stops b) e f c g h s t w = cc
   pair n ih k i j (GoesOn m) (Stops d) e f c g h s t w = absurd (end_or_jam m d (c.0))
@@ -253,10 +253,10 @@ pub runs_count_alike : RunsCountAlike
 runs_count_alike code n k i j m u e f at returns way g h s t w = lockstep code n k i j m u e f at returns way g h s t w
 
 -- the end of a unit that has one
-abbrev EndOfRun : RunState → Type 0
+abbrev EndOfRun : CodeRun → Type 0
 EndOfRun s = (n : ℕ) × (e : CodeEnd) × (s ≡ Over n e) × (IsNotStuck e) × (unit_executed (outcome_of_run s) ≡ n) × (unit_way (outcome_of_run s) ≡ way_of_end e)
 
-was_over : (s : RunState) → IsTrue (has_end (outcome_of_run s)) → EndOfRun s
+was_over : (s : CodeRun) → IsTrue (has_end (outcome_of_run s)) → EndOfRun s
 was_over (Over n (Halted state p)) h = (n, Halted state p, refl, tt, refl, refl)
 was_over (Over n (Broken fault p)) h = (n, Broken fault p, refl, tt, refl, refl)
 was_over (Over n Stuck) h = absurd cc

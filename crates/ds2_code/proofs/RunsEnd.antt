@@ -5,14 +5,14 @@ use Rattle.ds2_code.specs.declared.instr.Instr.{Instr}
 use Rattle.ds2_code.specs.declared.parts.ProgramParts.{ProgramParts}
 use Rattle.ds2_code.specs.CodeBound.{HasBoundedJumps, work_left}
 use Rattle.ds2_code.specs.CodeLaws.{RunHasOneEnd, InstructionsLeaveLess, UnitsBeginWithLittle, HasComeToAnEnd, UnitsEndInTime}
-use Rattle.ds2_code.specs.CodeRun.{MachineState, CodeEnd, NextState, GoesOn, Stops, perform, after_instruction, RunState, UnderWay, Over, and_one, then_run, run_code}
+use Rattle.ds2_code.specs.CodeRun.{MachineState, CodeEnd, NextState, GoesOn, Stops, perform, after_instruction, CodeRun, UnderWay, Over, and_one, then_run, run_code}
 use Rattle.ds2_code.specs.CodeUnit.{unit_begun, most_executed}
 use Rattle.ds2_code.specs.InstructionTable.{kind_of}
 use Rattle.ds2_code.proofs.WorkFalls.{some_work, most_work}
 use Rattle.ds2_code.proofs.InstructionsFall.{instruction_falls}
 
 module _ (code : ProgramParts) (bounded : HasBoundedJumps code.instrs) where
-  within_more : (n : ℕ) (s : RunState) → HasComeToAnEnd code n s → HasComeToAnEnd code (suc n) (and_one s)
+  within_more : (n : ℕ) (s : CodeRun) → HasComeToAnEnd code n s → HasComeToAnEnd code (suc n) (and_one s)
   within_more n (UnderWay m) h = h
   within_more n (Over k e) h = omega (arith, h)
 
@@ -50,10 +50,10 @@ units_end_in_time code entry budget state bounded =
     ended code bounded (most_executed code budget) (unit_begun entry budget state) (most_work code.instrs entry budget)
 
 -- what a longer run_code says of the rest
-abbrev pub Before : RunState → ℕ → CodeEnd → Type 0
+abbrev pub Before : CodeRun → ℕ → CodeEnd → Type 0
 Before s k e = (j : ℕ) × (s ≡ Over j e) × (k ≡ suc j)
 
-pub one_less : (s : RunState) (k : ℕ) (e : CodeEnd) → and_one s ≡ Over k e → Before s k e
+pub one_less : (s : CodeRun) (k : ℕ) (e : CodeEnd) → and_one s ≡ Over k e → Before s k e
 one_less (UnderWay m) k e h = absurd cc
 one_less (Over j f) k e h = let same : f ≡ e = cc in let n : k ≡ suc j = cc in (j, ap (λ z. Over j z) same, n)
 

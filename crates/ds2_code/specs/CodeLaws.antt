@@ -4,7 +4,7 @@ use Rattle.ds2_value.specs.Progress.{UnitOutcome, Completed, Interrupted, Straye
 use Rattle.ds2_value.specs.Run.{Event}
 use Rattle.ds2_code.specs.declared.parts.ProgramParts.{ProgramParts}
 use Rattle.ds2_code.specs.CodeBound.{HasBoundedJumps, StaysInList, work_left}
-use Rattle.ds2_code.specs.CodeRun.{CallFrame, MachineState, CodeEnd, Halted, Broken, Stuck, GoesOn, after_instruction, RunState, UnderWay, Over, run_code}
+use Rattle.ds2_code.specs.CodeRun.{CallFrame, MachineState, CodeEnd, Halted, Broken, Stuck, GoesOn, after_instruction, CodeRun, UnderWay, Over, run_code}
 use Rattle.ds2_code.specs.CodeUnit.{unit_begun, most_executed, code_unit}
 use Rattle.ds2_code.specs.Desk.{ProgramData}
 
@@ -37,13 +37,13 @@ left_of_end (Broken fault p) = p.left
 left_of_end Stuck = 0
 
 -- where the callers that wait go on
-abbrev pub returns_of : List CallFrame → List ℕ
-returns_of frames = map (λ (f : CallFrame). f.to) frames
+abbrev pub return_places : List CallFrame → List ℕ
+return_places frames = map (λ (f : CallFrame). f.to) frames
 
 -- two runs from one place, with callers that go on at equal places, whose ways are equal execute equally many instructions
 abbrev pub RunsCountAlike : Type 0
 RunsCountAlike =
-    (code : ProgramParts) (n k i j : ℕ) (m u : MachineState) (e f : CodeEnd) → m.at ≡ u.at → returns_of m.frames ≡ returns_of u.frames
+    (code : ProgramParts) (n k i j : ℕ) (m u : MachineState) (e f : CodeEnd) → m.at ≡ u.at → return_places m.frames ≡ return_places u.frames
     → m.progress.way ≡ u.progress.way → run_code code n m ≡ Over i e → run_code code k u ≡ Over j f → IsNotStuck e → IsNotStuck f
     → way_of_end e ≡ way_of_end f → i ≡ j
 
@@ -87,7 +87,7 @@ UnitsBeginWithLittle =
     (code : ProgramParts) (entry budget : ℕ) (state : ProgramData) → work_left code.instrs (unit_begun entry budget state) ≤ most_executed code budget
 
 -- a run of so many instructions is over, or there is no instruction where it has come to
-abbrev pub HasComeToAnEnd : ProgramParts → ℕ → RunState → Type 0
+abbrev pub HasComeToAnEnd : ProgramParts → ℕ → CodeRun → Type 0
 HasComeToAnEnd code n (Over k e) = k ≤ n
 HasComeToAnEnd code n (UnderWay m) = slice_get code.instrs m.at ≡ None
 

@@ -73,16 +73,16 @@ on_step zero place m = Stops (Broken BudgetSpent (without_step place m.progress)
 on_step (suc left) place m = goes_to (m.at + 1) m.desk (with_step place left m.progress) m
 
 -- where a test that came out so goes: to its target where that was wanted
-abbrev pub after_test : (wanted : Bool) → Bool → ℕ → ℕ → ℕ
-after_test true true target next = target
-after_test true false target next = next
-after_test false true target next = next
-after_test false false target next = target
+abbrev pub place_tested : (wanted : Bool) → Bool → ℕ → ℕ → ℕ
+place_tested true true target next = target
+place_tested true false target next = next
+place_tested false true target next = next
+place_tested false false target next = target
 
 -- a condition that came out so
 abbrev pub on_outcome : Bool → Bool → ℕ → Row → MachineState → NextState
 on_outcome wanted holds target stack m =
-    goes_to (after_test wanted holds target (m.at + 1)) (with_stack stack m.desk) (with_event (Tested holds) m.progress) m
+    goes_to (place_tested wanted holds target (m.at + 1)) (with_stack stack m.desk) (with_event (Tested holds) m.progress) m
 
 -- a test of the topmost operand
 abbrev pub on_condition : Bool → ℕ → Row → MachineState → NextState
@@ -193,21 +193,21 @@ after_instruction code None m = Stops Stuck
 after_instruction code (Some i) m = perform code (kind_of i) m
 
 -- how far a run has come: under way, or over after so many instructions
-pub data RunState : Type 0 where
-  UnderWay : MachineState → RunState
-  Over : (executed : ℕ) → CodeEnd → RunState
+pub data CodeRun : Type 0 where
+  UnderWay : MachineState → CodeRun
+  Over : (executed : ℕ) → CodeEnd → CodeRun
 
 -- the run of one instruction more
-abbrev pub and_one : RunState → RunState
+abbrev pub and_one : CodeRun → CodeRun
 and_one (UnderWay m) = UnderWay m
 and_one (Over n end) = Over (suc n) end
 
 -- goes on behind an instruction
-abbrev pub then_run : NextState → (MachineState → RunState) → RunState
+abbrev pub then_run : NextState → (MachineState → CodeRun) → CodeRun
 then_run (GoesOn m) go = and_one (go m)
 then_run (Stops end) go = Over 1 end
 
 -- a run of at most so many instructions; the one that ends it is counted
-abbrev pub run_code : ProgramParts → ℕ → MachineState → RunState
+abbrev pub run_code : ProgramParts → ℕ → MachineState → CodeRun
 run_code code zero m = UnderWay m
 run_code code (suc n) m = then_run (after_instruction code (slice_get code.instrs m.at) m) (run_code code n)

@@ -16,7 +16,7 @@ use Rattle.ds2_code.specs.declared.parts.Slot.{Slot}
 use Rattle.ds2_code.specs.declared.parts.SlotRole.{SlotRole}
 use Rattle.ds2_code.specs.declared.parts.SlotRole.TheVariants.{Cleared, Kept, Column, Flag}
 use Rattle.ds2_code.specs.Desk.{ProgramData, with_slots, with_values_in}
-use Rattle.ds2_code.specs.CodeRun.{MachineState, Halted, Broken, Stuck, RunState, UnderWay, Over, run_code}
+use Rattle.ds2_code.specs.CodeRun.{MachineState, Halted, Broken, Stuck, CodeRun, UnderWay, Over, run_code}
 
 -- ---- a unit
 
@@ -26,7 +26,7 @@ unit_begun entry budget state =
     record { at = entry; desk = record { stack = []; locals = []; state = state }; frames = []; progress = at_the_start budget }
 
 -- how a unit has ended whose run has come so far; one that is stuck, or under way, has strayed
-abbrev pub outcome_of_run : RunState → UnitOutcome ProgramData
+abbrev pub outcome_of_run : CodeRun → UnitOutcome ProgramData
 outcome_of_run (Over n (Halted state p)) = Completed state p n
 outcome_of_run (Over n (Broken fault p)) = Interrupted fault p n
 outcome_of_run (Over n Stuck) = Strayed
@@ -47,16 +47,16 @@ abbrev pub SlotSettings : Type 0
 SlotSettings = List (ℕ × Value)
 
 -- the slots behind a load
-abbrev pub with_settings : SlotSettings → Row → Row
-with_settings [] slots = slots
-with_settings (set ∷ more) slots = with_settings more (slice_set slots set.0 set.1)
+abbrev pub with_slot_settings : SlotSettings → Row → Row
+with_slot_settings [] slots = slots
+with_slot_settings (set ∷ more) slots = with_slot_settings more (slice_set slots set.0 set.1)
 
 -- a row of a table, or of a stage, as settings of its columns' slots: the last column comes first, so that of several columns
 -- with one slot the first one stays
-abbrev pub row_settings : List ℕ → Row → SlotSettings
-row_settings [] row = []
-row_settings (n ∷ ns) [] = []
-row_settings (n ∷ ns) (v ∷ row) = row_settings ns row ++ (n, v) ∷ []
+abbrev pub row_slot_settings : List ℕ → Row → SlotSettings
+row_slot_settings [] row = []
+row_slot_settings (n ∷ ns) [] = []
+row_slot_settings (n ∷ ns) (v ∷ row) = row_slot_settings ns row ++ (n, v) ∷ []
 
 -- a slot before a load: null where `run` sets it to null
 abbrev pub null_where_cleared : SlotRole → Value → Value
@@ -79,7 +79,7 @@ code_init code budget state = code_unit code code.init budget state
 
 -- `run`: what it sets to null, then the load, then its instructions
 abbrev pub code_run : ProgramParts → ℕ → SlotSettings → ProgramData → UnitOutcome ProgramData
-code_run code budget load state = code_unit code code.run budget (with_slots (with_settings load (without_cleared code.slots state.slots)) state)
+code_run code budget load state = code_unit code code.run budget (with_slots (with_slot_settings load (without_cleared code.slots state.slots)) state)
 
 -- `term`
 abbrev pub code_term : ProgramParts → ℕ → ProgramData → UnitOutcome ProgramData

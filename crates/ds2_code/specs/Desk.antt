@@ -88,14 +88,14 @@ abbrev pub with_slots : Row → ProgramData → ProgramData
 with_slots slots state = record { slots = slots; hashes = state.hashes; iterators = state.iterators; parameters = state.parameters }
 
 -- the program's data with other parameters for the thread program
-abbrev pub with_parameters : Row → ProgramData → ProgramData
-with_parameters parameters state = record { slots = state.slots; hashes = state.hashes; iterators = state.iterators; parameters = parameters }
+abbrev pub with_stage_parameters : Row → ProgramData → ProgramData
+with_stage_parameters parameters state = record { slots = state.slots; hashes = state.hashes; iterators = state.iterators; parameters = parameters }
 
 -- a value is stored; nothing changes where there is no such slot, local or parameter
 abbrev pub with_stored : StoreTarget → Value → Desk → Desk
 with_stored (IntoSlot n) v d = with_state (with_slots (slice_set d.state.slots n v) d.state) d
 with_stored (IntoLocal n) v d = record { stack = d.stack; locals = slice_set d.locals n v; state = d.state }
-with_stored (IntoParameter n) v d = with_state (with_parameters (slice_set d.state.parameters n v) d.state) d
+with_stored (IntoParameter n) v d = with_state (with_stage_parameters (slice_set d.state.parameters n v) d.state) d
 
 -- the topmost value is stored; none where there is none
 abbrev pub top_into : StoreTarget → Row → Desk → Option Desk

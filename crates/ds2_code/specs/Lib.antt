@@ -5,4 +5,6 @@ pub mod CodeUnit
 pub mod Desk
 pub mod HashCalls
 pub mod InstructionTable
+pub mod OperandTypes
 pub mod OperationCode
+pub mod ValidCode

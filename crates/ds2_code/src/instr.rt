@@ -1,4 +1,7 @@
 //! The instructions of the machine.
+ghost use Rattle.std.specs.Prelude.{◌≡◌};
+ghost use Rattle.ds2_code.specs.CodeBound.{jump_target, falls_through};
+ghost use Rattle.ds2_code.specs.InstructionTable.{kind_of};
 
 use ds2_base::Place;
 use ds2_value::{Comparison, HashFunction, IteratorFunction, Ty};
@@ -123,4 +126,26 @@ pub enum Instr {
     SetParm(u32),
     /// The end of a unit.
     End,
+}
+
+impl Instr {
+    /// Where the run may jump to behind the instruction.
+    pub fn jump_target(&self) -> Option<u32>
+        ensures { result ≡ jump_target (kind_of self.now) }
+    {
+        match self {
+            Instr::Jump(to) | Instr::JFalse(to) | Instr::JTrue(to) => Some(*to),
+            _ => None,
+        }
+    }
+
+    /// Whether the run may go on with the instruction behind it in the list.
+    pub fn falls_through(&self) -> bool
+        ensures { result ≡ falls_through (kind_of self.now) }
+    {
+        match self {
+            Instr::Jump(_) | Instr::Ret | Instr::RetV | Instr::NoWhen | Instr::End => false,
+            _ => true,
+        }
+    }
 }

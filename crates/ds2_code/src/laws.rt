@@ -1,5 +1,6 @@
-//! What holds of any list of instructions.
+//! What holds of any list of instructions, and of valid code.
 ghost use Rattle.ds2_code.specs.CodeLaws.{RunHasOneEnd, RunsCountAlike, UnitsCountAlike, InstructionsLeaveLess, UnitsBeginWithLittle, UnitsEndInTime, UnitsArePaid, UnitsHaveTheirEnd};
+ghost use Rattle.ds2_code.specs.ValidCode.{ValidCodeEnds};
 
 /// A run has one end, after one number of instructions, however long it is followed.
 pub fn run_has_one_end()
@@ -40,4 +41,10 @@ pub fn units_are_paid()
 /// Where no run leaves the list either, its run is over within the bound, and has no other end.
 pub fn units_have_their_end()
     ensures { UnitsHaveTheirEnd }
+{}
+
+/// A unit of valid code ends, at its end or by a fault, and executes at most (budget + 1) times as many instructions as the list has,
+/// whatever its data and load: no operand, caller or part that an instruction names is ever missing.
+pub fn valid_code_ends()
+    ensures { ValidCodeEnds }
 {}
