@@ -16,13 +16,13 @@ use Rattle.ds2_code.specs.declared.parts.ParameterPart.{ParameterPart}
 use Rattle.ds2_code.specs.declared.parts.ProgramParts.{ProgramParts}
 use Rattle.ds2_code.specs.CodeBound.{jump_target, falls_through}
 use Rattle.ds2_code.specs.CodeRun.{CallFrame, MachineState, Halted, Broken, Stuck, NextState, GoesOn, Stops, on_desk, on_result, on_step, on_outcome, on_condition, on_arguments, on_method, with_in_outs, method_result, on_callee, on_return, on_output, on_texts, perform, after_instruction, CodeRun, UnderWay, Over, and_one, then_run, run_code}
-use Rattle.ds2_code.specs.CodeUnit.{unit_begun, outcome_of_run, most_executed, code_unit, with_slot_settings, without_cleared}
+use Rattle.ds2_code.specs.CodeUnit.{SlotSettings, unit_begun, outcome_of_run, most_executed, code_unit, with_slot_settings, without_cleared}
 use Rattle.ds2_code.specs.CodeLaws.{HasComeToAnEnd}
 use Rattle.ds2_code.specs.Desk.{ProgramData, Desk, with_stack, pushed, Taken, take_off, with_value_for, result_above, with_result_for, StoreTarget, IntoSlot, IntoLocal, IntoParameter, loaded_value, with_stored, top_into, without_top, with_slots}
 use Rattle.ds2_code.specs.HashCalls.{hash_called, iterator_moved, iterator_called}
 use Rattle.ds2_code.specs.InstructionTable.{Kind, Pure, Partial, Loads, Stores, Drops, CallsHash, CallsIterator, Writes, Puts, Ticks, Jumps, Tests, Calls, Returns, Raises, Finishes, kind_of}
-use Rattle.ds2_code.specs.OperandTypes.{CodeRole, OfUnit, OfMethod, signature_of, types_of_parameters, types_of_locals}
-use Rattle.ds2_code.specs.ValidCode.{CodePoint, point, HasOperandTypes, stage_parameters, all_below, hash_in_range, parts_in_range, IsValidProgram, unit_entries, EndsInTime, ValidCodeEnds}
+use Rattle.ds2_code.specs.OperandTypes.{Signature, CodeRole, OfUnit, OfMethod, signature_of, types_of_parameters, types_of_locals}
+use Rattle.ds2_code.specs.ValidCode.{HasUnitsThatEnd, CodePoint, point, HasOperandTypes, stage_parameters, all_below, hash_in_range, parts_in_range, IsValidProgram, IsValidChain, unit_entries, EndsInTime, ValidCodeEnds}
 use Rattle.ds2_code.proofs.Counts.{Made, in_outs, results, one_more_where, CallCounts, ReturnCounts, CountsFor, counts}
 use Rattle.ds2_code.proofs.Points.{Here, places}
 use Rattle.ds2_code.proofs.RunsEnd.{units_end_in_time}
@@ -63,6 +63,15 @@ method_locals : (m : MethodPart) → length (types_of_locals (OfMethod (signatur
 method_locals m =
     length-append (types_of_parameters m.parameters) m.locals
     ∙ ap (λ n. n + length m.locals) (length-map m.parameters (λ (p : ParameterPart). p.ty))
+
+same_results : (a b : Signature) → OfMethod a ≡ OfMethod b → results b.returns ≡ results a.returns
+same_results a b h = let e : a ≡ b = cc in sym (ap (λ (z : Signature). results z.returns) e)
+
+no_some : {A : Type 0} (x : A) → None ≡ Some x → ⊥
+no_some x h = cc
+
+no_unit : (a : Signature) → OfMethod a ≡ OfUnit → ⊥
+no_unit a h = cc
 
 -- ---- parts that are there
 
@@ -243,7 +252,7 @@ module _ (code : ProgramParts) (stage : Option ProgramParts) (valid : IsValidPro
     callee_fine b r f fs one c k =
         let method = k.0 in
         let same_role : OfMethod c.0 ≡ OfMethod (signature_of method) = sym c.1 ∙ k.2 in
-        let same_returns : results method.returns ≡ results c.0.returns = cc same_role in
+        let same_returns : results method.returns ≡ results c.0.returns = same_results c.0 (signature_of method) same_role in
         let enough : length method.parameters ≤ length m.desk.locals = omega (arith, fine.locals, ap (λ z. length (types_of_locals z)) k.2, method_locals method) in
         subst (λ z. NextFine (on_callee r z f fs m)) (sym k.1)
         (record {
@@ -256,7 +265,7 @@ module _ (code : ProgramParts) (stage : Option ProgramParts) (valid : IsValidPro
 
     return_fine : (b : Bool) (fs : List CallFrame) → fs ≡ m.frames → Callers role fs → ReturnCounts role b (length fine.place.types)
         → NextFine (on_return code (method_result b m.desk.stack) fs m)
-    return_fine b [] same k c = absurd (let e : OfMethod c.0 ≡ OfUnit = sym c.1 ∙ k in cc)
+    return_fine b [] same k c = absurd (no_unit c.0 (sym c.1 ∙ k))
     return_fine b (f ∷ fs) same k c =
         let r = result_there b m.desk.stack (fine.operands ∙ c.2) in
         subst (λ z. NextFine (on_return code z (f ∷ fs) m)) (sym r.1) (callee_fine b r.0 f fs r.2 c k)
@@ -322,7 +331,7 @@ module _ (code : ProgramParts) (stage : Option ProgramParts) (valid : IsValidPro
   over_in_time budget (Over n (Halted state p)) h e = record { end = refl; bound = e }
   over_in_time budget (Over n (Broken fault p)) h e = record { end = refl; bound = e }
   over_in_time budget (Over n Stuck) h e = absurd h
-  over_in_time budget (UnderWay m) h e = absurd (let there = (fine_at m h).here in let none : None ≡ Some (fine_at m h).instr = sym e ∙ there in cc)
+  over_in_time budget (UnderWay m) h e = absurd (no_some (fine_at m h).instr (sym e ∙ (fine_at m h).here))
 
   unit_in_time : (k entry budget : ℕ) (state : ProgramData) → slice_get (unit_entries code) k ≡ Some entry → EndsInTime code budget (code_unit code entry budget state)
   unit_in_time k entry budget state is =
@@ -330,9 +339,20 @@ module _ (code : ProgramParts) (stage : Option ProgramParts) (valid : IsValidPro
       (run_fine (most_executed code budget) (unit_begun entry budget state) (begun_fine k entry budget state is))
       (units_end_in_time code entry budget state valid.steps)
 
-pub valid_code_ends : ValidCodeEnds
-valid_code_ends code stage budget load state valid = record {
+program_ends : (code : ProgramParts) (stage : Option ProgramParts) (budget : ℕ) (load : SlotSettings) (state : ProgramData) → IsValidProgram code stage → HasUnitsThatEnd code budget load state
+program_ends code stage budget load state valid = record {
   init = unit_in_time code stage valid 0 code.init budget state refl;
   run = unit_in_time code stage valid 1 code.run budget (with_slots (with_slot_settings load (without_cleared code.slots state.slots)) state) refl;
   term = unit_in_time code stage valid 2 code.term budget state refl;
 }
+
+-- each program of a chain is valid beside some thread program or none
+valid_in_chain : (code : ProgramParts) (stages : List ProgramParts) → IsValidChain code stages → (k : ℕ) (c : ProgramParts) → slice_get (code ∷ stages) k ≡ Some c → (s : Option ProgramParts) × IsValidProgram c s
+valid_in_chain code [] v zero c g = (None, (let w : code ≡ c = cc in subst (λ z. IsValidProgram z None) w v))
+valid_in_chain code [] v (suc k) c g = absurd cc
+valid_in_chain code (s ∷ ss) v zero c g = (Some s, (let w : code ≡ c = cc in subst (λ z. IsValidProgram z (Some s)) w v.0))
+valid_in_chain code (s ∷ ss) v (suc k) c g = valid_in_chain s ss v.1 k c g
+
+pub valid_code_ends : ValidCodeEnds
+valid_code_ends parts k code budget load state valid here =
+    let v = valid_in_chain parts.program parts.stages valid.chain k code here in program_ends code v.0 budget load state v.1

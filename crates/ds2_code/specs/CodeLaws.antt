@@ -86,12 +86,12 @@ abbrev pub UnitsBeginWithLittle : Type 0
 UnitsBeginWithLittle =
     (code : ProgramParts) (entry budget : ℕ) (state : ProgramData) → work_left code.instrs (unit_begun entry budget state) ≤ most_executed code budget
 
--- a run of so many instructions is over, or there is no instruction where it has come to
+-- a run of so many instructions is over, or has left the list: there is no instruction where it has come to
 abbrev pub HasComeToAnEnd : ProgramParts → ℕ → CodeRun → Type 0
 HasComeToAnEnd code n (Over k e) = k ≤ n
 HasComeToAnEnd code n (UnderWay m) = slice_get code.instrs m.at ≡ None
 
--- each unit comes to an end after at most (budget + 1) times the length of the list
+-- after at most (budget + 1) times the length of the list each unit has come to an end, or has left the list
 abbrev pub UnitsEndInTime : Type 0
 UnitsEndInTime =
     (code : ProgramParts) (entry budget : ℕ) (state : ProgramData) → HasBoundedJumps code.instrs

@@ -36,8 +36,8 @@ pub record MachineState : Type 0 where
   pub frames : List CallFrame
   pub progress : Progress
 
--- how a run of code ends: at its end, by a fault, or stuck, where an operand, a caller or a part of the code that an instruction
--- names is missing; valid code is never stuck
+-- how a run of code ends: at its end, by a fault, or stuck, where an operand, a caller, the next instruction, or a method, output,
+-- hash object or iterator that is named is missing; valid code is never stuck
 pub data CodeEnd : Type 0 where
   Halted : ProgramData → Progress → CodeEnd
   Broken : Fault → Progress → CodeEnd

@@ -51,12 +51,17 @@ abbrev pub with_slot_settings : SlotSettings → Row → Row
 with_slot_settings [] slots = slots
 with_slot_settings (set ∷ more) slots = with_slot_settings more (slice_set slots set.0 set.1)
 
--- a row of a table, or of a stage, as settings of its columns' slots: the last column comes first, so that of several columns
--- with one slot the first one stays
-abbrev pub row_slot_settings : List ℕ → Row → SlotSettings
-row_slot_settings [] row = []
-row_slot_settings (n ∷ ns) [] = []
-row_slot_settings (n ∷ ns) (v ∷ row) = row_slot_settings ns row ++ (n, v) ∷ []
+-- a value of a table in the type of its slot, to which it may be assigned
+abbrev pub assigned_to_slot : Option Slot → Value → Value
+assigned_to_slot None v = v
+assigned_to_slot (Some slot) v = or_null_at_fault (assign_of v slot.ty)
+
+-- a row of a table, or of a thread program, as settings of its columns' slots, each value in the type of its slot: the last column
+-- comes first, so that of several columns with one slot the first one stays
+abbrev pub row_slot_settings : List Slot → List ℕ → Row → SlotSettings
+row_slot_settings slots [] row = []
+row_slot_settings slots (n ∷ ns) [] = []
+row_slot_settings slots (n ∷ ns) (v ∷ row) = row_slot_settings slots ns row ++ (n, assigned_to_slot (slice_get slots n) v) ∷ []
 
 -- a slot before a load: null where `run` sets it to null
 abbrev pub null_where_cleared : SlotRole → Value → Value
@@ -86,11 +91,6 @@ abbrev pub code_term : ProgramParts → ℕ → ProgramData → UnitOutcome Prog
 code_term code budget state = code_unit code code.term budget state
 
 -- ---- the opening
-
--- a value of a table in the type of its slot, to which it may be assigned
-abbrev pub assigned_to_slot : Option Slot → Value → Value
-assigned_to_slot None v = v
-assigned_to_slot (Some slot) v = or_null_at_fault (assign_of v slot.ty)
 
 -- columns of a row of a table, each assigned to the type of its slot
 abbrev pub columns_for : List Slot → List ℕ → List ℕ → Row → Row

@@ -1,24 +1,31 @@
 -- Valid code: what is asked of a program's code, clause by clause. Valid code ends in time, and is never stuck.
-use Rattle.std.specs.Prelude.{◌≡◌, ◌≤◌, IsTrue, ℕ, ◌+◌, ◌==◌, nat_lt, nat_le, Bool, true, false, ◌&&◌, not, if◌then◌else◌, List, [], ◌∷◌, length, map, slice_get, Option, Some, None, bytes_eq}
-use Rattle.std.specs.Option.{option_map, option_map_or}
+use Rattle.std.specs.Prelude.{◌≡◌, ◌≤◌, IsTrue, ℕ, ◌+◌, ◌^◌, ◌==◌, nat_lt, nat_le, Bool, true, false, ◌&&◌, not, if◌then◌else◌, List, [], ◌∷◌, length, map, slice_get, Option, Some, None, bytes_eq}
+use Rattle.std.specs.Char.{to_ascii_lowercase}
 use Rattle.std.specs.List.{list_all, list_any}
-use Rattle.ds2_value.specs.Types.{join_of}
+use Rattle.std.specs.Option.{option_map, option_map_or, is_some}
+use Rattle.ds2_token.specs.Forms.{is_word_form}
+use Rattle.ds2_token.specs.Words.{spells_reserved}
+use Rattle.ds2_value.specs.Progress.{UnitOutcome, has_end}
+use Rattle.ds2_value.specs.Types.{in_bounds, join_of, fits}
+use Rattle.ds2_value.specs.Value.{is_null}
 use Rattle.ds2_value.specs.declared.schema.Column.{Column}
 use Rattle.ds2_value.specs.declared.ty.Ty.{Ty}
-use Rattle.ds2_value.specs.declared.ty.Ty.TheVariants.{BigInt}
+use Rattle.ds2_value.specs.declared.ty.Ty.TheVariants.{BigInt, Char}
 use Rattle.ds2_code.specs.declared.instr.Instr.{Instr}
 use Rattle.ds2_code.specs.declared.parts.ByPart.{ByPart}
+use Rattle.ds2_code.specs.declared.parts.Constant.{Constant}
 use Rattle.ds2_code.specs.declared.parts.HashPart.{HashPart}
 use Rattle.ds2_code.specs.declared.parts.HashTable.{HashTable}
 use Rattle.ds2_code.specs.declared.parts.MethodPart.{MethodPart}
 use Rattle.ds2_code.specs.declared.parts.OutputPart.{OutputPart}
+use Rattle.ds2_code.specs.declared.parts.ParameterPart.{ParameterPart}
 use Rattle.ds2_code.specs.declared.parts.ProgramParts.{ProgramParts}
 use Rattle.ds2_code.specs.declared.parts.ReadPart.{ReadPart}
 use Rattle.ds2_code.specs.declared.parts.ReadingPart.{ReadingPart}
 use Rattle.ds2_code.specs.declared.parts.ReadingPart.TheVariants as reading
 use Rattle.ds2_code.specs.declared.parts.Slot.{Slot}
 use Rattle.ds2_code.specs.declared.parts.StagedParts.{StagedParts}
-use Rattle.ds2_value.specs.Progress.{UnitOutcome, has_end}
+use Rattle.ds2_code.specs.declared.parts.TableReference.{TableReference}
 use Rattle.ds2_code.specs.CodeLaws.{unit_executed}
 use Rattle.ds2_code.specs.CodeUnit.{most_executed, SlotSettings, code_init, code_run, code_term}
 use Rattle.ds2_code.specs.Desk.{ProgramData}
@@ -129,6 +136,80 @@ parts_in_range code =
     (list_all (hash_in_range slots) code.hashes && (all_below (length code.hashes) code.iterators && all_below slots code.parameters))
     && (reading_in_range slots code.reading && list_all (output_in_range slots) code.outputs)
 
+-- ---- values and lists
+
+-- the name of a table: a word in lower case that is not reserved
+abbrev pub is_table_name : List ℕ → Bool
+is_table_name name = (is_word_form name && bytes_eq (map to_ascii_lowercase name) name) && not (spells_reserved name)
+
+-- a table's name, and columns with types in bounds
+abbrev pub reference_allowed : TableReference → Bool
+reference_allowed reference = is_table_name reference.name && list_all (λ (c : Column). in_bounds c.ty) reference.columns
+
+-- a CHAR
+abbrev pub is_char_type : Ty → Bool
+is_char_type (Char n) = true
+is_char_type _ = false
+
+-- a constant is a value of its type, which is in bounds and no CHAR, and is not null
+abbrev pub constant_allowed : Constant → Bool
+constant_allowed c = (in_bounds c.ty && not (is_char_type c.ty)) && (not (is_null c.value) && fits c.value c.ty)
+
+-- the types of a method are in bounds
+abbrev pub method_allowed : MethodPart → Bool
+method_allowed m = (list_all (λ (p : ParameterPart). in_bounds p.ty) m.parameters && list_all in_bounds m.locals) && option_map_or in_bounds m.returns true
+
+-- the tables of a reading are allowed, and the threads are 1 to 64
+abbrev pub reading_allowed : ReadingPart → Bool
+reading_allowed (reading.Set tables bys) = list_all (λ (r : ReadPart). reference_allowed r.table) tables
+reading_allowed (reading.Merge tables bys retains) = list_all (λ (r : ReadPart). reference_allowed r.table) tables
+reading_allowed (reading.Stage threads into) = nat_le 1 threads && nat_le threads 64
+reading_allowed reading.Once = true
+reading_allowed reading.Nothing = true
+
+-- each value is one that an object file can hold: types in bounds, constants of their types, names of tables
+abbrev pub values_allowed : ProgramParts → Bool
+values_allowed code =
+    (list_all (λ (s : Slot). in_bounds s.ty) code.slots && list_all constant_allowed code.constants)
+    && ((list_all (λ (h : HashPart). option_map_or (λ (t : HashTable). reference_allowed t.table) h.loaded true) code.hashes && list_all method_allowed code.methods)
+    && (reading_allowed code.reading && list_all (λ (o : OutputPart). is_table_name o.name) code.outputs))
+
+-- fewer than 2 ^ 32 items
+abbrev pub is_short : {A : Type 0} → List A → Bool
+is_short items = nat_lt (length items) (2 ^ 32)
+
+-- the lists of a hash object's table are short
+abbrev pub hash_table_short : HashTable → Bool
+hash_table_short t = is_short t.table.columns && (is_short t.key_columns && is_short t.data_columns)
+
+-- the lists of a hash object are short
+abbrev pub hash_short : HashPart → Bool
+hash_short h = (is_short h.key_slots && is_short h.data_slots) && option_map_or hash_table_short h.loaded true
+
+-- the lists of a method are short
+abbrev pub method_short : MethodPart → Bool
+method_short m = is_short m.parameters && is_short m.locals
+
+-- the lists of a table of a reading are short
+abbrev pub read_short : ReadPart → Bool
+read_short r = is_short r.table.columns && is_short r.slots
+
+-- the lists of a reading are short
+abbrev pub reading_short : ReadingPart → Bool
+reading_short (reading.Set tables bys) = list_all read_short tables
+reading_short (reading.Merge tables bys retains) = list_all read_short tables
+reading_short (reading.Stage threads into) = is_short into
+reading_short reading.Once = true
+reading_short reading.Nothing = true
+
+-- each list has fewer than 2 ^ 32 items
+abbrev pub lists_short : ProgramParts → Bool
+lists_short code =
+    ((is_short code.slots && is_short code.constants) && (is_short code.hashes && is_short code.iterators))
+    && (((is_short code.parameters && is_short code.methods) && (is_short code.outputs && is_short code.instrs))
+    && ((list_all hash_short code.hashes && list_all method_short code.methods)
+    && (reading_short code.reading && list_all (λ (o : OutputPart). is_short o.columns) code.outputs)))
+
 -- ---- outputs
 
 -- a name is not among names
@@ -219,13 +300,17 @@ abbrev pub stage_fits : List Slot → Option ProgramParts → List ℕ → Bool
 stage_fits slots None into = false
 stage_fits slots (Some stage) into = one_output_fits slots stage.slots stage.outputs into
 
--- the tables or the stage of a reading fit the slots
+-- the tables and BY variables of a reading fit the slots
+abbrev pub tables_fit : List Slot → List ReadPart → List ByPart → Bool
+tables_fit slots tables bys = list_all (read_fits slots bys) tables && list_all (by_fits slots) bys
+
+-- the tables or the thread program of a reading fit the slots; only a reading from a thread program has one
 abbrev pub reading_fits : List Slot → Option ProgramParts → ReadingPart → Bool
-reading_fits slots stage (reading.Set tables bys) = list_all (read_fits slots bys) tables && list_all (by_fits slots) bys
-reading_fits slots stage (reading.Merge tables bys retains) = list_all (read_fits slots bys) tables && list_all (by_fits slots) bys
+reading_fits slots stage (reading.Set tables bys) = not (is_some stage) && tables_fit slots tables bys
+reading_fits slots stage (reading.Merge tables bys retains) = not (is_some stage) && tables_fit slots tables bys
 reading_fits slots stage (reading.Stage threads into) = stage_fits slots stage into
-reading_fits slots stage reading.Once = true
-reading_fits slots stage reading.Nothing = true
+reading_fits slots stage reading.Once = not (is_some stage)
+reading_fits slots stage reading.Nothing = not (is_some stage)
 
 -- slots and layout fit the tables, and the thread program where there is one
 abbrev pub layout_fits : ProgramParts → Option ProgramParts → Bool
@@ -247,6 +332,10 @@ pub record IsValidProgram (code : ProgramParts) (stage : Option ProgramParts) : 
   pub types : (points : List CodePoint) × HasOperandTypes code (stage_parameters stage) points
   -- each number beside the instructions names a part that is there; at most 16 tables and 16 BY variables
   pub ranges : IsTrue (parts_in_range code)
+  -- each list has fewer than 2 ^ 32 items
+  pub lists : IsTrue (lists_short code)
+  -- each value is one that an object file can hold
+  pub values : IsTrue (values_allowed code)
   -- two outputs have different names
   pub outputs : IsTrue (outputs_differ code)
   -- a jump that does not go forward goes to where a step of the budget begins
@@ -259,9 +348,11 @@ abbrev pub IsValidChain : ProgramParts → List ProgramParts → Type 0
 IsValidChain code [] = IsValidProgram code None
 IsValidChain code (stage ∷ stages) = IsValidProgram code (Some stage) × IsValidChain stage stages
 
--- the code of a data program and its thread programs is valid
-abbrev pub IsValidCodeChain : StagedParts → Type 0
-IsValidCodeChain parts = IsValidChain parts.program parts.stages
+-- the code of a program and of the thread programs that it stands on is valid: a thread program has a name, and reads from none
+pub record IsValidStaged (parts : StagedParts) : Type 0 where
+  pub chain : IsValidChain parts.program parts.stages
+  pub names : IsTrue (list_all (λ (stage : ProgramParts). is_some stage.name) parts.stages)
+  pub depth : length parts.stages ≤ 1
 
 -- ---- what valid code promises
 
@@ -276,8 +367,8 @@ pub record HasUnitsThatEnd (code : ProgramParts) (budget : ℕ) (load : SlotSett
   pub run : EndsInTime code budget (code_run code budget load state)
   pub term : EndsInTime code budget (code_term code budget state)
 
--- the units of valid code end in time
+-- the units of each program of valid code end in time
 abbrev pub ValidCodeEnds : Type 0
 ValidCodeEnds =
-    (code : ProgramParts) (stage : Option ProgramParts) (budget : ℕ) (load : SlotSettings) (state : ProgramData) → IsValidProgram code stage
-    → HasUnitsThatEnd code budget load state
+    (parts : StagedParts) (k : ℕ) (code : ProgramParts) (budget : ℕ) (load : SlotSettings) (state : ProgramData) → IsValidStaged parts
+    → slice_get (parts.program ∷ parts.stages) k ≡ Some code → HasUnitsThatEnd code budget load state

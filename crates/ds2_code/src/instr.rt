@@ -7,7 +7,7 @@ use ds2_base::Place;
 use ds2_value::{Comparison, HashFunction, IteratorFunction, Ty};
 
 /// One instruction. What it takes from the operand list and what it leaves there is said as `a b -> c`, the last one on top; `Overflow`
-/// and the like are the faults that it may give. A null operand makes every operation null.
+/// and the like are the faults that it may give. A null operand makes the result null, unless it is said otherwise.
 #[derive(Clone, Copy, Debug, PartialEq, Eq)]
 pub enum Instr {
     /// `-> value` of constant k.
@@ -68,9 +68,9 @@ pub enum Instr {
     DCmp(Comparison),
     /// text text `->` 1, 0 or null.
     TCmp(Comparison),
-    /// BIGINT BIGINT `->` both hold: 1, 0 or null.
+    /// BIGINT BIGINT `->` both hold: 1, 0 or null; 0 where one is 0, also beside null.
     And,
-    /// BIGINT BIGINT `->` one of them holds: 1, 0 or null.
+    /// BIGINT BIGINT `->` one of them holds: 1, 0 or null; 1 where one holds, also beside null.
     Or,
     /// BIGINT `->` it does not hold: 1, 0 or null.
     Not,
@@ -80,11 +80,11 @@ pub enum Instr {
     DTruth,
     /// value `->` 1 where it is null, else 0.
     IsNull,
-    /// n values of one type `->` the first that is not null.
+    /// n values of one type `->` the first that is not null; null where all are.
     Choose(u32),
-    /// n numbers of one type `->` the least without the nulls.
+    /// n numbers of one type `->` the least without the nulls; null where all are.
     Least(u32),
-    /// n numbers of one type `->` the greatest without the nulls.
+    /// n numbers of one type `->` the greatest without the nulls; null where all are.
     Greatest(u32),
     /// text text `->` one behind the other, at most 1,024 characters of them.
     Cat,
@@ -114,9 +114,9 @@ pub enum Instr {
     NoWhen,
     /// A row of the values of an output's slots.
     Output(u32),
-    /// value `->` its text in a line of the log.
+    /// value `->` its text in a line of the log, `null` for null.
     Show,
-    /// n texts `->`, a line of the log with them.
+    /// n texts `->`, a line of the log with them, `null` for a null one.
     Put(u32),
     /// `-> code` of a call of a hash object.
     HCall(u32, HashFunction),

@@ -28,7 +28,7 @@ pub fn units_begin_with_little()
     ensures { UnitsBeginWithLittle }
 {}
 
-/// So it comes to an end after at most (budget + 1) times as many instructions as the list is long.
+/// So it has come to an end, or has left the list, after at most (budget + 1) times as many instructions as the list is long.
 pub fn units_end_in_time()
     ensures { UnitsEndInTime }
 {}
@@ -44,7 +44,7 @@ pub fn units_have_their_end()
 {}
 
 /// A unit of valid code ends, at its end or by a fault, and executes at most (budget + 1) times as many instructions as the list has,
-/// whatever its data and load: no operand, caller or part that an instruction names is ever missing.
+/// whatever its data and load: no operand, caller, method, output, hash object or iterator is ever missing.
 pub fn valid_code_ends()
     ensures { ValidCodeEnds }
 {}
