@@ -202,13 +202,18 @@ reading_short (reading.Stage threads into) = is_short into
 reading_short reading.Once = true
 reading_short reading.Nothing = true
 
+-- the lists of a program's parts have fewer than 2 ^ 32 items each
+abbrev pub own_lists_short : ProgramParts → Bool
+own_lists_short code =
+    (is_short code.slots && (is_short code.constants && (is_short code.hashes && is_short code.iterators)))
+    && (is_short code.parameters && (is_short code.methods && (is_short code.outputs && is_short code.instrs)))
+
 -- each list has fewer than 2 ^ 32 items
 abbrev pub lists_short : ProgramParts → Bool
 lists_short code =
-    ((is_short code.slots && is_short code.constants) && (is_short code.hashes && is_short code.iterators))
-    && (((is_short code.parameters && is_short code.methods) && (is_short code.outputs && is_short code.instrs))
+    own_lists_short code
     && ((list_all hash_short code.hashes && list_all method_short code.methods)
-    && (reading_short code.reading && list_all (λ (o : OutputPart). is_short o.columns) code.outputs)))
+    && (reading_short code.reading && list_all (λ (o : OutputPart). is_short o.columns) code.outputs))
 
 -- ---- outputs
 

@@ -7,7 +7,9 @@
 
 mod instr;
 pub mod laws;
+mod lengths;
 mod parts;
+mod ranges;
 mod rows;
 
 pub use instr::Instr;
