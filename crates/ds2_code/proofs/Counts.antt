@@ -14,8 +14,8 @@ use Rattle.ds2_code.specs.declared.parts.MethodPart.{MethodPart}
 use Rattle.ds2_code.specs.declared.parts.OutputPart.{OutputPart}
 use Rattle.ds2_code.specs.declared.parts.ParameterPart.{ParameterPart}
 use Rattle.ds2_code.specs.declared.parts.ProgramParts.{ProgramParts}
-use Rattle.ds2_code.specs.InstructionTable.{Kind, Pure, Partial, Loads, Stores, Drops, CallsHash, CallsIterator, Writes, Puts, Ticks, Jumps, Tests, Calls, Returns, Raises, Finishes, kind_of}
-use Rattle.ds2_code.specs.OperandTypes.{OperandTypes, Signature, CodeRole, OfUnit, OfMethod, OperandClass, Exactly, AnyDecimal, AnyText, AnyType, is_of_class, TakenTypes, take_classes, with_type, one_for, none_for, when_none, none_below, always, as_operand, by_scales, part_of_first, both_texts, is_number_type, chosen_types, chosen_numbers, when_there, stored_type, with_in_out_types, with_result_type, after_call_types, call_types, without_result, with_only_result, return_types, result_types, types_behind}
+use Rattle.ds2_code.specs.InstructionTable.{Kind, Pure, Partial, Loads, Stores, Drops, CallsHash, CallsIterator, Writes, Puts, Ticks, Jumps, Tests, Enters, GoesBack, Raises, Finishes, kind_of}
+use Rattle.ds2_code.specs.OperandTypes.{OperandTypes, Signature, CodeRole, OfUnit, OfMethod, OperandClass, OneType, AnyDecimal, AnyText, AnyType, is_of_class, TakenTypes, take_classes, with_type, one_for, none_for, when_none, none_below, always, as_operand, by_scales, part_of_first, both_texts, is_number_type, chosen_types, chosen_numbers, when_there, stored_type, with_in_out_types, with_result_type, after_call_types, call_types, without_result, with_only_result, return_types, result_types, types_behind}
 
 some_is : {A : Type 0} (x y : A) → Some x ≡ Some y → x ≡ y
 some_is x y h = cc
@@ -65,7 +65,7 @@ only_counts cs types after h = of (take_classes cs [] types) refl h
 
 stored_counts : (o : Option Ty) (types after : OperandTypes) → stored_type o types ≡ Some after → length types ≡ 1 + length after
 stored_counts None types after h = absurd cc
-stored_counts (Some t) types after h = none_counts (Exactly t ∷ []) types after h
+stored_counts (Some t) types after h = none_counts (OneType t ∷ []) types after h
 
 pushed_counts : (t : Ty) (types after : OperandTypes) → Some (t ∷ types) ≡ Some after → length after ≡ 1 + length types
 pushed_counts t types after h = typed_counts (Some t) types after h
@@ -80,8 +80,8 @@ same_counts types after h = sym (ap (λ z. length z) (some_is types after h))
 chosen_counts : (least n : ℕ) (types after : OperandTypes) → chosen_types least n types ≡ Some after → Made n (length types) (length after)
 chosen_counts least n [] after h = absurd cc
 chosen_counts least n (t ∷ types) after h =
-    let g = if_some (nat_le least n && nat_le n 16) (one_for (always t) (take_classes (replicate n (Exactly t)) [] (t ∷ types))) after h in
-    subst (λ z. Made z (length (t ∷ types)) (length after)) (length-replicate n (Exactly t)) (one_counts (always t) (replicate n (Exactly t)) (t ∷ types) after g)
+    let g = if_some (nat_le least n && nat_le n 16) (one_for (always t) (take_classes (replicate n (OneType t)) [] (t ∷ types))) after h in
+    subst (λ z. Made z (length (t ∷ types)) (length after)) (length-replicate n (OneType t)) (one_counts (always t) (replicate n (OneType t)) (t ∷ types) after g)
 
 number_counts : (n : ℕ) (types after : OperandTypes) → chosen_numbers n types ≡ Some after → Made n (length types) (length after)
 number_counts n [] after h = absurd cc
@@ -126,15 +126,15 @@ call_counts code m types after h = of (slice_get code.methods m) refl h
   where
     of : (o : Option MethodPart) → slice_get code.methods m ≡ o → call_types o types ≡ Some after → CallCounts code m (length types) (length after)
     of None e h = absurd cc
-    of (Some method) e h = taken (take_classes (map (λ (p : ParameterPart). Exactly p.ty) (reverse method.parameters)) [] types) refl h
+    of (Some method) e h = taken (take_classes (map (λ (p : ParameterPart). OneType p.ty) (reverse method.parameters)) [] types) refl h
       where
         classes : List OperandClass
-        classes = map (λ (p : ParameterPart). Exactly p.ty) (reverse method.parameters)
+        classes = map (λ (p : ParameterPart). OneType p.ty) (reverse method.parameters)
 
-        as_many : length (map (λ (p : ParameterPart). Exactly p.ty) (reverse method.parameters)) ≡ length method.parameters
-        as_many = length-map (reverse method.parameters) (λ (p : ParameterPart). Exactly p.ty) ∙ length-reverse method.parameters
+        as_many : length (map (λ (p : ParameterPart). OneType p.ty) (reverse method.parameters)) ≡ length method.parameters
+        as_many = length-map (reverse method.parameters) (λ (p : ParameterPart). OneType p.ty) ∙ length-reverse method.parameters
 
-        taken : (q : Option TakenTypes) → take_classes (map (λ (p : ParameterPart). Exactly p.ty) (reverse method.parameters)) [] types ≡ q
+        taken : (q : Option TakenTypes) → take_classes (map (λ (p : ParameterPart). OneType p.ty) (reverse method.parameters)) [] types ≡ q
             → after_call_types method q ≡ Some after → CallCounts code m (length types) (length after)
         taken None f h = absurd cc
         taken (Some t) f h =
@@ -143,7 +143,7 @@ call_counts code m types after h = of (slice_get code.methods m) refl h
               method,
               e,
               length t.below,
-              omega (arith, taken_counts (map (λ (p : ParameterPart). Exactly p.ty) (reverse method.parameters)) [] types t f, as_many),
+              omega (arith, taken_counts (map (λ (p : ParameterPart). OneType p.ty) (reverse method.parameters)) [] types t f, as_many),
               omega (arith, in_out_types_count method.parameters left, result_types_count method.returns t.below, ap (λ z. length z) is),
             )
 
@@ -157,7 +157,7 @@ without_counts (Some t) types after h = absurd cc
 
 only_result_counts : (r : Option Ty) (types after : OperandTypes) → with_only_result r types ≡ Some after → (length types ≡ 1) × (results r ≡ 1)
 only_result_counts None types after h = absurd cc
-only_result_counts (Some t) types after h = ((only_counts (Exactly t ∷ []) types after h).0, refl)
+only_result_counts (Some t) types after h = ((only_counts (OneType t ∷ []) types after h).0, refl)
 
 return_counts : (role : CodeRole) (types after : OperandTypes) → return_types role types ≡ Some after → ReturnCounts role false (length types)
 return_counts OfUnit types after h = absurd cc
@@ -183,8 +183,8 @@ CountsFor code role (Puts k) n a = n ≡ k + a
 CountsFor code role (Ticks p) n a = a ≡ n
 CountsFor code role (Jumps t) n a = n ≡ 0
 CountsFor code role (Tests b t) n a = (n ≡ 1) × (a ≡ 0)
-CountsFor code role (Calls m) n a = CallCounts code m n a
-CountsFor code role (Returns b) n a = ReturnCounts role b n
+CountsFor code role (Enters m) n a = CallCounts code m n a
+CountsFor code role (GoesBack b) n a = ReturnCounts role b n
 CountsFor code role (Raises f) n a = Unit {0}
 CountsFor code role Finishes n a = Unit {0}
 
@@ -197,16 +197,16 @@ module _ (code : ProgramParts) (parameters : List (Option Ty)) (role : CodeRole)
   counts (instr.LLoad n) types after h = typed_counts _ types after h
   counts (instr.LStore n) types after h = stored_counts _ types after h
   counts instr.DropTop types after h = none_counts (AnyType ∷ []) types after h
-  counts instr.IToD types after h = one_counts (always (DecimalOf 19 0)) (Exactly BigInt ∷ []) types after h
+  counts instr.IToD types after h = one_counts (always (DecimalOf 19 0)) (OneType BigInt ∷ []) types after h
   counts (instr.Rescale p s) types after h = one_counts (always (DecimalOf p s)) (AnyDecimal ∷ []) types after (if_some (in_bounds (DecimalOf p s)) _ after h)
   counts (instr.Pad n) types after h = one_counts (always (Char n)) (AnyText ∷ []) types after (if_some (in_bounds (Char n)) _ after h)
   counts (instr.Cut n) types after h = one_counts (always (Varchar n)) (AnyText ∷ []) types after (if_some (in_bounds (Varchar n)) _ after h)
-  counts instr.IAdd types after h = one_counts (always BigInt) (Exactly BigInt ∷ Exactly BigInt ∷ []) types after h
-  counts instr.ISub types after h = one_counts (always BigInt) (Exactly BigInt ∷ Exactly BigInt ∷ []) types after h
-  counts instr.IMul types after h = one_counts (always BigInt) (Exactly BigInt ∷ Exactly BigInt ∷ []) types after h
-  counts instr.INeg types after h = one_counts (always BigInt) (Exactly BigInt ∷ []) types after h
-  counts instr.IAbs types after h = one_counts (always BigInt) (Exactly BigInt ∷ []) types after h
-  counts instr.IMod types after h = one_counts (always BigInt) (Exactly BigInt ∷ Exactly BigInt ∷ []) types after h
+  counts instr.IAdd types after h = one_counts (always BigInt) (OneType BigInt ∷ OneType BigInt ∷ []) types after h
+  counts instr.ISub types after h = one_counts (always BigInt) (OneType BigInt ∷ OneType BigInt ∷ []) types after h
+  counts instr.IMul types after h = one_counts (always BigInt) (OneType BigInt ∷ OneType BigInt ∷ []) types after h
+  counts instr.INeg types after h = one_counts (always BigInt) (OneType BigInt ∷ []) types after h
+  counts instr.IAbs types after h = one_counts (always BigInt) (OneType BigInt ∷ []) types after h
+  counts instr.IMod types after h = one_counts (always BigInt) (OneType BigInt ∷ OneType BigInt ∷ []) types after h
   counts instr.DAdd types after h = one_counts (by_scales max) (AnyDecimal ∷ AnyDecimal ∷ []) types after h
   counts instr.DSub types after h = one_counts (by_scales max) (AnyDecimal ∷ AnyDecimal ∷ []) types after h
   counts instr.DMul types after h = one_counts (by_scales (λ s t. s + t)) (AnyDecimal ∷ AnyDecimal ∷ []) types after h
@@ -216,13 +216,13 @@ module _ (code : ProgramParts) (parameters : List (Option Ty)) (role : CodeRole)
   counts instr.DMod types after h = one_counts (by_scales max) (AnyDecimal ∷ AnyDecimal ∷ []) types after h
   counts instr.DFloor types after h = one_counts (always (DecimalOf 38 0)) (AnyDecimal ∷ []) types after h
   counts instr.DCeil types after h = one_counts (always (DecimalOf 38 0)) (AnyDecimal ∷ []) types after h
-  counts (instr.ICmp c) types after h = one_counts (always BigInt) (Exactly BigInt ∷ Exactly BigInt ∷ []) types after h
+  counts (instr.ICmp c) types after h = one_counts (always BigInt) (OneType BigInt ∷ OneType BigInt ∷ []) types after h
   counts (instr.DCmp c) types after h = one_counts (always BigInt) (AnyDecimal ∷ AnyDecimal ∷ []) types after h
   counts (instr.TCmp c) types after h = one_counts (always BigInt) (AnyText ∷ AnyText ∷ []) types after h
-  counts instr.And types after h = one_counts (always BigInt) (Exactly BigInt ∷ Exactly BigInt ∷ []) types after h
-  counts instr.Or types after h = one_counts (always BigInt) (Exactly BigInt ∷ Exactly BigInt ∷ []) types after h
-  counts instr.Not types after h = one_counts (always BigInt) (Exactly BigInt ∷ []) types after h
-  counts instr.ITruth types after h = one_counts (always BigInt) (Exactly BigInt ∷ []) types after h
+  counts instr.And types after h = one_counts (always BigInt) (OneType BigInt ∷ OneType BigInt ∷ []) types after h
+  counts instr.Or types after h = one_counts (always BigInt) (OneType BigInt ∷ OneType BigInt ∷ []) types after h
+  counts instr.Not types after h = one_counts (always BigInt) (OneType BigInt ∷ []) types after h
+  counts instr.ITruth types after h = one_counts (always BigInt) (OneType BigInt ∷ []) types after h
   counts instr.DTruth types after h = one_counts (always BigInt) (AnyDecimal ∷ []) types after h
   counts instr.IsNull types after h = one_counts (always BigInt) (AnyType ∷ []) types after h
   counts (instr.Choose n) types after h = chosen_counts 1 n types after h
@@ -230,13 +230,13 @@ module _ (code : ProgramParts) (parameters : List (Option Ty)) (role : CodeRole)
   counts (instr.Greatest n) types after h = number_counts n types after h
   counts instr.Cat types after h = one_counts both_texts (AnyText ∷ AnyText ∷ []) types after h
   counts instr.Len types after h = one_counts (always BigInt) (AnyText ∷ []) types after h
-  counts instr.Substr types after h = one_counts part_of_first (Exactly BigInt ∷ Exactly BigInt ∷ AnyText ∷ []) types after h
-  counts instr.SubFrom types after h = one_counts part_of_first (Exactly BigInt ∷ AnyText ∷ []) types after h
+  counts instr.Substr types after h = one_counts part_of_first (OneType BigInt ∷ OneType BigInt ∷ AnyText ∷ []) types after h
+  counts instr.SubFrom types after h = one_counts part_of_first (OneType BigInt ∷ AnyText ∷ []) types after h
   counts instr.Trim types after h = one_counts part_of_first (AnyText ∷ []) types after h
   counts (instr.Tick p) types after h = same_counts types after h
   counts (instr.Jump t) types after h = (none_is types after h).0
-  counts (instr.JFalse t) types after h = only_counts (Exactly BigInt ∷ []) types after h
-  counts (instr.JTrue t) types after h = only_counts (Exactly BigInt ∷ []) types after h
+  counts (instr.JFalse t) types after h = only_counts (OneType BigInt ∷ []) types after h
+  counts (instr.JTrue t) types after h = only_counts (OneType BigInt ∷ []) types after h
   counts (instr.Call m) types after h = call_counts code m types after h
   counts instr.Ret types after h = return_counts role types after h
   counts instr.RetV types after h = result_counts role types after h

@@ -12,7 +12,7 @@ use Rattle.ds2_code.specs.declared.parts.OutputPart.{OutputPart}
 use Rattle.ds2_code.specs.declared.parts.ProgramParts.{ProgramParts}
 use Rattle.ds2_code.specs.Desk.{Desk, pushed, Taken, take_off, with_value_for, with_result_for, loaded_value, top_into, without_top}
 use Rattle.ds2_code.specs.HashCalls.{hash_called, iterator_called}
-use Rattle.ds2_code.specs.InstructionTable.{Kind, Pure, Partial, Loads, Stores, Drops, CallsHash, CallsIterator, Writes, Puts, Ticks, Jumps, Tests, Calls, Returns, Raises, Finishes, kind_of}
+use Rattle.ds2_code.specs.InstructionTable.{Kind, Pure, Partial, Loads, Stores, Drops, CallsHash, CallsIterator, Writes, Puts, Ticks, Jumps, Tests, Enters, GoesBack, Raises, Finishes, kind_of}
 use Rattle.ds2_code.specs.CodeRun.{CallFrame, MachineState, CodeEnd, NextState, GoesOn, Stops, on_desk, on_result, on_step, on_outcome, on_condition, on_arguments, on_method, method_result, on_callee, on_return, on_output, on_texts, perform, after_instruction, CodeRun, UnderWay, Over, and_one, then_run, run_code}
 use Rattle.ds2_code.specs.CodeBound.{jump_target, falls_through, StaysInList}
 use Rattle.ds2_code.specs.CodeLaws.{HasComeToAnEnd, UnitsHaveTheirEnd}
@@ -114,8 +114,8 @@ module _ (code : ProgramParts) (closed : StaysInList code) (m : MachineState) (i
     kind_inside (Ticks p) is = step_inside m.progress.left p (on (Ticks p) is refl)
     kind_inside (Jumps t) is = record { here = to (Jumps t) t is refl; callers = inside }
     kind_inside (Tests b t) is = condition_inside b t m.desk.stack (on (Tests b t) is refl) (to (Tests b t) t is refl)
-    kind_inside (Calls k) is = method_inside k (slice_get code.methods k) refl (on (Calls k) is refl)
-    kind_inside (Returns b) is = return_inside (method_result b m.desk.stack) m.frames inside
+    kind_inside (Enters k) is = method_inside k (slice_get code.methods k) refl (on (Enters k) is refl)
+    kind_inside (GoesBack b) is = return_inside (method_result b m.desk.stack) m.frames inside
     kind_inside (Raises f) is = tt
     kind_inside Finishes is = tt
 

@@ -12,7 +12,7 @@ use Rattle.ds2_code.specs.declared.parts.OutputPart.{OutputPart}
 use Rattle.ds2_code.specs.declared.parts.ProgramParts.{ProgramParts}
 use Rattle.ds2_code.specs.Desk.{Desk, pushed, Taken, take_off, with_value_for, with_result_for, loaded_value, top_into, without_top}
 use Rattle.ds2_code.specs.HashCalls.{hash_called, iterator_called}
-use Rattle.ds2_code.specs.InstructionTable.{Kind, Pure, Partial, Loads, Stores, Drops, CallsHash, CallsIterator, Writes, Puts, Ticks, Jumps, Tests, Calls, Returns, Raises, Finishes, kind_of}
+use Rattle.ds2_code.specs.InstructionTable.{Kind, Pure, Partial, Loads, Stores, Drops, CallsHash, CallsIterator, Writes, Puts, Ticks, Jumps, Tests, Enters, GoesBack, Raises, Finishes, kind_of}
 use Rattle.ds2_code.specs.CodeBound.{begins_step, jump_target, IsBoundedJump, HasBoundedJumps, work_ahead, work_left}
 use Rattle.ds2_code.specs.CodeRun.{CallFrame, MachineState, GoesOn, on_desk, on_result, on_step, on_outcome, on_condition, waiting_caller, on_arguments, on_method, method_result, on_callee, on_return, on_output, on_texts, perform}
 use Rattle.ds2_code.proofs.WorkFalls.{stays, begins, enters, leaves}
@@ -119,8 +119,8 @@ module _ (code : ProgramParts) (m : MachineState) (i : Instr) (here : slice_get 
   kind_falls bounded (Ticks p) u is h = step_falls (Ticks p) is m.progress.left p u refl refl h
   kind_falls bounded (Jumps t) u is h = goes_falls (Jumps t) is _ u refl (jumps_back bounded (Jumps t) t is refl) refl refl h
   kind_falls bounded (Tests b t) u is h = condition_falls (Tests b t) is b t m.desk.stack u refl (jumps_back bounded (Tests b t) t is refl) h
-  kind_falls bounded (Calls k) u is h = method_falls (Calls k) is k (slice_get code.methods k) u refl h
-  kind_falls bounded (Returns b) u is h = return_falls (Returns b) is (method_result b m.desk.stack) m.frames u refl h
+  kind_falls bounded (Enters k) u is h = method_falls (Enters k) is k (slice_get code.methods k) u refl h
+  kind_falls bounded (GoesBack b) u is h = return_falls (GoesBack b) is (method_result b m.desk.stack) m.frames u refl h
   kind_falls bounded (Raises f) u is h = absurd cc
   kind_falls bounded Finishes u is h = absurd cc
 

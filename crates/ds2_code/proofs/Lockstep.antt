@@ -15,8 +15,8 @@ use Rattle.ds2_code.specs.declared.parts.OutputPart.{OutputPart}
 use Rattle.ds2_code.specs.declared.parts.ProgramParts.{ProgramParts}
 use Rattle.ds2_code.specs.Desk.{Desk, Taken, take_off, with_value_for, with_result_for, top_into, without_top}
 use Rattle.ds2_code.specs.HashCalls.{hash_called, iterator_called}
-use Rattle.ds2_code.specs.InstructionTable.{Kind, Pure, Partial, Loads, Stores, Drops, CallsHash, CallsIterator, Writes, Puts, Ticks, Jumps, Tests, Calls, Returns, Raises, Finishes, kind_of}
-use Rattle.ds2_code.specs.CodeRun.{CallFrame, MachineState, CodeEnd, Halted, Broken, Stuck, NextState, GoesOn, Stops, on_desk, on_result, on_step, on_outcome, on_condition, on_arguments, on_method, method_result, on_callee, on_return, on_output, on_texts, perform, after_instruction, CodeRun, UnderWay, Over, then_run, run_code}
+use Rattle.ds2_code.specs.InstructionTable.{Kind, Pure, Partial, Loads, Stores, Drops, CallsHash, CallsIterator, Writes, Puts, Ticks, Jumps, Tests, Enters, GoesBack, Raises, Finishes, kind_of}
+use Rattle.ds2_code.specs.CodeRun.{CallFrame, MachineState, CodeEnd, EndReached, Broken, Stuck, NextState, GoesOn, Stops, on_desk, on_result, on_step, on_outcome, on_condition, on_arguments, on_method, method_result, on_callee, on_return, on_output, on_texts, perform, after_instruction, CodeRun, UnderWay, Over, then_run, run_code}
 use Rattle.ds2_code.specs.CodeLaws.{IsNotStuck, way_of_end, return_places, RunsCountAlike, unit_way, unit_executed, UnitsCountAlike}
 use Rattle.ds2_code.specs.CodeUnit.{unit_begun, outcome_of_run, most_executed}
 use Rattle.ds2_code.proofs.RunsEnd.{one_less}
@@ -28,7 +28,7 @@ data Control : Type 0 where
   Jam : Control
 
 abbrev at_end : CodeEnd → Control
-at_end (Halted d r) = Halt
+at_end (EndReached d r) = Halt
 at_end (Broken f r) = Halt
 at_end Stuck = Jam
 
@@ -149,8 +149,8 @@ module _ (m u : MachineState) (same_at : m.at ≡ u.at) (same_calls : return_pla
   kind_law code (Ticks p) = step_law m.progress.left u.progress.left p
   kind_law code (Jumps t) = quiet refl same_way (there t)
   kind_law code (Tests b t) = condition_law b t m.desk.stack u.desk.stack
-  kind_law code (Calls k) = method_law k (slice_get code.methods k)
-  kind_law code (Returns b) = return_law code (method_result b m.desk.stack) (method_result b u.desk.stack) m.frames u.frames same_calls
+  kind_law code (Enters k) = method_law k (slice_get code.methods k)
+  kind_law code (GoesBack b) = return_law code (method_result b m.desk.stack) (method_result b u.desk.stack) m.frames u.frames same_calls
   kind_law code (Raises f) = marked Failed Failed refl (mark Failed) (λ e. refl)
   kind_law code Finishes = quiet refl same_way refl
 
@@ -191,7 +191,7 @@ agree w v u x y (marked a b ax ay c) p q g k e =
     (c same, ay ∙ ap (λ z. w ++ z ∷ []) (sym same) ∙ sym ax)
 
 end_jams : (e : CodeEnd) → IsNotStuck e → at_end e ≡ Jam → ⊥
-end_jams (Halted d r) s j = cc
+end_jams (EndReached d r) s j = cc
 end_jams (Broken f r) s j = cc
 end_jams Stuck s j = s
 
@@ -200,7 +200,7 @@ end_moves (GoesOn m) run_on k e h s j = absurd cc
 end_moves (Stops d) run_on k e h s j = let same : d ≡ e = cc in end_jams d (subst IsNotStuck (sym same) s) j
 
 end_or_jam : (m : MachineState) (e : CodeEnd) → At m.at (return_places m.frames) ≡ at_end e → ⊥
-end_or_jam m (Halted d r) h = cc
+end_or_jam m (EndReached d r) h = cc
 end_or_jam m (Broken f r) h = cc
 end_or_jam m Stuck h = cc
 
@@ -257,7 +257,7 @@ abbrev EndOfRun : CodeRun → Type 0
 EndOfRun s = (n : ℕ) × (e : CodeEnd) × (s ≡ Over n e) × (IsNotStuck e) × (unit_executed (outcome_of_run s) ≡ n) × (unit_way (outcome_of_run s) ≡ way_of_end e)
 
 was_over : (s : CodeRun) → IsTrue (has_end (outcome_of_run s)) → EndOfRun s
-was_over (Over n (Halted state p)) h = (n, Halted state p, refl, tt, refl, refl)
+was_over (Over n (EndReached state p)) h = (n, EndReached state p, refl, tt, refl, refl)
 was_over (Over n (Broken fault p)) h = (n, Broken fault p, refl, tt, refl, refl)
 was_over (Over n Stuck) h = absurd cc
 was_over (UnderWay m) h = absurd cc

@@ -15,12 +15,12 @@ use Rattle.ds2_code.specs.declared.parts.MethodPart.{MethodPart}
 use Rattle.ds2_code.specs.declared.parts.ParameterPart.{ParameterPart}
 use Rattle.ds2_code.specs.declared.parts.ProgramParts.{ProgramParts}
 use Rattle.ds2_code.specs.CodeBound.{jump_target, falls_through}
-use Rattle.ds2_code.specs.CodeRun.{CallFrame, MachineState, Halted, Broken, Stuck, NextState, GoesOn, Stops, on_desk, on_result, on_step, on_outcome, on_condition, on_arguments, on_method, with_in_outs, method_result, on_callee, on_return, on_output, on_texts, perform, after_instruction, CodeRun, UnderWay, Over, and_one, then_run, run_code}
-use Rattle.ds2_code.specs.CodeUnit.{SlotSettings, unit_begun, outcome_of_run, most_executed, code_unit, with_slot_settings, without_cleared}
+use Rattle.ds2_code.specs.CodeRun.{CallFrame, MachineState, EndReached, Broken, Stuck, NextState, GoesOn, Stops, on_desk, on_result, on_step, on_outcome, on_condition, on_arguments, on_method, with_in_outs, method_result, on_callee, on_return, on_output, on_texts, perform, after_instruction, CodeRun, UnderWay, Over, and_one, then_run, run_code}
+use Rattle.ds2_code.specs.CodeUnit.{unit_begun, outcome_of_run, most_executed, code_unit, without_cleared}
 use Rattle.ds2_code.specs.CodeLaws.{HasComeToAnEnd}
-use Rattle.ds2_code.specs.Desk.{ProgramData, Desk, with_stack, pushed, Taken, take_off, with_value_for, result_above, with_result_for, StoreTarget, IntoSlot, IntoLocal, IntoParameter, loaded_value, with_stored, top_into, without_top, with_slots}
+use Rattle.ds2_code.specs.Desk.{SlotSettings, with_slot_settings, ProgramData, Desk, with_stack, pushed, Taken, take_off, with_value_for, result_above, with_result_for, StoreTarget, IntoSlot, IntoLocal, IntoParameter, loaded_value, with_stored, top_into, without_top, with_slots}
 use Rattle.ds2_code.specs.HashCalls.{hash_called, iterator_moved, iterator_called}
-use Rattle.ds2_code.specs.InstructionTable.{Kind, Pure, Partial, Loads, Stores, Drops, CallsHash, CallsIterator, Writes, Puts, Ticks, Jumps, Tests, Calls, Returns, Raises, Finishes, kind_of}
+use Rattle.ds2_code.specs.InstructionTable.{Kind, Pure, Partial, Loads, Stores, Drops, CallsHash, CallsIterator, Writes, Puts, Ticks, Jumps, Tests, Enters, GoesBack, Raises, Finishes, kind_of}
 use Rattle.ds2_code.specs.OperandTypes.{Signature, CodeRole, OfUnit, OfMethod, signature_of, types_of_parameters, types_of_locals}
 use Rattle.ds2_code.specs.ValidCode.{HasUnitsThatEnd, CodePoint, point, HasOperandTypes, stage_parameters, all_below, hash_in_range, parts_in_range, IsValidProgram, IsValidChain, unit_entries, EndsInTime, ValidCodeEnds}
 use Rattle.ds2_code.proofs.Counts.{Made, in_outs, results, one_more_where, CallCounts, ReturnCounts, CountsFor, counts}
@@ -122,13 +122,13 @@ module _ (code : ProgramParts) (stage : Option ProgramParts) (valid : IsValidPro
 
   abbrev NextFine : NextState → Type 0
   NextFine (GoesOn m) = Fine m
-  NextFine (Stops (Halted state p)) = Unit {0}
+  NextFine (Stops (EndReached state p)) = Unit {0}
   NextFine (Stops (Broken fault p)) = Unit {0}
   NextFine (Stops Stuck) = ⊥
 
   abbrev StateFine : CodeRun → Type 0
   StateFine (UnderWay m) = Fine m
-  StateFine (Over n (Halted state p)) = Unit {0}
+  StateFine (Over n (EndReached state p)) = Unit {0}
   StateFine (Over n (Broken fault p)) = Unit {0}
   StateFine (Over n Stuck) = ⊥
 
@@ -289,8 +289,8 @@ module _ (code : ProgramParts) (stage : Option ProgramParts) (valid : IsValidPro
     kind_fine (Ticks p) is c = step_fine m.progress.left p (ap falls_through is) c
     kind_fine (Jumps t) is c = jump_fine t m.desk _ (ap jump_target is) (fine.operands ∙ c) refl
     kind_fine (Tests b t) is c = condition_fine b t (ap falls_through is) (ap jump_target is) c.0 c.1
-    kind_fine (Calls k) is c = method_fine k (ap falls_through is) c
-    kind_fine (Returns b) is c = return_fine b m.frames refl fine.callers c
+    kind_fine (Enters k) is c = method_fine k (ap falls_through is) c
+    kind_fine (GoesBack b) is c = return_fine b m.frames refl fine.callers c
     kind_fine (Raises f) is c = tt
     kind_fine Finishes is c = tt
 
@@ -304,13 +304,13 @@ module _ (code : ProgramParts) (stage : Option ProgramParts) (valid : IsValidPro
 
   one_more_fine : (s : CodeRun) → StateFine s → StateFine (and_one s)
   one_more_fine (UnderWay m) h = h
-  one_more_fine (Over n (Halted state p)) h = tt
+  one_more_fine (Over n (EndReached state p)) h = tt
   one_more_fine (Over n (Broken fault p)) h = tt
   one_more_fine (Over n Stuck) h = h
 
   then_fine : (n : ℕ) (x : NextState) → ((m : MachineState) → Fine m → StateFine (run_code code n m)) → NextFine x → StateFine (then_run x (run_code code n))
   then_fine n (GoesOn m) ih h = one_more_fine (run_code code n m) (ih m h)
-  then_fine n (Stops (Halted state p)) ih h = tt
+  then_fine n (Stops (EndReached state p)) ih h = tt
   then_fine n (Stops (Broken fault p)) ih h = tt
   then_fine n (Stops Stuck) ih h = h
 
@@ -328,7 +328,7 @@ module _ (code : ProgramParts) (stage : Option ProgramParts) (valid : IsValidPro
   }
 
   over_in_time : (budget : ℕ) (s : CodeRun) → StateFine s → HasComeToAnEnd code (most_executed code budget) s → EndsInTime code budget (outcome_of_run s)
-  over_in_time budget (Over n (Halted state p)) h e = record { end = refl; bound = e }
+  over_in_time budget (Over n (EndReached state p)) h e = record { end = refl; bound = e }
   over_in_time budget (Over n (Broken fault p)) h e = record { end = refl; bound = e }
   over_in_time budget (Over n Stuck) h e = absurd h
   over_in_time budget (UnderWay m) h e = absurd (no_some (fine_at m h).instr (sym e ∙ (fine_at m h).here))

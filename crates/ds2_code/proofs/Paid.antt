@@ -13,8 +13,8 @@ use Rattle.ds2_code.specs.declared.parts.OutputPart.{OutputPart}
 use Rattle.ds2_code.specs.declared.parts.ProgramParts.{ProgramParts}
 use Rattle.ds2_code.specs.Desk.{Desk, Taken, take_off, with_value_for, with_result_for, top_into, without_top}
 use Rattle.ds2_code.specs.HashCalls.{hash_called, iterator_called}
-use Rattle.ds2_code.specs.InstructionTable.{Kind, Pure, Partial, Loads, Stores, Drops, CallsHash, CallsIterator, Writes, Puts, Ticks, Jumps, Tests, Calls, Returns, Raises, Finishes, kind_of}
-use Rattle.ds2_code.specs.CodeRun.{CallFrame, MachineState, CodeEnd, Halted, Broken, Stuck, NextState, GoesOn, Stops, on_desk, on_result, on_step, on_outcome, on_condition, on_arguments, on_method, method_result, on_callee, on_return, on_output, on_texts, perform, after_instruction, CodeRun, UnderWay, Over, then_run, run_code}
+use Rattle.ds2_code.specs.InstructionTable.{Kind, Pure, Partial, Loads, Stores, Drops, CallsHash, CallsIterator, Writes, Puts, Ticks, Jumps, Tests, Enters, GoesBack, Raises, Finishes, kind_of}
+use Rattle.ds2_code.specs.CodeRun.{CallFrame, MachineState, CodeEnd, EndReached, Broken, Stuck, NextState, GoesOn, Stops, on_desk, on_result, on_step, on_outcome, on_condition, on_arguments, on_method, method_result, on_callee, on_return, on_output, on_texts, perform, after_instruction, CodeRun, UnderWay, Over, then_run, run_code}
 use Rattle.ds2_code.specs.CodeBound.{HasBoundedJumps, work_left}
 use Rattle.ds2_code.specs.CodeLaws.{IsNotStuck, left_of_end, unit_executed, unit_left, UnitsArePaid}
 use Rattle.ds2_code.specs.CodeUnit.{unit_begun, outcome_of_run, most_executed}
@@ -94,8 +94,8 @@ module _ (m : MachineState) where
   kind_left code (Ticks p) = step_left m.progress.left p
   kind_left code (Jumps t) = tt
   kind_left code (Tests b t) = condition_left b t m.desk.stack
-  kind_left code (Calls k) = method_left k (slice_get code.methods k)
-  kind_left code (Returns b) = return_left code (method_result b m.desk.stack) m.frames
+  kind_left code (Enters k) = method_left k (slice_get code.methods k)
+  kind_left code (GoesBack b) = return_left code (method_result b m.desk.stack) m.frames
   kind_left code (Raises f) = same
   kind_left code Finishes = same
 
@@ -127,7 +127,7 @@ abbrev PaidRun : ℕ → CodeRun → Type 0
 PaidRun length s = (n : ℕ) × (e : CodeEnd) × (s ≡ Over n e) × (IsNotStuck e) × (unit_executed (outcome_of_run s) + unit_left (outcome_of_run s) * length ≡ n + left_of_end e * length)
 
 paid_run : (length : ℕ) (s : CodeRun) → IsTrue (has_end (outcome_of_run s)) → PaidRun length s
-paid_run length (Over n (Halted state p)) h = (n, Halted state p, refl, tt, refl)
+paid_run length (Over n (EndReached state p)) h = (n, EndReached state p, refl, tt, refl)
 paid_run length (Over n (Broken fault p)) h = (n, Broken fault p, refl, tt, refl)
 paid_run length (Over n Stuck) h = absurd cc
 paid_run length (UnderWay m) h = absurd cc

@@ -3,7 +3,7 @@ use Rattle.std.specs.Prelude.{◌≡◌, ℕ, zero, suc, ◌+◌, ◌*◌, ◌<�
 use Rattle.ds2_code.specs.declared.instr.Instr.{Instr}
 use Rattle.ds2_code.specs.declared.parts.MethodPart.{MethodPart}
 use Rattle.ds2_code.specs.declared.parts.ProgramParts.{ProgramParts}
-use Rattle.ds2_code.specs.InstructionTable.{Kind, Ticks, Jumps, Tests, Returns, Raises, Finishes, kind_of}
+use Rattle.ds2_code.specs.InstructionTable.{Kind, Ticks, Jumps, Tests, GoesBack, Raises, Finishes, kind_of}
 use Rattle.ds2_code.specs.CodeRun.{CallFrame, MachineState}
 
 -- an instruction of this kind begins a step of the budget
@@ -25,7 +25,7 @@ jump_target _ = None
 -- behind an instruction of this kind the run may go on in the list
 abbrev pub falls_through : Kind → Bool
 falls_through (Jumps target) = false
-falls_through (Returns has_result) = false
+falls_through (GoesBack has_result) = false
 falls_through (Raises fault) = false
 falls_through Finishes = false
 falls_through _ = true

@@ -4,7 +4,7 @@ use Rattle.ds2_value.specs.Progress.{UnitOutcome, Completed, Interrupted, Straye
 use Rattle.ds2_value.specs.Run.{Event}
 use Rattle.ds2_code.specs.declared.parts.ProgramParts.{ProgramParts}
 use Rattle.ds2_code.specs.CodeBound.{HasBoundedJumps, StaysInList, work_left}
-use Rattle.ds2_code.specs.CodeRun.{CallFrame, MachineState, CodeEnd, Halted, Broken, Stuck, GoesOn, after_instruction, CodeRun, UnderWay, Over, run_code}
+use Rattle.ds2_code.specs.CodeRun.{CallFrame, MachineState, CodeEnd, EndReached, Broken, Stuck, GoesOn, after_instruction, CodeRun, UnderWay, Over, run_code}
 use Rattle.ds2_code.specs.CodeUnit.{unit_begun, most_executed, code_unit}
 use Rattle.ds2_code.specs.Desk.{ProgramData}
 
@@ -20,19 +20,19 @@ RunHasOneEnd =
 
 -- a run is not stuck
 abbrev pub IsNotStuck : CodeEnd → Type 0
-IsNotStuck (Halted state p) = Unit {0}
+IsNotStuck (EndReached state p) = Unit {0}
 IsNotStuck (Broken fault p) = Unit {0}
 IsNotStuck Stuck = ⊥
 
 -- the way of a run that has ended
 abbrev pub way_of_end : CodeEnd → List Event
-way_of_end (Halted state p) = p.way
+way_of_end (EndReached state p) = p.way
 way_of_end (Broken fault p) = p.way
 way_of_end Stuck = []
 
 -- what is left of the budget of a run that has ended
 abbrev pub left_of_end : CodeEnd → ℕ
-left_of_end (Halted state p) = p.left
+left_of_end (EndReached state p) = p.left
 left_of_end (Broken fault p) = p.left
 left_of_end Stuck = 0
 

@@ -18,7 +18,7 @@ use Rattle.ds2_code.specs.declared.parts.ParameterPart.{ParameterPart}
 use Rattle.ds2_code.specs.declared.parts.ProgramParts.{ProgramParts}
 use Rattle.ds2_code.specs.Desk.{ProgramData, Desk, with_stack, pushed, Taken, take_off, with_value_for, with_result_for, loaded_value, top_into, without_top, values_of_slots}
 use Rattle.ds2_code.specs.HashCalls.{hash_called, iterator_called}
-use Rattle.ds2_code.specs.InstructionTable.{Kind, Pure, Partial, Loads, Stores, Drops, CallsHash, CallsIterator, Writes, Puts, Ticks, Jumps, Tests, Calls, Returns, Raises, Finishes, kind_of}
+use Rattle.ds2_code.specs.InstructionTable.{Kind, Pure, Partial, Loads, Stores, Drops, CallsHash, CallsIterator, Writes, Puts, Ticks, Jumps, Tests, Enters, GoesBack, Raises, Finishes, kind_of}
 
 -- a caller that waits: its operands, locals and place, where it goes on, and the method that it called
 pub record CallFrame : Type 0 where
@@ -39,7 +39,7 @@ pub record MachineState : Type 0 where
 -- how a run of code ends: at its end, by a fault, or stuck, where an operand, a caller, the next instruction, or a method, output,
 -- hash object or iterator that is named is missing; valid code is never stuck
 pub data CodeEnd : Type 0 where
-  Halted : ProgramData → Progress → CodeEnd
+  EndReached : ProgramData → Progress → CodeEnd
   Broken : Fault → Progress → CodeEnd
   Stuck : CodeEnd
 
@@ -182,10 +182,10 @@ perform code (Puts n) m = on_texts (take_off n [] m.desk.stack) m
 perform code (Ticks place) m = on_step m.progress.left place m
 perform code (Jumps target) m = goes_to target m.desk m.progress m
 perform code (Tests wanted target) m = on_condition wanted target m.desk.stack m
-perform code (Calls number) m = on_method number (slice_get code.methods number) m
-perform code (Returns has_result) m = on_return code (method_result has_result m.desk.stack) m.frames m
+perform code (Enters number) m = on_method number (slice_get code.methods number) m
+perform code (GoesBack has_result) m = on_return code (method_result has_result m.desk.stack) m.frames m
 perform code (Raises fault) m = broken_off fault m.progress
-perform code Finishes m = Stops (Halted m.desk.state m.progress)
+perform code Finishes m = Stops (EndReached m.desk.state m.progress)
 
 -- one instruction; the machine is stuck where there is none
 abbrev pub after_instruction : ProgramParts → Option Instr → MachineState → NextState

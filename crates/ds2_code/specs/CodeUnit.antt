@@ -1,5 +1,5 @@
 -- The units of a program's code, as functions that are total for any list of instructions.
-use Rattle.std.specs.Prelude.{ℕ, ◌+◌, ◌*◌, ◌++◌, List, [], ◌∷◌, length, map, replicate, slice_get, slice_set, Option, Some, None}
+use Rattle.std.specs.Prelude.{ℕ, ◌+◌, ◌*◌, ◌++◌, List, [], ◌∷◌, length, map, replicate, slice_get, Option, Some, None}
 use Rattle.ds2_value.specs.HashList.{HashItems, hash_answer}
 use Rattle.ds2_value.specs.Operations.{or_null_at_fault}
 use Rattle.ds2_value.specs.Progress.{at_the_start, UnitOutcome, Completed, Interrupted, Strayed}
@@ -15,8 +15,8 @@ use Rattle.ds2_code.specs.declared.parts.ProgramParts.{ProgramParts}
 use Rattle.ds2_code.specs.declared.parts.Slot.{Slot}
 use Rattle.ds2_code.specs.declared.parts.SlotRole.{SlotRole}
 use Rattle.ds2_code.specs.declared.parts.SlotRole.TheVariants.{Cleared, Kept, Column, Flag}
-use Rattle.ds2_code.specs.Desk.{ProgramData, with_slots, with_values_in}
-use Rattle.ds2_code.specs.CodeRun.{MachineState, Halted, Broken, Stuck, CodeRun, UnderWay, Over, run_code}
+use Rattle.ds2_code.specs.Desk.{ProgramData, with_slots, SlotSettings, with_slot_settings, with_values_in}
+use Rattle.ds2_code.specs.CodeRun.{MachineState, EndReached, Broken, Stuck, CodeRun, UnderWay, Over, run_code}
 
 -- ---- a unit
 
@@ -27,7 +27,7 @@ unit_begun entry budget state =
 
 -- how a unit has ended whose run has come so far; one that is stuck, or under way, has strayed
 abbrev pub outcome_of_run : CodeRun → UnitOutcome ProgramData
-outcome_of_run (Over n (Halted state p)) = Completed state p n
+outcome_of_run (Over n (EndReached state p)) = Completed state p n
 outcome_of_run (Over n (Broken fault p)) = Interrupted fault p n
 outcome_of_run (Over n Stuck) = Strayed
 outcome_of_run (UnderWay m) = Strayed
@@ -41,15 +41,6 @@ abbrev pub code_unit : ProgramParts → ℕ → ℕ → ProgramData → UnitOutc
 code_unit code entry budget state = outcome_of_run (run_code code (most_executed code budget) (unit_begun entry budget state))
 
 -- ---- loads
-
--- what a load sets, in order: slots and their values; of several values for one slot the last one stays
-abbrev pub SlotSettings : Type 0
-SlotSettings = List (ℕ × Value)
-
--- the slots behind a load
-abbrev pub with_slot_settings : SlotSettings → Row → Row
-with_slot_settings [] slots = slots
-with_slot_settings (set ∷ more) slots = with_slot_settings more (slice_set slots set.0 set.1)
 
 -- a value of a table in the type of its slot, to which it may be assigned
 abbrev pub assigned_to_slot : Option Slot → Value → Value

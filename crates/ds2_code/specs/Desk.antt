@@ -1,5 +1,6 @@
 -- What instructions work on, and the words that they are written with.
 use Rattle.std.specs.Prelude.{ℕ, zero, suc, List, [], ◌∷◌, Option, Some, None, Result, Ok, Err, slice_get, slice_set}
+use Rattle.std.specs.List.{zip}
 use Rattle.std.specs.Option.{option_map_or}
 use Rattle.ds2_value.specs.HashList.{HashItems}
 use Rattle.ds2_value.specs.Row.{Row}
@@ -112,8 +113,15 @@ abbrev pub values_of_slots : List ℕ → Row → Row
 values_of_slots [] slots = []
 values_of_slots (n ∷ ns) slots = or_null (slice_get slots n) ∷ values_of_slots ns slots
 
--- values into slots, in order; of several for one slot the last one stays
+-- slots and the values that they are set to, in order; of several values for one slot the last one stays
+abbrev pub SlotSettings : Type 0
+SlotSettings = List (ℕ × Value)
+
+-- slots behind such settings
+abbrev pub with_slot_settings : SlotSettings → Row → Row
+with_slot_settings [] slots = slots
+with_slot_settings (set ∷ more) slots = with_slot_settings more (slice_set slots set.0 set.1)
+
+-- values into slots, in order
 abbrev pub with_values_in : List ℕ → Row → Row → Row
-with_values_in [] values slots = slots
-with_values_in (n ∷ ns) [] slots = slots
-with_values_in (n ∷ ns) (v ∷ values) slots = with_values_in ns values (slice_set slots n v)
+with_values_in ns values slots = with_slot_settings (zip ns values) slots

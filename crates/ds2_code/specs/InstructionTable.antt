@@ -45,9 +45,9 @@ pub data Kind : Type 0 where
   -- pops a condition, and goes on at a target where it comes out so
   Tests : (wanted : Bool) → (target : ℕ) → Kind
   -- enters a method
-  Calls : (method : ℕ) → Kind
+  Enters : (method : ℕ) → Kind
   -- goes back to the caller, with a result or without one
-  Returns : (has_result : Bool) → Kind
+  GoesBack : (has_result : Bool) → Kind
   -- ends the unit by a fault
   Raises : Fault → Kind
   -- ends the unit
@@ -122,9 +122,9 @@ kind_of (instr.Tick place) = Ticks place
 kind_of (instr.Jump target) = Jumps target
 kind_of (instr.JFalse target) = Tests false target
 kind_of (instr.JTrue target) = Tests true target
-kind_of (instr.Call method) = Calls method
-kind_of instr.Ret = Returns false
-kind_of instr.RetV = Returns true
+kind_of (instr.Call method) = Enters method
+kind_of instr.Ret = GoesBack false
+kind_of instr.RetV = GoesBack true
 kind_of instr.NoWhen = Raises NoWhenFault
 kind_of (instr.Output output) = Writes output
 kind_of instr.Show = Pure 1 (of_operand line_value)

@@ -55,7 +55,7 @@ same_ty _ _ = false
 
 -- what an instruction may need of an operand: one type, a DECIMAL, a text, or nothing
 pub data OperandClass : Type 0 where
-  Exactly : Ty → OperandClass
+  OneType : Ty → OperandClass
   AnyDecimal : OperandClass
   AnyText : OperandClass
   AnyType : OperandClass
@@ -73,7 +73,7 @@ is_text_type _ = false
 
 -- an operand of this type is what is needed
 abbrev pub is_of_class : OperandClass → Ty → Bool
-is_of_class (Exactly needed) t = same_ty needed t
+is_of_class (OneType needed) t = same_ty needed t
 is_of_class AnyDecimal t = is_decimal_type t
 is_of_class AnyText t = is_text_type t
 is_of_class AnyType t = true
@@ -162,7 +162,7 @@ is_number_type _ = false
 abbrev pub chosen_types : ℕ → ℕ → OperandTypes → Option OperandTypes
 chosen_types least n [] = None
 chosen_types least n (t ∷ types) =
-    if nat_le least n && nat_le n 16 then one_for (always t) (take_classes (replicate n (Exactly t)) [] (t ∷ types)) else None
+    if nat_le least n && nat_le n 16 then one_for (always t) (take_classes (replicate n (OneType t)) [] (t ∷ types)) else None
 
 -- one number for n of its type, from 2 to 16
 abbrev pub chosen_numbers : ℕ → OperandTypes → Option OperandTypes
@@ -181,7 +181,7 @@ when_there (Some part) types = types
 -- a stored operand goes, which has exactly the type that is there
 abbrev pub stored_type : Option Ty → OperandTypes → Option OperandTypes
 stored_type None types = None
-stored_type (Some t) types = none_for (take_classes (Exactly t ∷ []) [] types)
+stored_type (Some t) types = none_for (take_classes (OneType t ∷ []) [] types)
 
 -- the in_out parameters of a call on top, in order, so that the last one lies on top
 abbrev pub with_in_out_types : List ParameterPart → OperandTypes → OperandTypes
@@ -202,7 +202,7 @@ after_call_types method (Some operands) = Some (with_in_out_types method.paramet
 abbrev pub call_types : Option MethodPart → OperandTypes → Option OperandTypes
 call_types None types = None
 call_types (Some method) types =
-    after_call_types method (take_classes (map (λ (p : ParameterPart). Exactly p.ty) (reverse method.parameters)) [] types)
+    after_call_types method (take_classes (map (λ (p : ParameterPart). OneType p.ty) (reverse method.parameters)) [] types)
 
 -- no operand stands, for a method without a result
 abbrev pub without_result : Option Ty → OperandTypes → Option OperandTypes
@@ -212,7 +212,7 @@ without_result (Some t) types = None
 -- the result alone stands, for a method with one
 abbrev pub with_only_result : Option Ty → OperandTypes → Option OperandTypes
 with_only_result None types = None
-with_only_result (Some t) types = none_below (take_classes (Exactly t ∷ []) [] types)
+with_only_result (Some t) types = none_below (take_classes (OneType t ∷ []) [] types)
 
 -- a return without a result, from a method without one
 abbrev pub return_types : CodeRole → OperandTypes → Option OperandTypes
@@ -251,17 +251,17 @@ types_behind code parameters role (instr.GStore n) types = stored_type (slot_typ
 types_behind code parameters role (instr.LLoad n) types = with_type (slice_get (types_of_locals role) n) types
 types_behind code parameters role (instr.LStore n) types = stored_type (slice_get (types_of_locals role) n) types
 types_behind code parameters role instr.DropTop types = none_for (take_classes (AnyType ∷ []) [] types)
-types_behind code parameters role instr.IToD types = one_for (always (DecimalOf 19 0)) (take_classes (Exactly BigInt ∷ []) [] types)
+types_behind code parameters role instr.IToD types = one_for (always (DecimalOf 19 0)) (take_classes (OneType BigInt ∷ []) [] types)
 types_behind code parameters role (instr.Rescale p s) types =
     when_in_bounds (DecimalOf p s) (one_for (always (DecimalOf p s)) (take_classes (AnyDecimal ∷ []) [] types))
 types_behind code parameters role (instr.Pad n) types = when_in_bounds (Char n) (one_for (always (Char n)) (take_classes (AnyText ∷ []) [] types))
 types_behind code parameters role (instr.Cut n) types = when_in_bounds (Varchar n) (one_for (always (Varchar n)) (take_classes (AnyText ∷ []) [] types))
-types_behind code parameters role instr.IAdd types = one_for (always BigInt) (take_classes (Exactly BigInt ∷ Exactly BigInt ∷ []) [] types)
-types_behind code parameters role instr.ISub types = one_for (always BigInt) (take_classes (Exactly BigInt ∷ Exactly BigInt ∷ []) [] types)
-types_behind code parameters role instr.IMul types = one_for (always BigInt) (take_classes (Exactly BigInt ∷ Exactly BigInt ∷ []) [] types)
-types_behind code parameters role instr.INeg types = one_for (always BigInt) (take_classes (Exactly BigInt ∷ []) [] types)
-types_behind code parameters role instr.IAbs types = one_for (always BigInt) (take_classes (Exactly BigInt ∷ []) [] types)
-types_behind code parameters role instr.IMod types = one_for (always BigInt) (take_classes (Exactly BigInt ∷ Exactly BigInt ∷ []) [] types)
+types_behind code parameters role instr.IAdd types = one_for (always BigInt) (take_classes (OneType BigInt ∷ OneType BigInt ∷ []) [] types)
+types_behind code parameters role instr.ISub types = one_for (always BigInt) (take_classes (OneType BigInt ∷ OneType BigInt ∷ []) [] types)
+types_behind code parameters role instr.IMul types = one_for (always BigInt) (take_classes (OneType BigInt ∷ OneType BigInt ∷ []) [] types)
+types_behind code parameters role instr.INeg types = one_for (always BigInt) (take_classes (OneType BigInt ∷ []) [] types)
+types_behind code parameters role instr.IAbs types = one_for (always BigInt) (take_classes (OneType BigInt ∷ []) [] types)
+types_behind code parameters role instr.IMod types = one_for (always BigInt) (take_classes (OneType BigInt ∷ OneType BigInt ∷ []) [] types)
 types_behind code parameters role instr.DAdd types = one_for (by_scales max) (take_classes (AnyDecimal ∷ AnyDecimal ∷ []) [] types)
 types_behind code parameters role instr.DSub types = one_for (by_scales max) (take_classes (AnyDecimal ∷ AnyDecimal ∷ []) [] types)
 types_behind code parameters role instr.DMul types = one_for (by_scales (λ s t. s + t)) (take_classes (AnyDecimal ∷ AnyDecimal ∷ []) [] types)
@@ -271,13 +271,13 @@ types_behind code parameters role instr.DAbs types = one_for as_operand (take_cl
 types_behind code parameters role instr.DMod types = one_for (by_scales max) (take_classes (AnyDecimal ∷ AnyDecimal ∷ []) [] types)
 types_behind code parameters role instr.DFloor types = one_for (always (DecimalOf 38 0)) (take_classes (AnyDecimal ∷ []) [] types)
 types_behind code parameters role instr.DCeil types = one_for (always (DecimalOf 38 0)) (take_classes (AnyDecimal ∷ []) [] types)
-types_behind code parameters role (instr.ICmp comparison) types = one_for (always BigInt) (take_classes (Exactly BigInt ∷ Exactly BigInt ∷ []) [] types)
+types_behind code parameters role (instr.ICmp comparison) types = one_for (always BigInt) (take_classes (OneType BigInt ∷ OneType BigInt ∷ []) [] types)
 types_behind code parameters role (instr.DCmp comparison) types = one_for (always BigInt) (take_classes (AnyDecimal ∷ AnyDecimal ∷ []) [] types)
 types_behind code parameters role (instr.TCmp comparison) types = one_for (always BigInt) (take_classes (AnyText ∷ AnyText ∷ []) [] types)
-types_behind code parameters role instr.And types = one_for (always BigInt) (take_classes (Exactly BigInt ∷ Exactly BigInt ∷ []) [] types)
-types_behind code parameters role instr.Or types = one_for (always BigInt) (take_classes (Exactly BigInt ∷ Exactly BigInt ∷ []) [] types)
-types_behind code parameters role instr.Not types = one_for (always BigInt) (take_classes (Exactly BigInt ∷ []) [] types)
-types_behind code parameters role instr.ITruth types = one_for (always BigInt) (take_classes (Exactly BigInt ∷ []) [] types)
+types_behind code parameters role instr.And types = one_for (always BigInt) (take_classes (OneType BigInt ∷ OneType BigInt ∷ []) [] types)
+types_behind code parameters role instr.Or types = one_for (always BigInt) (take_classes (OneType BigInt ∷ OneType BigInt ∷ []) [] types)
+types_behind code parameters role instr.Not types = one_for (always BigInt) (take_classes (OneType BigInt ∷ []) [] types)
+types_behind code parameters role instr.ITruth types = one_for (always BigInt) (take_classes (OneType BigInt ∷ []) [] types)
 types_behind code parameters role instr.DTruth types = one_for (always BigInt) (take_classes (AnyDecimal ∷ []) [] types)
 types_behind code parameters role instr.IsNull types = one_for (always BigInt) (take_classes (AnyType ∷ []) [] types)
 types_behind code parameters role (instr.Choose n) types = chosen_types 1 n types
@@ -286,13 +286,13 @@ types_behind code parameters role (instr.Greatest n) types = chosen_numbers n ty
 types_behind code parameters role instr.Cat types = one_for both_texts (take_classes (AnyText ∷ AnyText ∷ []) [] types)
 types_behind code parameters role instr.Len types = one_for (always BigInt) (take_classes (AnyText ∷ []) [] types)
 types_behind code parameters role instr.Substr types =
-    one_for part_of_first (take_classes (Exactly BigInt ∷ Exactly BigInt ∷ AnyText ∷ []) [] types)
-types_behind code parameters role instr.SubFrom types = one_for part_of_first (take_classes (Exactly BigInt ∷ AnyText ∷ []) [] types)
+    one_for part_of_first (take_classes (OneType BigInt ∷ OneType BigInt ∷ AnyText ∷ []) [] types)
+types_behind code parameters role instr.SubFrom types = one_for part_of_first (take_classes (OneType BigInt ∷ AnyText ∷ []) [] types)
 types_behind code parameters role instr.Trim types = one_for part_of_first (take_classes (AnyText ∷ []) [] types)
 types_behind code parameters role (instr.Tick place) types = Some types
 types_behind code parameters role (instr.Jump target) types = when_none types
-types_behind code parameters role (instr.JFalse target) types = none_below (take_classes (Exactly BigInt ∷ []) [] types)
-types_behind code parameters role (instr.JTrue target) types = none_below (take_classes (Exactly BigInt ∷ []) [] types)
+types_behind code parameters role (instr.JFalse target) types = none_below (take_classes (OneType BigInt ∷ []) [] types)
+types_behind code parameters role (instr.JTrue target) types = none_below (take_classes (OneType BigInt ∷ []) [] types)
 types_behind code parameters role (instr.Call m) types = call_types (slice_get code.methods m) types
 types_behind code parameters role instr.Ret types = return_types role types
 types_behind code parameters role instr.RetV types = result_types role types

@@ -6,6 +6,7 @@ use Rattle.std.specs.Option.{option_map, option_map_or, is_some}
 use Rattle.ds2_token.specs.Forms.{is_word_form}
 use Rattle.ds2_token.specs.Words.{spells_reserved}
 use Rattle.ds2_value.specs.Progress.{UnitOutcome, has_end}
+use Rattle.ds2_value.specs.Schema.{distinct_names}
 use Rattle.ds2_value.specs.Types.{in_bounds, join_of, fits}
 use Rattle.ds2_value.specs.Value.{is_null}
 use Rattle.ds2_value.specs.declared.schema.Column.{Column}
@@ -27,8 +28,8 @@ use Rattle.ds2_code.specs.declared.parts.Slot.{Slot}
 use Rattle.ds2_code.specs.declared.parts.StagedParts.{StagedParts}
 use Rattle.ds2_code.specs.declared.parts.TableReference.{TableReference}
 use Rattle.ds2_code.specs.CodeLaws.{unit_executed}
-use Rattle.ds2_code.specs.CodeUnit.{most_executed, SlotSettings, code_init, code_run, code_term}
-use Rattle.ds2_code.specs.Desk.{ProgramData}
+use Rattle.ds2_code.specs.CodeUnit.{most_executed, code_init, code_run, code_term}
+use Rattle.ds2_code.specs.Desk.{ProgramData, SlotSettings}
 use Rattle.ds2_code.specs.CodeBound.{HasBoundedJumps, jump_target, falls_through}
 use Rattle.ds2_code.specs.InstructionTable.{kind_of}
 use Rattle.ds2_code.specs.OperandTypes.{OperandTypes, CodeRole, OfUnit, OfMethod, signature_of, same_ty, slot_type, parameter_slot_types, types_behind}
@@ -252,14 +253,10 @@ is_flag_slot slots n = option_map_or (same_ty BigInt) (slot_type slots n) false
 abbrev pub is_among_numbers : ℕ → List ℕ → Bool
 is_among_numbers n numbers = list_any (λ k. n == k) numbers
 
--- the columns of a table have different names
-abbrev pub column_names_differ : List Column → Bool
-column_names_differ columns = names_differ (map (λ (c : Column). c.name) columns)
-
 -- a table of a reading fits its slots, its `in=` flag is of BIGINT, and each BY variable is a column of it
 abbrev pub read_fits : List Slot → List ByPart → ReadPart → Bool
 read_fits slots bys read =
-    (columns_fit slots read.table.columns read.slots && column_names_differ read.table.columns)
+    (columns_fit slots read.table.columns read.slots && distinct_names read.table.columns)
     && (option_map_or (is_flag_slot slots) read.present true && list_all (λ (by : ByPart). is_among_numbers by.slot read.slots) bys)
 
 -- the flags of a BY variable are of BIGINT
@@ -277,7 +274,7 @@ chosen_columns_fit slots columns (k ∷ ks) (n ∷ ns) =
 -- the table of a hash object fits its key and data variables
 abbrev pub hash_table_fits : List Slot → HashPart → HashTable → Bool
 hash_table_fits slots hash loaded =
-    column_names_differ loaded.table.columns
+    distinct_names loaded.table.columns
     && (chosen_columns_fit slots loaded.table.columns loaded.key_columns hash.key_slots && chosen_columns_fit slots loaded.table.columns loaded.data_columns hash.data_slots)
 
 -- the columns of an output have different names
@@ -353,7 +350,7 @@ abbrev pub IsValidChain : ProgramParts → List ProgramParts → Type 0
 IsValidChain code [] = IsValidProgram code None
 IsValidChain code (stage ∷ stages) = IsValidProgram code (Some stage) × IsValidChain stage stages
 
--- the code of a program and of the thread programs that it stands on is valid: a thread program has a name, and reads from none
+-- the code of a program and of the thread program that it may stand on is valid: this one has a name, and stands on none
 pub record IsValidStaged (parts : StagedParts) : Type 0 where
   pub chain : IsValidChain parts.program parts.stages
   pub names : IsTrue (list_all (λ (stage : ProgramParts). is_some stage.name) parts.stages)
