@@ -1,8 +1,11 @@
 pub mod DecimalText
 pub mod Functions
+pub mod HashList
 pub mod Hashing
 pub mod Keeping
+pub mod Operations
 pub mod Order
+pub mod Progress
 pub mod Row
 pub mod Run
 pub mod Schema

@@ -1,5 +1,6 @@
 -- The order of values: null, then numbers by what they are exactly, then texts.
-use Rattle.std.specs.Prelude.{ℕ, [], ℤ, pos, Bool}
+use Rattle.std.specs.Cmp.Lexicographic.{pointwise}
+use Rattle.std.specs.Prelude.{ℕ, [], List, ℤ, pos, Bool}
 use Rattle.std.specs.Ordering.{nat_cmp, int_cmp, on, then_cmp, eq_by_cmp}
 use Rattle.std.specs.declared.cmp.Ordering.{Ordering}
 use Rattle.ds2_base.specs.Bytes.{Bytes}
@@ -33,3 +34,7 @@ key_order = then_cmp (on rank nat_cmp) (then_cmp (on exact int_cmp) (on bytes_of
 -- two values are equal where the order does not tell them apart
 abbrev pub value_eq : Value → Value → Bool
 value_eq = eq_by_cmp key_order
+
+-- two rows, or two keys, are equal in each part
+abbrev pub same_row : List Value → List Value → Bool
+same_row = pointwise value_eq

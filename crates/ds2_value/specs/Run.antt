@@ -4,8 +4,8 @@ use Rattle.ds2_base.specs.declared.place.Place.{Place}
 use Rattle.ds2_value.specs.declared.fault.Fault.{Fault}
 use Rattle.ds2_value.specs.Row.{Row}
 
--- what a run does, one event after the other: a step began at a place, an operand, an operator or a store was carried out,
--- a test came out, an operation failed
+-- what a run does that can fail or go two ways, one event after the other: a step began at a place, an operation that may fail
+-- did not or a method was entered, a test came out, an operation failed
 pub data Event : Type 0 where
   Began : Place → Event
   Did : Event

@@ -2,6 +2,9 @@
 
 use ds2_base::Place;
 
+/// How many called methods may be under way at once.
+pub const CALL_DEPTH: usize = 100;
+
 /// Why a run ends early. A new one touches the files that docs/ARCHITECTURE.md lists under 'To add a fault'.
 #[derive(Clone, Copy, Debug, PartialEq, Eq)]
 pub enum Fault {
@@ -15,7 +18,7 @@ pub enum Fault {
     NoWhen,
     /// The unit has carried out as many steps as it may.
     BudgetSpent,
-    /// A method call lies deeper than calls may lie.
+    /// A method was called while [`CALL_DEPTH`] called methods were under way.
     DepthReached,
 }
 
