@@ -1,6 +1,6 @@
 //! The columns of a table, whose types the header tells or the cells do.
-ghost use Rattle.std.specs.Prelude.{◌≡◌, ◌∷◌, ◌++◌, ℕ, [], length, map, unwrap_or, List as Items, IfOk, OnOk};
-ghost use Rattle.ds2_csv_records.specs.Cells.{spelled};
+ghost use Rattle.std.specs.Prelude.{◌≡◌, ◌∷◌, ◌++◌, ℕ, [], true, length, map, unwrap_or, List as Items, IfOk, OnOk};
+ghost use Rattle.ds2_csv_records.specs.Cells.{spelled, unquoted};
 ghost use Rattle.ds2_csv_records.specs.Reading.{records_left};
 ghost use Rattle.ds2_csv.specs.Columns.{type_of_cells, columns_from};
 ghost use Rattle.ds2_csv.specs.Inferred.{IsInferred};
@@ -19,16 +19,22 @@ use ds2_csv_records::{Cell, unquoted};
 use ds2_value::{Column, Ty};
 use std::alloc::Global;
 
+// What is known with one more cell, which has quotes.
+#[inline(never)]
+fn with_quoted(alloc: Global, known: Inference, raw: &str) -> Result<Inference, OutOfMemory>
+    ensures { (cells : Items (Items ℕ)) → IsInferred known cells → IfOk result (λ more. IsInferred more (cells ++ unquoted true raw.now ∷ [])) }
+{
+    let text = unquoted(alloc, raw)?;
+    Ok(known.with_cell(text.as_str()))
+}
+
 // What is known with one more cell.
 fn with_cell(alloc: Global, known: Inference, cell: Cell) -> Result<Inference, OutOfMemory>
     ensures { (cells : Items (Items ℕ)) → IsInferred known cells → IfOk result (λ more. IsInferred more (cells ++ spelled cell.entry ∷ [])) }
 {
     match cell {
         Cell::Plain(text) => Ok(known.with_cell(text)),
-        Cell::Quoted(raw) => {
-            let text = unquoted(alloc, raw)?;
-            Ok(known.with_cell(text.as_str()))
-        }
+        Cell::Quoted(raw) => with_quoted(alloc, known, raw),
     }
 }
 

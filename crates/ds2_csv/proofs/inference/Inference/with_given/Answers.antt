@@ -1,4 +1,5 @@
-use Rattle.std.proofs.Common.{false, List, ℕ, ap, ◌∙◌, max}
+use Rattle.std.proofs.Common.{false, List, ℕ, ap, sym, ◌∙◌, max}
+use Rattle.std.proofs.lemmas.Bool.{and_parts}
 use Rattle.std.specs.Prelude.{◌&&◌}
 use Rattle.std.specs.Option.{is_some}
 use Rattle.ds2_csv.specs.Columns.{digits_before, digits_after}
@@ -14,6 +15,6 @@ returns-then-not-are_decimals c cells is there size =
 pub returns : goal.returns
 returns c cells is there size =
     let integers = c.are_integers-integers.ensures ∙ ap (λ (t : List ℕ). c.args.self.integers && is_some (integer_of t)) c.as_bytes.ensures.value in
-    let before = c.max.ensures ∙ ap (λ n. max c.args.self.before n) (c.digits_before.ensures ∙ ap digits_before c.as_bytes-2.ensures.value) in
-    let after = c.max-2.ensures ∙ ap (λ n. max c.args.self.after n) (c.digits_after.ensures ∙ ap digits_after c.as_bytes-3.ensures.value) in
+    let before = c.max.ensures ∙ ap (λ n. max c.args.self.before n) (c.digits-before.ensures.before ∙ ap digits_before c.as_bytes-2.ensures.value) in
+    let after = c.max-2.ensures ∙ ap (λ n. max c.args.self.after n) (c.digits-before.ensures.behind ∙ ap digits_after c.as_bytes-2.ensures.value) in
     with-number c.args.self cells c.args.cell.now c.are_integers-integers.result _ c.max.result c.max-2.result c.args.longest is there integers (decimals-too c.args.self cells c.args.cell.now c.are_integers-integers.result _ is integers c.if-not-are_decimals.ensures) (λ e. before) (λ e. after) size
