@@ -19,22 +19,27 @@ use ds2_csv_records::{Cell, unquoted};
 use ds2_value::{Column, Ty};
 use std::alloc::Global;
 
-// What is known with one more cell, which has quotes.
+// Adds one more cell, which has quotes, to what is known.
 #[inline(never)]
-fn with_quoted(alloc: Global, known: Inference, raw: &str) -> Result<Inference, OutOfMemory>
-    ensures { (cells : Items (Items ℕ)) → IsInferred known cells → IfOk result (λ more. IsInferred more (cells ++ unquoted true raw.now ∷ [])) }
+fn add_quoted(alloc: Global, known: &mut Inference, raw: &str) -> Result<(), OutOfMemory>
+    ensures { (cells : Items (Items ℕ)) → IsInferred known.old cells → OnOk result (IsInferred known.new (cells ++ unquoted true raw.now ∷ [])) }
 {
     let text = unquoted(alloc, raw)?;
-    Ok(known.with_cell(text.as_str()))
+    known.add_cell(text.as_str());
+    Ok(())
 }
 
-// What is known with one more cell.
-fn with_cell(alloc: Global, known: Inference, cell: Cell) -> Result<Inference, OutOfMemory>
-    ensures { (cells : Items (Items ℕ)) → IsInferred known cells → IfOk result (λ more. IsInferred more (cells ++ spelled cell.entry ∷ [])) }
+// Adds one more cell to what is known.
+#[inline(always)]
+fn add_cell(alloc: Global, known: &mut Inference, cell: Cell) -> Result<(), OutOfMemory>
+    ensures { (cells : Items (Items ℕ)) → IsInferred known.old cells → OnOk result (IsInferred known.new (cells ++ spelled cell.entry ∷ [])) }
 {
     match cell {
-        Cell::Plain(text) => Ok(known.with_cell(text)),
-        Cell::Quoted(raw) => with_quoted(alloc, known, raw),
+        Cell::Plain(text) => {
+            known.add_cell(text);
+            Ok(())
+        }
+        Cell::Quoted(raw) => add_quoted(alloc, known, raw),
     }
 }
 
@@ -46,9 +51,9 @@ fn add_row(alloc: Global, known: &mut List<Inference>, row: &[Cell]) -> Result<(
 {
     'cells: for (i, _) in row.iter().enumerate() {
         let cell = item(row, i);
-        let seen = item(known.as_slice(), i);
-        let more = with_cell(alloc, seen, cell)?;
-        known.replace(i, more);
+        let mut seen = item(known.as_slice(), i);
+        add_cell(alloc, &mut seen, cell)?;
+        known.replace(i, seen);
     }
     Ok(())
 }

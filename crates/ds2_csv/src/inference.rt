@@ -116,42 +116,34 @@ impl Inference {
     }
 
     // One more cell, which is not null in a number column; `longest` is known with it.
-    fn with_given(self, cell: &str, longest: usize) -> Inference
-        ensures { (cells : Items (Items ℕ)) → IsInferred self cells → is_missing cell.now ≡ false → longest ≡ max (text_size cell.now) self.longest
-            → IsInferred result (cells ++ cell.now ∷ []) }
+    fn add_given(&mut self, cell: &str, longest: usize)
+        ensures { (cells : Items (Items ℕ)) → IsInferred self.old cells → is_missing cell.now ≡ false → longest ≡ max (text_size cell.now) self.old.longest
+            → IsInferred self.new (cells ++ cell.now ∷ []) }
     {
         let integers = are_integers(self.integers, cell.as_bytes());
+        self.given = true;
+        self.integers = integers;
+        self.longest = longest;
         if !are_decimals(integers, self.decimals, cell) {
-            return Inference {
-                given: true,
-                integers,
-                decimals: false,
-                before: 0,
-                after: 0,
-                longest,
-            };
+            self.decimals = false;
+            return;
         }
         let (before, after) = digits(cell.as_bytes(), integers);
-        Inference {
-            given: true,
-            integers,
-            decimals: true,
-            before: self.before.max(before),
-            after: self.after.max(after),
-            longest,
-        }
+        self.decimals = true;
+        self.before = self.before.max(before);
+        self.after = self.after.max(after);
     }
 
-    /// One more cell.
+    /// Adds one more cell.
     #[inline(always)]
-    pub fn with_cell(self, cell: &str) -> Inference
-        ensures { (cells : Items (Items ℕ)) → IsInferred self cells → IsInferred result (cells ++ cell.now ∷ []) }
+    pub fn add_cell(&mut self, cell: &str)
+        ensures { (cells : Items (Items ℕ)) → IsInferred self.old cells → IsInferred self.new (cells ++ cell.now ∷ []) }
     {
         let longest = with_size(self.longest, cell);
         if is_missing(cell.as_bytes()) {
-            Inference { longest, ..self }
+            self.longest = longest;
         } else {
-            self.with_given(cell, longest)
+            self.add_given(cell, longest);
         }
     }
 
