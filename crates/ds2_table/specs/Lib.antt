@@ -1,2 +1,5 @@
 pub mod Alone
+pub mod Loads
+pub mod OneThread
 pub mod Table
+pub mod LoadLaws
