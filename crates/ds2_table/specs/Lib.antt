@@ -1,2 +1,4 @@
 pub mod Alone
+pub mod Loads
+pub mod OneThread
 pub mod Table

@@ -1,0 +1,17 @@
+pub mod Location
+pub mod TypedExpression
+pub mod TypedStatement
+pub mod RunState
+pub mod ValueOperations
+pub mod Evaluation
+pub mod Execution
+pub mod Method
+pub mod Invocation
+pub mod Reading
+pub mod ProgramTree
+pub mod ProgramMeaning
+pub mod View
+pub mod ExampleWords
+pub mod ExpressionExamples
+pub mod StatementExamples
+pub mod ProgramExamples
