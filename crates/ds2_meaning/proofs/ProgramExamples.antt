@@ -1,5 +1,6 @@
 -- The small programs of the examples, computed.
 use Rattle.std.proofs.Common.{refl}
+use Rattle.std.specs.Fmt as fmt
 use Rattle.std.specs.Str as str
 use Rattle.ds2_value.specs.Order as order
 use Rattle.ds2_value.specs.Texts as texts
@@ -7,7 +8,7 @@ use Rattle.ds2_value.specs.Value as value
 use Rattle.ds2_meaning.specs.ProgramExamples.{UnitExamples, LoadExamples, StageExamples}
 
 pub unit_examples : UnitExamples
-unfolding value.sum_of value.difference_of value.product_of value.negative_of value.absolute_of value.remainder_of value.truth_of value.compared_of value.compare_of order.key_order texts.padded_cmp texts.without_blanks str.chars
+unfolding value.sum_of value.difference_of value.product_of value.negative_of value.absolute_of value.remainder_of value.truth_of value.compared_of value.compare_of order.key_order texts.padded_cmp texts.without_blanks str.chars lib.Utf8.encode fmt.digits
 unit_examples = record {
   retained = refl;
   not_retained = refl;
@@ -20,7 +21,7 @@ unit_examples = record {
 }
 
 pub load_examples : LoadExamples
-unfolding value.sum_of value.difference_of value.product_of value.negative_of value.absolute_of value.remainder_of value.truth_of value.compared_of value.compare_of order.key_order texts.padded_cmp texts.without_blanks str.chars
+unfolding value.sum_of value.difference_of value.product_of value.negative_of value.absolute_of value.remainder_of value.truth_of value.compared_of value.compare_of order.key_order texts.padded_cmp texts.without_blanks str.chars lib.Utf8.encode fmt.digits
 load_examples = record {
   table_after_table = refl;
   interleaved = refl;
@@ -34,7 +35,7 @@ load_examples = record {
 }
 
 pub stage_examples : StageExamples
-unfolding value.sum_of value.difference_of value.product_of value.negative_of value.absolute_of value.remainder_of value.truth_of value.compared_of value.compare_of order.key_order texts.padded_cmp texts.without_blanks str.chars
+unfolding value.sum_of value.difference_of value.product_of value.negative_of value.absolute_of value.remainder_of value.truth_of value.compared_of value.compare_of order.key_order texts.padded_cmp texts.without_blanks str.chars lib.Utf8.encode fmt.digits
 stage_examples = record {
   group_sums = refl;
   sums_that_go_on = refl;

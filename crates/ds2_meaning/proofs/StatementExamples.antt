@@ -1,5 +1,6 @@
 -- The small programs of the examples, computed.
 use Rattle.std.proofs.Common.{refl}
+use Rattle.std.specs.Fmt as fmt
 use Rattle.std.specs.Str as str
 use Rattle.ds2_value.specs.Order as order
 use Rattle.ds2_value.specs.Texts as texts
@@ -7,7 +8,7 @@ use Rattle.ds2_value.specs.Value as value
 use Rattle.ds2_meaning.specs.StatementExamples.{ChoiceExamples, LoopExamples, OutputExamples, MethodExamples}
 
 pub choice_examples : ChoiceExamples
-unfolding value.sum_of value.difference_of value.product_of value.negative_of value.absolute_of value.remainder_of value.truth_of value.compared_of value.compare_of order.key_order texts.padded_cmp texts.without_blanks str.chars
+unfolding value.sum_of value.difference_of value.product_of value.negative_of value.absolute_of value.remainder_of value.truth_of value.compared_of value.compare_of order.key_order texts.padded_cmp texts.without_blanks str.chars lib.Utf8.encode fmt.digits
 choice_examples = record {
   else_of_the_nearest_if = refl;
   else_part_is_taken = refl;
@@ -20,7 +21,7 @@ choice_examples = record {
 }
 
 pub loop_examples : LoopExamples
-unfolding value.sum_of value.difference_of value.product_of value.negative_of value.absolute_of value.remainder_of value.truth_of value.compared_of value.compare_of order.key_order texts.padded_cmp texts.without_blanks str.chars
+unfolding value.sum_of value.difference_of value.product_of value.negative_of value.absolute_of value.remainder_of value.truth_of value.compared_of value.compare_of order.key_order texts.padded_cmp texts.without_blanks str.chars lib.Utf8.encode fmt.digits
 loop_examples = record {
   counts_down = refl;
   null_end = refl;
@@ -34,7 +35,7 @@ loop_examples = record {
 }
 
 pub output_examples : OutputExamples
-unfolding value.sum_of value.difference_of value.product_of value.negative_of value.absolute_of value.remainder_of value.truth_of value.compared_of value.compare_of order.key_order texts.padded_cmp texts.without_blanks str.chars
+unfolding value.sum_of value.difference_of value.product_of value.negative_of value.absolute_of value.remainder_of value.truth_of value.compared_of value.compare_of order.key_order texts.padded_cmp texts.without_blanks str.chars lib.Utf8.encode fmt.digits
 output_examples = record {
   lines_of_items = refl;
   rows_where_they_are_written = refl;
@@ -44,7 +45,7 @@ output_examples = record {
 }
 
 pub method_examples : MethodExamples
-unfolding value.sum_of value.difference_of value.product_of value.negative_of value.absolute_of value.remainder_of value.truth_of value.compared_of value.compare_of order.key_order texts.padded_cmp texts.without_blanks str.chars
+unfolding value.sum_of value.difference_of value.product_of value.negative_of value.absolute_of value.remainder_of value.truth_of value.compared_of value.compare_of order.key_order texts.padded_cmp texts.without_blanks str.chars lib.Utf8.encode fmt.digits
 method_examples = record {
   hundred_deep = refl;
   one_too_deep = refl;
