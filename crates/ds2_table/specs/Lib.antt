@@ -2,3 +2,4 @@ pub mod Alone
 pub mod Loads
 pub mod OneThread
 pub mod Table
+pub mod LoadLaws

@@ -1,6 +1,7 @@
--- The loads of a reading statement: what each call of `run` reads, by whole lists of rows.
+-- The loads of a reading statement: what each call of `run` reads, by whole lists of rows. A row is named by its number in its
+-- table, and a table by its number in the statement.
 use Rattle.std.specs.Prelude.{ℕ, zero, suc, ◌+◌, nat_eq, max, Bool, true, false, not, ◌&&◌, ◌||◌, if◌then◌else◌, List, [], ◌∷◌, ◌++◌, length, map, filter, take, fold, slice_get, Option, Some, None, is_some}
-use Rattle.std.specs.List.{list_any}
+use Rattle.std.specs.List.{list_any, range_with_len}
 use Rattle.std.specs.Ordering.{is_lt, ordering_then, ordering_reverse}
 use Rattle.std.specs.declared.cmp.Ordering.{Ordering}
 use Rattle.std.specs.declared.cmp.Ordering.TheVariants.{Equal}
@@ -113,14 +114,13 @@ keyed_load key rows present = record { key = key; load = record { rows = rows; i
 
 -- ---- SET
 
--- for each of so many tables, from a number on, a row's number where the row is of that table
-abbrev pub rows_of_one : ℕ → ℕ → InputRow → List (Option ℕ)
-rows_of_one zero from row = []
-rows_of_one (suc tables) from row = (if nat_eq row.table from then Some row.number else None) ∷ rows_of_one tables (from + 1) row
+-- for each of so many tables a row's number where the row is of that table
+abbrev pub rows_of_one : ℕ → InputRow → List (Option ℕ)
+rows_of_one tables row = map (λ table. if nat_eq row.table table then Some row.number else None) (range_with_len 0 tables)
 
 -- a load of `set` has one row, and the flag of its table alone
 abbrev pub set_load : ℕ → InputRow → KeyedLoad
-set_load tables row = let rows = rows_of_one tables 0 row in keyed_load row.key rows (map is_some rows)
+set_load tables row = let rows = rows_of_one tables row in keyed_load row.key rows (map is_some rows)
 
 -- the loads of `set`: each row of its tables in BY order, and without BY table after table
 abbrev pub set_loads : List Bool → List (List (List Value)) → List KeyedLoad
@@ -133,10 +133,9 @@ abbrev pub rows_with_key : ℕ → List Value → List InputRow → List ℕ
 rows_with_key table key rows =
     map (λ (row : InputRow). row.number) (filter (λ (row : InputRow). nat_eq row.table table && same_row row.key key) rows)
 
--- for each of so many tables, from a number on, the rows that have a key
-abbrev pub matches : ℕ → ℕ → List Value → List InputRow → List (List ℕ)
-matches zero from key rows = []
-matches (suc tables) from key rows = rows_with_key from key rows ∷ matches tables (from + 1) key rows
+-- for each of so many tables the rows that have a key
+abbrev pub matches : ℕ → List Value → List InputRow → List (List ℕ)
+matches tables key rows = map (λ table. rows_with_key table key rows) (range_with_len 0 tables)
 
 -- the greatest number of rows that a table has
 abbrev pub most_rows : List (List ℕ) → ℕ
@@ -147,14 +146,9 @@ most_rows tables = fold (λ most rows. max most (length rows)) 0 tables
 abbrev pub merge_load : List Value → List (List ℕ) → ℕ → KeyedLoad
 merge_load key tables i = keyed_load key (map (λ rows. slice_get rows i) tables) (map (λ rows. is_some (slice_get rows 0)) tables)
 
--- n loads of a key, from number i on
-abbrev pub merge_loads_from : ℕ → ℕ → List Value → List (List ℕ) → List KeyedLoad
-merge_loads_from zero i key tables = []
-merge_loads_from (suc n) i key tables = merge_load key tables i ∷ merge_loads_from n (i + 1) key tables
-
 -- the loads of a key: as many as the most rows that a table has of it
 abbrev pub loads_of_key : ℕ → List InputRow → List Value → List KeyedLoad
-loads_of_key tables rows key = let found = matches tables 0 key rows in merge_loads_from (most_rows found) 0 key found
+loads_of_key tables rows key = let found = matches tables key rows in map (merge_load key found) (range_with_len 0 (most_rows found))
 
 -- the loads of these keys, one key after the other
 abbrev pub loads_of_keys : ℕ → List InputRow → List (List Value) → List KeyedLoad

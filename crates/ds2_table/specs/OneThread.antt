@@ -15,10 +15,11 @@ pub record Units (L C : Type 0) : Type 0 where
   pub run : L → C → UnitOutcome C
   pub term : C → UnitOutcome C
 
--- a program over the loads of its reading statement, or over the rows of the thread program that it reads from: how that one
--- begins with its parameters, the parameters that were given, and the load that one of its rows is
+-- a program over the loads of its reading statement, which make so many groups, or over the rows of the thread program that it
+-- reads from, each a group: how that one begins with its parameters, the parameters that were given, and the load that one of its
+-- rows is
 pub data ProgramOf (L C : Type 0) : Type 0 where
-  Reads : Units L C → List L → ProgramOf L C
+  Reads : Units L C → List L → (groups : ℕ) → ProgramOf L C
   ReadsFrom : Units L C → (stage : ProgramOf L C) → (opened : List Value → C) → (parameters : C → List Value) → (load : Row → L) → ProgramOf L C
 
 -- ---- loads one after the other
@@ -51,7 +52,8 @@ joined_result unit executed after = record {
   ways = unit.way ∷ after.ways;
   budgets_left = unit.left ∷ after.budgets_left;
   executed = executed + after.executed;
-  reached = after.reached }
+  reached = after.reached;
+}
 
 -- goes on with the variables that a unit leaves; a fault halts the program at its place
 abbrev pub then_loads : {C : Type 0} → UnitOutcome C → (C → GroupResult C) → GroupResult C
@@ -66,29 +68,29 @@ run_all units (l ∷ loads) c = then_loads (units.run l c) (run_all units loads)
 
 -- ---- programs
 
--- what is known of a thread program that a program read from: how many loads it had, how many instructions its units executed,
--- and how it ended
+-- what is known of a thread program that a program read from: how many groups its loads make, or 0 where it ended by a fault;
+-- how many instructions its units executed; and how it ended
 pub record StageAnswer : Type 0 where
-  pub loads : ℕ
+  pub groups : ℕ
   pub executed : ℕ
   pub ending : Option Ending
 
 -- what a program leaves: rows and lines in order, how it ended (None where a unit strayed, which neither trees nor valid code
--- do), what each of its units left of the budget, those of its stage among them, how many loads it had and how many
--- instructions its own units executed; then the thread programs that it read from, the nearest one first, none where it reads
--- from none or its `init` faulted
+-- do), what each of its units left of the budget, those of its stage among them, how many groups its loads make (0 behind a
+-- fault) and how many instructions its own units executed; then the thread programs that it read from, the nearest one first,
+-- none where it reads from none or its `init` faulted
 pub record Answer : Type 0 where
   pub rows : List Written
   pub lines : List (List ℕ)
   pub ending : Option Ending
   pub budgets_left : List ℕ
-  pub loads : ℕ
+  pub groups : ℕ
   pub executed : ℕ
   pub stages : List StageAnswer
 
 -- a program that has no unit left to run
 abbrev pub nothing_left : Option Ending → Answer
-nothing_left ending = record { rows = []; lines = []; ending = ending; budgets_left = []; loads = 0; executed = 0; stages = [] }
+nothing_left ending = record { rows = []; lines = []; ending = ending; budgets_left = []; groups = 0; executed = 0; stages = [] }
 
 -- what a unit leaves, and then what comes after it
 abbrev pub followed_by : Progress → ℕ → Answer → Answer
@@ -96,7 +98,8 @@ followed_by unit executed after = record after {
   rows = unit.rows ++ after.rows;
   lines = unit.lines ++ after.lines;
   budgets_left = unit.left ∷ after.budgets_left;
-  executed = executed + after.executed }
+  executed = executed + after.executed;
+}
 
 -- goes on with the variables that a unit leaves; a fault ends the program at its place
 abbrev pub then_unit : {C : Type 0} → UnitOutcome C → (C → Answer) → Answer
@@ -116,7 +119,8 @@ joined_loads loads after = record after {
   rows = loads.rows ++ after.rows;
   lines = loads.lines ++ after.lines;
   budgets_left = loads.budgets_left ++ after.budgets_left;
-  executed = loads.executed + after.executed }
+  executed = loads.executed + after.executed;
+}
 
 -- `term`, and with it the program's end
 abbrev pub last_unit : {L C : Type 0} → Units L C → C → Answer
@@ -124,9 +128,17 @@ last_unit units c = then_unit (units.term c) (λ d. nothing_left (Some Normal))
 
 -- `run` on each load, and then `term`
 abbrev pub run_each : {L C : Type 0} → Units L C → List L → C → Answer
-run_each units loads c =
-    let result = run_all units loads c in
-    record (joined_loads result (behind_loads result.reached (last_unit units))) { loads = length loads }
+run_each units loads c = let result = run_all units loads c in joined_loads result (behind_loads result.reached (last_unit units))
+
+-- a number of groups where a program ended normally, else 0
+abbrev pub groups_at : Option Ending → ℕ → ℕ
+groups_at (Some Normal) groups = groups
+groups_at (Some (Faulted fault place)) groups = 0
+groups_at None groups = 0
+
+-- an answer of a program whose loads make so many groups
+abbrev pub with_groups : ℕ → Answer → Answer
+with_groups groups answer = record answer { groups = groups_at answer.ending groups }
 
 -- the rows that a thread program wrote, in order
 abbrev pub stage_rows : Answer → List Row
@@ -134,7 +146,7 @@ stage_rows stage = map (λ (w : Written). w.row) stage.rows
 
 -- what is known of a thread program from its answer, before what is known of those that it read from itself
 abbrev pub stage_notes : Answer → List StageAnswer
-stage_notes stage = record { loads = stage.loads; executed = stage.executed; ending = stage.ending } ∷ stage.stages
+stage_notes stage = record { groups = stage.groups; executed = stage.executed; ending = stage.ending } ∷ stage.stages
 
 -- what a stage leaves to the program that reads from it: its lines and budgets come first
 abbrev pub behind_stage : Answer → Answer → Answer
@@ -150,8 +162,8 @@ after_stage None stage go = behind_stage stage (nothing_left None)
 -- the one-thread answer: `init`; for a program that reads from a thread program that one's whole answer, whose rows are the
 -- loads in the order in which they were written; `run` on each load; `term`
 abbrev pub alone_answer : {L C : Type 0} → ProgramOf L C → C → Answer
-alone_answer (Reads units loads) c = then_unit (units.init c) (run_each units loads)
+alone_answer (Reads units loads groups) c = with_groups groups (then_unit (units.init c) (run_each units loads))
 alone_answer (ReadsFrom units stage opened parameters load) c =
     then_unit (units.init c) (λ d.
-      let answer = alone_answer stage (opened (parameters d)) in
-      after_stage answer.ending answer (λ rows. run_each units (map load rows) d))
+    let answer = alone_answer stage (opened (parameters d)) in
+    after_stage answer.ending answer (λ rows. with_groups (length rows) (run_each units (map load rows) d)))

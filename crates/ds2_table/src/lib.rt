@@ -8,6 +8,7 @@
 //! ```
 #![tactic(auto)]
 
+pub mod laws;
 mod table;
 #[cfg(test)]
 mod tests;

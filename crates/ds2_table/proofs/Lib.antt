@@ -1,0 +1,4 @@
+pub mod ByOrder
+pub mod Groups
+pub mod Parts
+pub mod Sorted
