@@ -92,7 +92,7 @@ module _ (s : Surroundings) where
     evaluate_links NoLink x w = Gives x w
     evaluate_links (Link widens operation operand ty rest) x w =
         then_operand (evaluate operand w) (λ y u.
-          then_operand (operated operation (if widens then widened x else x) y u) (evaluate_links rest))
+        then_operand (operated operation (if widens then widened x else x) y u) (evaluate_links rest))
 
     -- the values of several expressions, in order
     pub evaluate_all : TypedExpressions → RunState → ExpressionsEnd

@@ -17,6 +17,8 @@ use Rattle.ds2_meaning.specs.declared.expressions.Operation.{Operation}
 use Rattle.ds2_meaning.specs.declared.expressions.Operation.TheVariants.{IntegerAdd, IntegerSubtract}
 use Rattle.ds2_meaning.specs.declared.expressions.Prefix.TheVariants.{IntegerNegate}
 use Rattle.ds2_meaning.specs.declared.expressions.Function.{Function}
+use Rattle.ds2_meaning.specs.declared.globals.OutputColumn.{OutputColumn}
+use Rattle.ds2_meaning.specs.declared.globals.OutputTable.{OutputTable}
 use Rattle.ds2_meaning.specs.declared.globals.Variable as variables
 use Rattle.ds2_meaning.specs.declared.location.Global.TheVariants.{Named}
 use Rattle.ds2_meaning.specs.declared.location.Reference.{Reference}
@@ -28,10 +30,10 @@ use Rattle.ds2_meaning.specs.declared.readings.Reading.{Reading}
 use Rattle.ds2_meaning.specs.declared.readings.Reading.TheVariants.{Once}
 use Rattle.ds2_meaning.specs.Method.{MethodTree}
 use Rattle.ds2_meaning.specs.ProgramMeaning.{program_answer}
-use Rattle.ds2_meaning.specs.ProgramTree.{UnitTree, ProgramTree, OverTables}
+use Rattle.ds2_meaning.specs.ProgramTree.{BodyTree, UnitTree, ProgramTree, OverTables}
 use Rattle.ds2_meaning.specs.Reading.{TableRows}
 use Rattle.ds2_meaning.specs.TypedExpression.{TypedExpression, Constant, Variable, Prefixed, Chain, Link, NoLink, Compared, Applied}
-use Rattle.ds2_meaning.specs.TypedStatement.{TypedStatement, TypedStatements, Finish, Assign}
+use Rattle.ds2_meaning.specs.TypedStatement.{TypedStatement, Assign}
 use Rattle.ds2_meaning.specs.View.{all_expressions, all_statements}
 
 -- the place in this column of the first line
@@ -122,12 +124,34 @@ by_value name = record { name = name; ty = BigInt; is_in_out = false }
 abbrev pub bigint_column : List ℕ → Column
 bigint_column name = record { name = name; ty = BigInt }
 
+-- a system method without locals that has these statements
+abbrev pub body_of : List TypedStatement → BodyTree
+body_of statements = record { locals = []; statements = all_statements statements }
+
+-- a column of an output with the name and the type of its variable
+abbrev pub output_column : variables.Variable → OutputColumn
+output_column v = record { name = v.name; source = v.name; ty = v.ty }
+
+-- an output `out` of these variables
+abbrev pub output_of : List variables.Variable → OutputTable
+output_of columns = record { name = codes "out"; overwrites = false; columns = map output_column columns }
+
 -- a program with these variables whose `run` reads nothing and has these statements, and whose output has all variables
 abbrev pub unit_with : List variables.Variable → List TypedStatement → UnitTree
 unit_with declared body = record {
-  parameters = []; declared = declared; columns = []; retained = []; instances = []; reading = Once;
-  outputs = map (λ (v : variables.Variable). v.name) declared ∷ [];
-  methods = []; init = Finish; run = all_statements body; term = Finish }
+  thread = None;
+  parameters = [];
+  declared = declared;
+  columns = [];
+  retained = [];
+  instances = [];
+  reading = Once;
+  outputs = output_of declared ∷ [];
+  methods = [];
+  init = body_of [];
+  run = body_of body;
+  term = body_of [];
+}
 
 -- likewise, with BIGINT variables of these names
 abbrev pub program_with : List (List ℕ) → List TypedStatement → UnitTree
@@ -148,7 +172,7 @@ seen a = record { rows = map (λ (w : Written). w.row) a.rows; lines = a.lines; 
 
 -- what is seen of a program that reads nothing
 abbrev pub ran : UnitTree → ℕ → Seen
-ran p budget = seen (program_answer (OverTables p) [] (λ name. []) budget)
+ran p budget = seen (program_answer (OverTables p) [] (λ name. []) budget 0)
 
 -- a normal end with these rows, and what `init`, `run` and `term` left
 abbrev pub ends_with : List Row → List ℕ → Seen

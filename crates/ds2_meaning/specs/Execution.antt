@@ -40,10 +40,10 @@ abbrev pub counts_on : Value → Value → Option Value → RunState → (RunSta
 counts_on i end None w on off = after_test (is_true (compared_of LessOrEqual i end)) w on off
 counts_on i end (Some step) w on off =
     after_test (is_true (compared_of GreaterOrEqual step (Int (pos 0)))) w
-      (λ u. after_test (is_true (compared_of LessOrEqual i end)) u on off)
-      (λ u. after_test (is_true (compared_of Less step (Int (pos 0)))) u
-        (λ x. after_test (is_true (compared_of GreaterOrEqual i end)) x on off)
-        off)
+    (λ u. after_test (is_true (compared_of LessOrEqual i end)) u on off)
+    (λ u. after_test (is_true (compared_of Less step (Int (pos 0)))) u
+    (λ x. after_test (is_true (compared_of GreaterOrEqual i end)) x on off)
+    off)
 
 -- the row of an output: the values of the variables of its columns
 abbrev pub projected_row : Home → List (List ℕ) → RunState → Row
@@ -83,30 +83,39 @@ module _ (s : Surroundings) where
   with_step_value None w go = go None w
   with_step_value (Some e) w go = then_value (evaluate s e w) (λ v u. go (Some v) u)
 
-  -- the rounds of a counted loop, from a test on, with at most n further rounds
+  -- a counted loop from a test on: its body where it goes on, then a step that adds to its variable, and then the rest
+  abbrev pub count_turn : Place → Reference → Value → Option Value → (RunState → StatementOutcome) → (RunState → StatementOutcome) → RunState → StatementOutcome
+  count_turn place variable end step body rest w =
+      counts_on (variable_value s.home variable w) end step w
+      (λ u. then_round (body u) (λ x. begin_step place x (λ y.
+      then_value (attempt (sum_of (variable_value s.home variable y) (step_or_one step)) y) (λ v z. rest (store s.home variable v z)))))
+      Proceeds
+
+  -- at most so many further rounds of a counted loop
   abbrev pub rounds_counted : ℕ → Place → Reference → Value → Option Value → (RunState → StatementOutcome) → RunState → StatementOutcome
   rounds_counted zero place variable end step body w =
       counts_on (variable_value s.home variable w) end step w (λ u. then_round (body u) (step_fails place)) Proceeds
-  rounds_counted (suc n) place variable end step body w =
-      counts_on (variable_value s.home variable w) end step w
-        (λ u. then_round (body u) (λ x. begin_step place x (λ y.
-          then_value (attempt (sum_of (variable_value s.home variable y) (step_or_one step)) y) (λ v z.
-            rounds_counted n place variable end step body (store s.home variable v z)))))
-        Proceeds
+  rounds_counted (suc n) place variable end step body w = count_turn place variable end step body (rounds_counted n place variable end step body) w
 
-  -- the rounds of a loop that tests before its body, at most n of them
+  -- a loop that tests before its body: a step, its test, its body where that holds, and then the rest
+  abbrev pub while_turn : Place → TypedExpression → (RunState → StatementOutcome) → (RunState → StatementOutcome) → RunState → StatementOutcome
+  while_turn place condition body rest w =
+      begin_step place w (λ u. then_value (evaluate s condition u) (λ v x. after_test (is_true v) x (λ y. then_round (body y) rest) Proceeds))
+
+  -- at most so many rounds of it
   abbrev pub rounds_while : ℕ → Place → TypedExpression → (RunState → StatementOutcome) → RunState → StatementOutcome
   rounds_while zero place condition body w = step_fails place w
-  rounds_while (suc n) place condition body w =
-      begin_step place w (λ u. then_value (evaluate s condition u) (λ v x.
-        after_test (is_true v) x (λ y. then_round (body y) (rounds_while n place condition body)) Proceeds))
+  rounds_while (suc n) place condition body w = while_turn place condition body (rounds_while n place condition body) w
 
-  -- the rounds of a loop that tests behind its body, at most n further ones
+  -- a loop that tests behind its body: its body, a step, its test, and the rest where that does not hold
+  abbrev pub until_turn : Place → TypedExpression → (RunState → StatementOutcome) → (RunState → StatementOutcome) → RunState → StatementOutcome
+  until_turn place condition body rest w =
+      then_round (body w) (λ u. begin_step place u (λ x. then_value (evaluate s condition x) (λ v y. after_test (is_true v) y Proceeds rest)))
+
+  -- at most so many further rounds of it
   abbrev pub rounds_until : ℕ → Place → TypedExpression → (RunState → StatementOutcome) → RunState → StatementOutcome
   rounds_until zero place condition body w = then_round (body w) (step_fails place)
-  rounds_until (suc n) place condition body w =
-      then_round (body w) (λ u. begin_step place u (λ x. then_value (evaluate s condition x) (λ v y.
-        after_test (is_true v) y Proceeds (rounds_until n place condition body))))
+  rounds_until (suc n) place condition body w = until_turn place condition body (rounds_until n place condition body) w
 
   -- the constructor of an instance is called, where its package has one
   abbrev pub constructed : List ℕ → Option ℕ → TypedArguments → RunState → StatementOutcome
@@ -134,7 +143,7 @@ module _ (s : Surroundings) where
     exec (Block place body) w = begin_step place w (exec_all body)
     exec (Count place variable start end step body) w =
         begin_step place w (λ u. then_value (evaluate s start u) (λ a x. then_value (evaluate s end x) (λ b y. with_step_value step y (λ c z.
-          begin_step place (store s.home variable a z) (λ q. rounds_counted q.progress.left place variable b c (exec_all body) q)))))
+        begin_step place (store s.home variable a z) (λ q. rounds_counted q.progress.left place variable b c (exec_all body) q)))))
     exec (While place condition body) w = begin_step place w (λ u. rounds_while u.progress.left place condition (exec_all body) u)
     exec (Until place condition body) w = begin_step place w (λ u. rounds_until u.progress.left place condition (exec_all body) u)
 

@@ -29,7 +29,7 @@ returned parameters caller (Continues w) = Answers Null (last_values parameters 
 returned parameters caller (Returns v w) = Answers v (last_values parameters w.locals) (back_in caller w)
 returned parameters caller (Faults f w) = CallBreaks f w
 
--- a call faults without an operation of its own
+-- a call faults: a call that finds no budget counts as an operation that fails
 abbrev pub call_raises : Fault → RunState → CallEnd
 call_raises fault w = CallBreaks fault (noting_failure w)
 

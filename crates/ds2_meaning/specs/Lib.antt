@@ -15,3 +15,6 @@ pub mod ExampleWords
 pub mod ExpressionExamples
 pub mod StatementExamples
 pub mod ProgramExamples
+pub mod BudgetLaws
+pub mod TableLaws
+pub mod IsTyped

@@ -21,14 +21,14 @@ use Rattle.ds2_meaning.specs.declared.readings.ByVariable.{ByVariable}
 use Rattle.ds2_meaning.specs.declared.readings.Input.{Input}
 use Rattle.ds2_meaning.specs.declared.readings.Reading.{Reading}
 use Rattle.ds2_meaning.specs.declared.readings.Reading.TheVariants.{Nothing, Once, Set, Merge, From}
-use Rattle.ds2_meaning.specs.ExampleWords.{col, natural, fixed, global, value_of_type, variable_of, int, binary, plus, function_of, assign_at, assign_local, bigint, bigint_column, unit_with, program_with, Seen, seen, ran, ends_with}
+use Rattle.ds2_meaning.specs.ExampleWords.{col, natural, fixed, global, value_of_type, variable_of, int, binary, plus, function_of, assign_at, bigint, output_column, output_of, body_of, bigint_column, unit_with, program_with, Seen, seen, ran, ends_with}
 use Rattle.ds2_meaning.specs.Method.{MethodTree}
-use Rattle.ds2_meaning.specs.ProgramMeaning.{program_answer}
+use Rattle.ds2_meaning.specs.ProgramMeaning.{program_answer, tables_left}
 use Rattle.ds2_meaning.specs.ProgramTree.{UnitTree, ProgramTree, OverTables, OverStage}
 use Rattle.ds2_meaning.specs.Reading.{TableRows}
 use Rattle.ds2_meaning.specs.StatementExamples.{one_by_zero}
 use Rattle.ds2_meaning.specs.TypedExpression.{TypedExpression, Convert, Compared, Variable, Called, NoArgument}
-use Rattle.ds2_meaning.specs.TypedStatement.{TypedStatement, TypedStatements, Finish, Empty, Construct, ReturnValue, Output, Put, If, Block, Text, Shown}
+use Rattle.ds2_meaning.specs.TypedStatement.{TypedStatement, Empty, Construct, ReturnValue, Output, Put, If, Block, Text, Shown}
 use Rattle.ds2_meaning.specs.View.{all_statements}
 
 -- tables of these names with these rows, and no others
@@ -47,13 +47,23 @@ by_ascending name = record { name = name; is_descending = false }
 -- a program with these declared variables and these columns, which reads this and has these statements in `run`
 abbrev pub reader : Reading → List (List ℕ) → List (List ℕ) → List TypedStatement → UnitTree
 reader reading declared columns body = record {
-  parameters = []; declared = map bigint declared; columns = map bigint columns; retained = []; instances = []; reading = reading;
-  outputs = map (λ (v : variables.Variable). v.name) (map bigint declared) ∷ [];
-  methods = []; init = Finish; run = all_statements body; term = Finish }
+  thread = None;
+  parameters = [];
+  declared = map bigint declared;
+  columns = map bigint columns;
+  retained = [];
+  instances = [];
+  reading = reading;
+  outputs = output_of (map bigint declared) ∷ [];
+  methods = [];
+  init = body_of [];
+  run = body_of body;
+  term = body_of [];
+}
 
--- a program whose output has these variables
+-- a program whose output has these BIGINT variables
 abbrev pub with_columns : List (List ℕ) → UnitTree → UnitTree
-with_columns names p = record p { outputs = names ∷ [] }
+with_columns names p = record p { outputs = output_of (map bigint names) ∷ [] }
 
 -- a program with these retained variables
 abbrev pub retaining : List (List ℕ) → UnitTree → UnitTree
@@ -61,11 +71,11 @@ retaining names p = record p { retained = names }
 
 -- what is seen of a program over tables
 abbrev pub ran_over : UnitTree → List (List ℕ × List Row) → ℕ → Seen
-ran_over p tables budget = seen (program_answer (OverTables p) [] (tables_of tables) budget)
+ran_over p tables budget = seen (program_answer (OverTables p) [] (tables_of tables) budget 1)
 
 -- the rows that a program over tables writes
 abbrev pub rows_over : UnitTree → List (List ℕ × List Row) → List Row
-rows_over p tables = map (λ (w : Written). w.row) (program_answer (OverTables p) [] (tables_of tables) 20).rows
+rows_over p tables = map (λ (w : Written). w.row) (program_answer (OverTables p) [] (tables_of tables) 20 1).rows
 
 -- a row of two BIGINT values
 abbrev pub two : ℕ → ℕ → Row
@@ -74,6 +84,13 @@ two a b = natural a ∷ natural b ∷ []
 -- s = coalesce(s, 0) + a;
 abbrev pub adds_up : TypedStatement
 adds_up = assign_at 1 (codes "s") (plus (function_of function.Coalesce BigInt (variable_of (codes "s") ∷ int 0 ∷ [])) (variable_of (codes "a")))
+
+-- data p (keep=(x)) q (overwrite=yes rename=(y=z)); x = 1; y = 2;
+abbrev pub two_outputs : UnitTree
+two_outputs = record (program_with (codes "x" ∷ codes "y" ∷ []) (assign_at 1 (codes "x") (int 1) ∷ assign_at 8 (codes "y") (int 2) ∷ [])) {
+  outputs = record { name = codes "p"; overwrites = false; columns = output_column (bigint (codes "x")) ∷ [] }
+      ∷ record { name = codes "q"; overwrites = true; columns = output_column (bigint (codes "x")) ∷ record { name = codes "z"; source = codes "y"; ty = BigInt } ∷ [] } ∷ [];
+}
 
 -- method p(); k = 7; end;
 abbrev pub keeping_seven : MethodTree
@@ -87,7 +104,7 @@ getting = record { name = codes "get"; parameters = []; locals = []; returns = S
 abbrev pub merging : Bool → List TypedStatement → UnitTree
 merging retains body = with_columns (codes "k" ∷ codes "p" ∷ codes "q" ∷ [])
     (reader (Merge (input_of (codes "x") (codes "k" ∷ codes "p" ∷ []) ∷ input_of (codes "y") (codes "k" ∷ codes "q" ∷ []) ∷ []) (by_ascending (codes "k") ∷ []) retains)
-      [] (codes "k" ∷ codes "p" ∷ codes "q" ∷ []) body)
+    [] (codes "k" ∷ codes "p" ∷ codes "q" ∷ []) body)
 
 -- a table x with one row of the key 1, and a table y with three
 abbrev pub one_and_three : List (List ℕ × List Row)
@@ -103,29 +120,33 @@ pub record UnitExamples : Type 0 where
       ((codes "t", (natural 1 ∷ []) ∷ (natural 2 ∷ []) ∷ (natural 3 ∷ []) ∷ []) ∷ []) ≡ (natural 1 ∷ []) ∷ (natural 2 ∷ []) ∷ (natural 3 ∷ []) ∷ []
   -- method init(); x = 5; y = 6; end; method run(); put x y; end; method term(); put y; end; with y retained
   pub init_run_term : ran (retaining (codes "y" ∷ []) (record (program_with (codes "x" ∷ codes "y" ∷ []) (Put (col 60) (Shown (variable_of (codes "x")) ∷ Shown (variable_of (codes "y")) ∷ []) ∷ [])) {
-        init = all_statements (assign_at 16 (codes "x") (int 5) ∷ assign_at 23 (codes "y") (int 6) ∷ []); term = all_statements (Put (col 95) (Shown (variable_of (codes "y")) ∷ []) ∷ []) })) 10
+    init = body_of (assign_at 16 (codes "x") (int 5) ∷ assign_at 23 (codes "y") (int 6) ∷ []);
+    term = body_of (Put (col 95) (Shown (variable_of (codes "y")) ∷ []) ∷ []);
+  })) 10
       ≡ record { rows = (Null ∷ natural 6 ∷ []) ∷ []; lines = codes "null 6" ∷ codes "6" ∷ []; ending = Some Normal; budgets_left = 8 ∷ 9 ∷ 9 ∷ [] }
   -- method init(); put 'a'; end; and no `run`: there is no load
-  pub no_run : ran (record (program_with (codes "x" ∷ []) []) { reading = Nothing; init = all_statements (Put (col 16) (Text (codes "a") ∷ []) ∷ []) }) 10
+  pub no_run : ran (record (program_with (codes "x" ∷ []) []) { reading = Nothing; init = body_of (Put (col 16) (Text (codes "a") ∷ []) ∷ []) }) 10
       ≡ record { rows = []; lines = codes "a" ∷ []; ending = Some Normal; budgets_left = 9 ∷ 10 ∷ [] }
-  -- data p (keep=(x)) q (rename=(y=z)); x = 1; y = 2; with a row in each output
-  pub several_outputs : (program_answer (OverTables (record (program_with (codes "x" ∷ codes "y" ∷ []) (assign_at 1 (codes "x") (int 1) ∷ assign_at 8 (codes "y") (int 2) ∷ [])) {
-        outputs = (codes "x" ∷ []) ∷ (codes "x" ∷ codes "y" ∷ []) ∷ [] })) [] (λ name. []) 10).rows
-      ≡ record { output = 0; row = natural 1 ∷ [] } ∷ record { output = 1; row = two 1 2 } ∷ []
+  -- data p (keep=(x)) q (overwrite=yes rename=(y=z)); x = 1; y = 2; with a row in each output
+  pub several_outputs : tables_left two_outputs (program_answer (OverTables two_outputs) [] (λ name. []) 10 0)
+      ≡ record { name = codes "p"; overwrites = false; contents = record { columns = bigint_column (codes "x") ∷ []; rows = (natural 1 ∷ []) ∷ [] } }
+      ∷ record { name = codes "q"; overwrites = true; contents = record { columns = bigint_column (codes "x") ∷ bigint_column (codes "z") ∷ []; rows = two 1 2 ∷ [] } } ∷ []
   -- data p q; x = 1; output q;
   pub one_of_two_outputs : (program_answer (OverTables (record (program_with (codes "x" ∷ []) (assign_at 1 (codes "x") (int 1) ∷ Output (col 8) (1 ∷ []) ∷ [])) {
-        outputs = (codes "x" ∷ []) ∷ (codes "x" ∷ []) ∷ [] })) [] (λ name. []) 10).rows
+    outputs = output_of (bigint (codes "x") ∷ []) ∷ output_of (bigint (codes "x") ∷ []) ∷ [];
+  })) [] (λ name. []) 10 0).rows
       ≡ record { output = 1; row = natural 1 ∷ [] } ∷ []
   -- set t; if a = 2 then if 1 / 0 then; : the row before the fault was written, and no unit runs behind it
   pub fault_in_a_later_load : ran_over (with_columns (codes "a" ∷ []) (reader (Set (input_of (codes "t") (codes "a" ∷ []) ∷ []) []) [] (codes "a" ∷ []) (
-        If (col 8) (Compared comparison.Equal (variable_of (codes "a")) (int 2)) (If (col 22) one_by_zero (Empty (col 36))) ∷ [])))
+      If (col 8) (Compared comparison.Equal (variable_of (codes "a")) (int 2)) (If (col 22) one_by_zero (Empty (col 36))) ∷ [])))
       ((codes "t", (natural 1 ∷ []) ∷ (natural 2 ∷ []) ∷ (natural 3 ∷ []) ∷ []) ∷ []) 10
       ≡ record { rows = (natural 1 ∷ []) ∷ []; lines = []; ending = Some (Faulted DivideByZero (col 22)); budgets_left = 10 ∷ 9 ∷ 8 ∷ [] }
   -- package p; dcl bigint k; method p(); k = 7; end; method get() returns bigint; return k; end; endpackage;
   -- and dcl package p q(); x = q.get(); the program's own k stays null
   pub constructed_first : ran (record (program_with (codes "x" ∷ codes "k" ∷ []) (assign_at 80 (codes "x") (Called (Some (codes "q")) 1 NoArgument BigInt) ∷ [])) {
-        instances = record { name = codes "q"; variables = bigint (codes "k") ∷ []; methods = keeping_seven ∷ getting ∷ [] } ∷ [];
-        init = all_statements (Construct (col 60) (codes "q") (Some 0) NoArgument ∷ []) }) 10
+    instances = record { name = codes "q"; package' = codes "p"; variables = bigint (codes "k") ∷ []; methods = keeping_seven ∷ getting ∷ [] } ∷ [];
+    init = body_of (Construct (col 60) (codes "q") (Some 0) NoArgument ∷ []);
+  }) 10
       ≡ ends_with ((natural 7 ∷ Null ∷ []) ∷ []) (7 ∷ 7 ∷ 10 ∷ [])
 
 -- the loads of `set` and `merge`
@@ -144,7 +165,7 @@ pub record LoadExamples : Type 0 where
       ≡ two 3 8 ∷ two 3 9 ∷ two 1 1 ∷ two 1 2 ∷ (Null ∷ natural 5 ∷ []) ∷ []
   -- set t; by a b; f = first.b; l = last.b;
   pub flags : rows_over (with_columns (codes "f" ∷ codes "l" ∷ codes "a" ∷ codes "b" ∷ []) (reader (Set (input_of (codes "t") (codes "a" ∷ codes "b" ∷ []) ∷ []) (by_ascending (codes "a") ∷ by_ascending (codes "b") ∷ [])) (codes "f" ∷ codes "l" ∷ []) (codes "a" ∷ codes "b" ∷ []) (
-        assign_at 1 (codes "f") (Variable (At (First (codes "b"))) BigInt) ∷ assign_at 14 (codes "l") (Variable (At (Last (codes "b"))) BigInt) ∷ [])))
+      assign_at 1 (codes "f") (Variable (At (First (codes "b"))) BigInt) ∷ assign_at 14 (codes "l") (Variable (At (Last (codes "b"))) BigInt) ∷ [])))
       ((codes "t", two 1 1 ∷ two 1 1 ∷ two 2 1 ∷ []) ∷ [])
       ≡ (natural 1 ∷ natural 0 ∷ natural 1 ∷ natural 1 ∷ []) ∷ (natural 0 ∷ natural 1 ∷ natural 1 ∷ natural 1 ∷ []) ∷ (natural 1 ∷ natural 1 ∷ natural 2 ∷ natural 1 ∷ []) ∷ []
   -- merge x y; by k;
@@ -158,10 +179,10 @@ pub record LoadExamples : Type 0 where
       ≡ (natural 1 ∷ natural 7 ∷ natural 10 ∷ []) ∷ (natural 1 ∷ natural 9 ∷ natural 11 ∷ []) ∷ (natural 1 ∷ natural 9 ∷ natural 12 ∷ []) ∷ []
   -- merge x(in=ix) y(in=iy); by k; f = ix; g = iy;
   pub merged_with_flags : rows_over (with_columns (codes "f" ∷ codes "g" ∷ codes "k" ∷ codes "p" ∷ codes "q" ∷ []) (reader (Merge (
-          record { table = codes "x"; present = Some (codes "ix"); columns = bigint_column (codes "k") ∷ bigint_column (codes "p") ∷ [] }
-          ∷ record { table = codes "y"; present = Some (codes "iy"); columns = bigint_column (codes "k") ∷ bigint_column (codes "q") ∷ [] } ∷ []) (by_ascending (codes "k") ∷ []) false)
-        (codes "f" ∷ codes "g" ∷ []) (codes "k" ∷ codes "p" ∷ codes "q" ∷ []) (
-        assign_at 1 (codes "f") (Variable (At (Present (codes "ix"))) BigInt) ∷ assign_at 9 (codes "g") (Variable (At (Present (codes "iy"))) BigInt) ∷ [])))
+      record { table = codes "x"; present = Some (codes "ix"); columns = bigint_column (codes "k") ∷ bigint_column (codes "p") ∷ [] }
+      ∷ record { table = codes "y"; present = Some (codes "iy"); columns = bigint_column (codes "k") ∷ bigint_column (codes "q") ∷ [] } ∷ []) (by_ascending (codes "k") ∷ []) false)
+      (codes "f" ∷ codes "g" ∷ []) (codes "k" ∷ codes "p" ∷ codes "q" ∷ []) (
+      assign_at 1 (codes "f") (Variable (At (Present (codes "ix"))) BigInt) ∷ assign_at 9 (codes "g") (Variable (At (Present (codes "iy"))) BigInt) ∷ [])))
       ((codes "x", two 1 7 ∷ []) ∷ (codes "y", two 1 10 ∷ two 2 20 ∷ []) ∷ [])
       ≡ (natural 1 ∷ natural 1 ∷ natural 1 ∷ natural 7 ∷ natural 10 ∷ []) ∷ (natural 0 ∷ natural 1 ∷ natural 2 ∷ Null ∷ natural 20 ∷ []) ∷ []
   -- merge x y; by k; over two tables without rows: `run` is not called
@@ -183,15 +204,26 @@ begins_group = If (col 1) (Variable (At (First (codes "region"))) BigInt) (assig
 abbrev pub adds_amount : TypedStatement
 adds_amount = assign_at 34 (codes "total") (Convert (binary operation.DecimalAdd (DecimalOf 38 2) total_of (value_of_type (codes "amt") (DecimalOf 3 2))) (DecimalOf 15 2))
 
+-- total and region, with their types
+abbrev pub sums_variables : List variables.Variable
+sums_variables = record { name = codes "total"; ty = DecimalOf 15 2 } ∷ record { name = codes "region"; ty = Varchar 1 } ∷ []
+
 -- retain total; keep region total; set sales; by region; these statements, total = total + amt; if last.region then this one
 abbrev pub summing : List TypedStatement → TypedStatement → UnitTree
 summing first last = record {
-  parameters = []; declared = record { name = codes "total"; ty = DecimalOf 15 2 } ∷ [];
+  thread = Some (codes "sums");
+  parameters = [];
+  declared = record { name = codes "total"; ty = DecimalOf 15 2 } ∷ [];
   columns = record { name = codes "region"; ty = Varchar 1 } ∷ record { name = codes "amt"; ty = DecimalOf 3 2 } ∷ [];
-  retained = codes "total" ∷ []; instances = [];
+  retained = codes "total" ∷ [];
+  instances = [];
   reading = Set (record { table = codes "sales"; present = None; columns = record { name = codes "region"; ty = Varchar 1 } ∷ record { name = codes "amt"; ty = DecimalOf 3 2 } ∷ [] } ∷ []) (by_ascending (codes "region") ∷ []);
-  outputs = (codes "total" ∷ codes "region" ∷ []) ∷ []; methods = []; init = Finish;
-  run = all_statements (first ++ adds_amount ∷ If (col 55) (Variable (At (Last (codes "region"))) BigInt) last ∷ []); term = Finish }
+  outputs = record { name = codes "sums"; overwrites = false; columns = map output_column sums_variables } ∷ [];
+  methods = [];
+  init = body_of [];
+  run = body_of (first ++ adds_amount ∷ If (col 55) (Variable (At (Last (codes "region"))) BigInt) last ∷ []);
+  term = body_of [];
+}
 
 -- the columns of that thread program
 abbrev pub sums_columns : Columns
@@ -200,9 +232,19 @@ sums_columns = record { name = codes "total"; ty = DecimalOf 15 2 } ∷ record {
 -- data totals; dcl thread sums s; method run(); set from s threads=4; end; enddata;
 abbrev pub totals : UnitTree → ProgramTree
 totals stage = OverStage (record {
-  parameters = []; declared = []; columns = record { name = codes "total"; ty = DecimalOf 15 2 } ∷ record { name = codes "region"; ty = Varchar 1 } ∷ [];
-  retained = []; instances = []; reading = From (codes "s") 4 sums_columns; outputs = (codes "total" ∷ codes "region" ∷ []) ∷ [];
-  methods = []; init = Finish; run = Finish; term = Finish }) (codes "s") sums_columns (OverTables stage)
+  thread = None;
+  parameters = [];
+  declared = [];
+  columns = sums_variables;
+  retained = [];
+  instances = [];
+  reading = From (codes "s") 4 sums_columns;
+  outputs = record { name = codes "totals"; overwrites = false; columns = map output_column sums_variables } ∷ [];
+  methods = [];
+  init = body_of [];
+  run = body_of [];
+  term = body_of [];
+}) (OverTables stage)
 
 -- a row of sales: a region and an amount of so many hundredths
 abbrev pub sale : List ℕ → ℕ → Row
@@ -214,18 +256,21 @@ sales = tables_of ((codes "sales", sale (codes "N") 150 ∷ sale (codes "S") 200
 
 -- what is seen of totals over a thread program and those sales
 abbrev pub stage_seen : UnitTree → Seen
-stage_seen stage = seen (program_answer (totals stage) [] sales 20)
+stage_seen stage = seen (program_answer (totals stage) [] sales 20 1)
 
 -- a thread program and a data program that reads from it
 pub record StageExamples : Type 0 where
   -- retain total; keep region total; set sales; by region; if first.region then total = 0; total = total + amt;
   -- if last.region then output; and data totals; dcl thread sums s; method run(); set from s threads=4; end; enddata;
   pub group_sums : stage_seen (summing (begins_group ∷ []) (Output (col 75) (0 ∷ []))) ≡ record {
-      rows = (fixed (pos 400) 2 ∷ Txt (codes "E") ∷ []) ∷ (fixed (pos 375) 2 ∷ Txt (codes "N") ∷ []) ∷ (fixed (pos 200) 2 ∷ Txt (codes "S") ∷ []) ∷ [];
-      lines = []; ending = Some Normal; budgets_left = 20 ∷ 20 ∷ 15 ∷ 16 ∷ 16 ∷ 15 ∷ 20 ∷ 20 ∷ 20 ∷ 20 ∷ 20 ∷ [] }
+    rows = (fixed (pos 400) 2 ∷ Txt (codes "E") ∷ []) ∷ (fixed (pos 375) 2 ∷ Txt (codes "N") ∷ []) ∷ (fixed (pos 200) 2 ∷ Txt (codes "S") ∷ []) ∷ [];
+    lines = [];
+    ending = Some Normal;
+    budgets_left = 20 ∷ 20 ∷ 15 ∷ 16 ∷ 16 ∷ 15 ∷ 20 ∷ 20 ∷ 20 ∷ 20 ∷ 20 ∷ [];
+  }
   -- likewise, without the first `if`, and with if last.region then do; output; total = 0; end;
   pub sums_that_go_on : (stage_seen (summing [] (Block (col 75) (all_statements (Output (col 79) (0 ∷ []) ∷ assign_total 87 ∷ []))))).rows
       ≡ (Null ∷ Txt (codes "E") ∷ []) ∷ (fixed (pos 375) 2 ∷ Txt (codes "N") ∷ []) ∷ (fixed (pos 200) 2 ∷ Txt (codes "S") ∷ []) ∷ []
   -- what the first says of its stage
-  pub stage_is_noted : (program_answer (totals (summing (begins_group ∷ []) (Output (col 75) (0 ∷ [])))) [] sales 20).stages
-      ≡ record { loads = 4; executed = 0; ending = Some Normal } ∷ []
+  pub stage_is_noted : (program_answer (totals (summing (begins_group ∷ []) (Output (col 75) (0 ∷ [])))) [] sales 20 1).stages
+      ≡ record { groups = 3; executed = 0; ending = Some Normal } ∷ []

@@ -1,12 +1,18 @@
 -- What the units of a program mean, and the program on its tables.
 use Rattle.std.specs.List.{range_with_len}
-use Rattle.std.specs.Prelude.{ℕ, Bool, false, if◌then◌else◌, List, [], ◌∷◌, length, map, Option, Some, None}
+use Rattle.std.specs.Prelude.{ℕ, ◌+◌, nat_eq, Bool, false, if◌then◌else◌, List, [], ◌∷◌, length, filter, map, Option, Some, None}
 use Rattle.ds2_value.specs.Progress.{at_the_start, UnitOutcome, Completed, Interrupted}
 use Rattle.ds2_value.specs.Row.{Row, Columns}
 use Rattle.ds2_value.specs.declared.fault.TheConstants.{CALL_DEPTH}
 use Rattle.ds2_value.specs.declared.value.Value.{Value}
 use Rattle.ds2_value.specs.declared.value.Value.TheVariants.{Null}
+use Rattle.ds2_value.specs.Run.{Written}
+use Rattle.ds2_value.specs.declared.fault.Ending.{Ending}
+use Rattle.ds2_value.specs.declared.fault.Ending.TheVariants.{Normal, Faulted}
+use Rattle.ds2_table.specs.Table.{Contents}
 use Rattle.ds2_table.specs.OneThread.{Units, ProgramOf, Reads, ReadsFrom, Answer, alone_answer}
+use Rattle.ds2_meaning.specs.declared.globals.OutputColumn.{OutputColumn}
+use Rattle.ds2_meaning.specs.declared.globals.OutputTable.{OutputTable}
 use Rattle.ds2_meaning.specs.declared.globals.Variable.{Variable}
 use Rattle.ds2_meaning.specs.declared.location.Global.{Global}
 use Rattle.ds2_meaning.specs.declared.location.Global.TheVariants.{Named, Parameter}
@@ -15,23 +21,22 @@ use Rattle.ds2_meaning.specs.RunState.{RunState, StatementOutcome, Proceeds, Lea
 use Rattle.ds2_meaning.specs.Evaluation.{Surroundings}
 use Rattle.ds2_meaning.specs.Execution.{exec_all, write_each}
 use Rattle.ds2_meaning.specs.Invocation.{invoke}
-use Rattle.ds2_meaning.specs.Reading.{TableRows, Settings, loads_over, row_settings, with_settings}
-use Rattle.ds2_meaning.specs.TypedStatement.{TypedStatements}
-use Rattle.ds2_meaning.specs.ProgramTree.{UnitTree, ProgramTree, OverTables, OverStage, reader_of, data_vector, is_cleared, methods_of, program_has_output}
+use Rattle.ds2_meaning.specs.Reading.{TableRows, Settings, number_of_groups, loads_over, row_settings, with_settings, stage_instance, stage_columns}
+use Rattle.ds2_meaning.specs.ProgramTree.{BodyTree, UnitTree, ProgramTree, OverTables, OverStage, reader_of, output_sources, data_vector, is_cleared, methods_of, program_has_output}
 
 -- ---- units
 
 -- what the statements of a program's system methods find around them
 abbrev pub program_surroundings : UnitTree → Surroundings
-program_surroundings p = record { calls = invoke (methods_of p) CALL_DEPTH; outputs = p.outputs; home = None }
+program_surroundings p = record { calls = invoke (methods_of p) CALL_DEPTH; outputs = output_sources p; home = None }
 
 -- the state in which the statements of a system method begin
 abbrev pub unit_state : ℕ → Storage → RunState
 unit_state budget c = record { storage = c; locals = no_locals; progress = at_the_start budget }
 
 -- the statements of a system method on variables, with a budget
-abbrev pub carry_out : UnitTree → TypedStatements → ℕ → Storage → StatementOutcome
-carry_out p body budget c = exec_all (program_surroundings p) body (unit_state budget c)
+abbrev pub carry_out : UnitTree → BodyTree → ℕ → Storage → StatementOutcome
+carry_out p body budget c = exec_all (program_surroundings p) body.statements (unit_state budget c)
 
 -- a unit is completed by what is done at its end
 abbrev pub completed_by : (RunState → RunState) → RunState → UnitOutcome Storage
@@ -51,7 +56,7 @@ nothing_more w = w
 
 -- a program without an `output` statement writes a row to each of its outputs at the end of `run`
 abbrev pub implicit_output : UnitTree → RunState → RunState
-implicit_output p w = if program_has_output p then w else write_each None p.outputs (range_with_len 0 (length p.outputs)) w
+implicit_output p w = if program_has_output p then w else write_each None (output_sources p) (range_with_len 0 (length p.outputs)) w
 
 -- `run` sets this global of the program to null
 abbrev pub is_cleared_global : UnitTree → Global → Bool
@@ -72,7 +77,8 @@ abbrev pub program_units : UnitTree → ℕ → Units Settings Storage
 program_units p budget = record {
   init = λ c. unit_end nothing_more (carry_out p p.init budget c);
   run = λ load c. unit_end (implicit_output p) (carry_out p p.run budget (with_settings load (with_cleared p c)));
-  term = λ c. unit_end nothing_more (carry_out p p.term budget c) }
+  term = λ c. unit_end nothing_more (carry_out p p.term budget c);
+}
 
 -- ---- programs
 
@@ -94,14 +100,49 @@ opening_of p values = with_parameters p.parameters values nothing_kept
 abbrev pub parameters_given : List ℕ → List Variable → Storage → List Value
 parameters_given instance parameters c = map (λ (p : Variable). held (c (record { home = Some instance; global = Parameter p.name }))) parameters
 
--- a program as units over its loads, or over the rows of the thread program that it reads from
-abbrev pub program_over_loads : ProgramTree → TableRows → ℕ → ProgramOf Settings Storage
-program_over_loads (OverTables p) tables budget = Reads (program_units p budget) (loads_over (data_vector p) p.reading tables)
-program_over_loads (OverStage p instance columns stage) tables budget =
+-- a program as units over its loads, which make groups at a grain, or over the rows of the thread program that it reads from
+abbrev pub program_over_loads : ProgramTree → TableRows → (budget grain : ℕ) → ProgramOf Settings Storage
+program_over_loads (OverTables p) tables budget grain =
+    Reads (program_units p budget) (loads_over (data_vector p) p.reading tables) (number_of_groups grain p.reading tables)
+program_over_loads (OverStage p stage) tables budget grain =
     let q = reader_of stage in
-    ReadsFrom (program_units p budget) (program_over_loads stage tables budget) (opening_of q) (parameters_given instance q.parameters)
-      (row_settings (data_vector p) columns)
+    ReadsFrom (program_units p budget) (program_over_loads stage tables budget grain) (opening_of q) (parameters_given (stage_instance p.reading) q.parameters)
+    (row_settings (data_vector p) (stage_columns p.reading))
 
--- the one-thread answer of a program with these values of its parameters, over these tables
-abbrev pub program_answer : ProgramTree → List Value → TableRows → ℕ → Answer
-program_answer p values tables budget = alone_answer (program_over_loads p tables budget) (opening_of (reader_of p) values)
+-- the one-thread answer of a program with these values of its parameters, over these tables. The grain is that of the program
+-- that reads tables, and changes the number of groups alone
+abbrev pub program_answer : ProgramTree → List Value → TableRows → (budget grain : ℕ) → Answer
+program_answer p values tables budget grain = alone_answer (program_over_loads p tables budget grain) (opening_of (reader_of p) values)
+
+-- ---- tables
+
+-- a table that a program makes: its name, whether a file of that name may be written over, its columns and its rows
+pub record MadeTable : Type 0 where
+  pub name : List ℕ
+  pub overwrites : Bool
+  pub contents : Contents
+
+-- the columns of an output
+abbrev pub output_columns : OutputTable → Columns
+output_columns output = map (λ (c : OutputColumn). record { name = c.name; ty = c.ty }) output.columns
+
+-- the rows that were written to the output of this number, in order
+abbrev pub rows_written : ℕ → List Written → List Row
+rows_written number rows = map (λ (w : Written). w.row) (filter (λ (w : Written). nat_eq w.output number) rows)
+
+-- the tables of outputs, numbered from this number on
+abbrev pub tables_made : ℕ → List OutputTable → List Written → List MadeTable
+tables_made number [] rows = []
+tables_made number (output ∷ outputs) rows =
+    record { name = output.name; overwrites = output.overwrites; contents = record { columns = output_columns output; rows = rows_written number rows } }
+    ∷ tables_made (number + 1) outputs rows
+
+-- the tables that a program leaves that ended so: those of all its outputs after a normal end, and none after a fault
+abbrev pub tables_left_at : Option Ending → List MadeTable → List MadeTable
+tables_left_at (Some Normal) tables = tables
+tables_left_at (Some (Faulted fault place)) tables = []
+tables_left_at None tables = []
+
+-- the tables that a program leaves with this answer
+abbrev pub tables_left : UnitTree → Answer → List MadeTable
+tables_left p answer = tables_left_at answer.ending (tables_made 0 p.outputs answer.rows)

@@ -1,7 +1,8 @@
 -- Programs, as plain data.
-use Rattle.std.specs.Prelude.{ℕ, Bool, bytes_eq, not, ◌&&◌, ◌||◌, if◌then◌else◌, List, [], ◌∷◌, ◌++◌, Option, Some, None}
+use Rattle.std.specs.Prelude.{ℕ, Bool, bytes_eq, not, ◌&&◌, ◌||◌, if◌then◌else◌, List, [], ◌∷◌, ◌++◌, map, Option, Some, None}
 use Rattle.std.specs.List.{list_any}
-use Rattle.ds2_value.specs.Row.{Columns}
+use Rattle.ds2_meaning.specs.declared.globals.OutputColumn.{OutputColumn}
+use Rattle.ds2_meaning.specs.declared.globals.OutputTable.{OutputTable}
 use Rattle.ds2_meaning.specs.declared.globals.Variable.{Variable}
 use Rattle.ds2_meaning.specs.declared.readings.Reading.{Reading}
 use Rattle.ds2_meaning.specs.Location.{Home}
@@ -9,15 +10,22 @@ use Rattle.ds2_meaning.specs.Method.{MethodTree, Methods}
 use Rattle.ds2_meaning.specs.Reading.{is_column}
 use Rattle.ds2_meaning.specs.TypedStatement.{TypedStatements, have_output}
 
--- an instance of a package: its name, and the variables and methods of the package
+-- a system method: its locals and its statements
+pub record BodyTree : Type 0 where
+  pub locals : List Variable
+  pub statements : TypedStatements
+
+-- an instance of a package: its name, the package's name, and the variables and methods of the package
 pub record InstanceTree : Type 0 where
   pub name : List ℕ
+  pub package' : List ℕ
   pub variables : List Variable
   pub methods : List MethodTree
 
 -- a data or thread program, without the thread program that it reads from
 pub record UnitTree : Type 0 where
-  -- the parameters of a thread program; a data program has none
+  -- the name and the parameters of a thread program; a data program has none
+  pub thread : Option (List ℕ)
   pub parameters : List Variable
   -- the declared variables, and the columns that are not declared
   pub declared : List Variable
@@ -26,23 +34,30 @@ pub record UnitTree : Type 0 where
   pub retained : List (List ℕ)
   pub instances : List InstanceTree
   pub reading : Reading
-  -- for each output the variables of its columns
-  pub outputs : List (List (List ℕ))
+  pub outputs : List OutputTable
   pub methods : List MethodTree
-  -- the statements of the system methods; the constructors of the instances come first in `init`
-  pub init : TypedStatements
-  pub run : TypedStatements
-  pub term : TypedStatements
+  -- the system methods; the constructors of the instances come first in `init`
+  pub init : BodyTree
+  pub run : BodyTree
+  pub term : BodyTree
 
--- a program that reads tables or nothing, or one that reads from an instance of a thread program, whose rows have these columns
+-- a program that reads tables or nothing, or one whose `set from` reads from a thread program
 pub data ProgramTree : Type 0 where
   OverTables : UnitTree → ProgramTree
-  OverStage : UnitTree → (instance : List ℕ) → Columns → (stage : ProgramTree) → ProgramTree
+  OverStage : UnitTree → (stage : ProgramTree) → ProgramTree
 
 -- the program without the thread program that it reads from
 abbrev pub reader_of : ProgramTree → UnitTree
 reader_of (OverTables p) = p
-reader_of (OverStage p instance columns stage) = p
+reader_of (OverStage p stage) = p
+
+-- the variables of the columns of an output
+abbrev pub sources : OutputTable → List (List ℕ)
+sources output = map (λ (c : OutputColumn). c.source) output.columns
+
+-- for each output of a program the variables of its columns
+abbrev pub output_sources : UnitTree → List (List (List ℕ))
+output_sources p = map sources p.outputs
 
 -- the program data vector
 abbrev pub data_vector : UnitTree → List Variable
@@ -73,4 +88,4 @@ methods_of p (Some instance) = instance_methods p.instances instance
 -- an `output` statement stands in the program
 abbrev pub program_has_output : UnitTree → Bool
 program_has_output p =
-    have_output p.init || have_output p.run || have_output p.term || list_any (λ (m : MethodTree). have_output m.body) p.methods
+    have_output p.init.statements || have_output p.run.statements || have_output p.term.statements || list_any (λ (m : MethodTree). have_output m.body) p.methods

@@ -1,5 +1,5 @@
 -- Reading statements: their loads, and what a load sets.
-use Rattle.std.specs.Prelude.{ℕ, Bool, true, false, bytes_eq, not, ◌||◌, if◌then◌else◌, List, [], ◌∷◌, ◌++◌, map, slice_get, Option, Some, None, pos}
+use Rattle.std.specs.Prelude.{ℕ, Bool, true, false, bytes_eq, not, ◌||◌, if◌then◌else◌, List, [], ◌∷◌, ◌++◌, length, map, slice_get, Option, Some, None, pos}
 use Rattle.std.specs.List.{list_any}
 use Rattle.ds2_value.specs.Operations.{or_null_at_fault}
 use Rattle.ds2_value.specs.Row.{Row, Columns}
@@ -9,7 +9,7 @@ use Rattle.ds2_value.specs.declared.schema.Column.{Column}
 use Rattle.ds2_value.specs.declared.ty.Ty.{Ty}
 use Rattle.ds2_value.specs.declared.value.Value.{Value}
 use Rattle.ds2_value.specs.declared.value.Value.TheVariants.{Null, Int}
-use Rattle.ds2_table.specs.Loads.{Load, KeyedLoad, keyed_load, set_loads, merge_loads}
+use Rattle.ds2_table.specs.Loads.{Load, KeyedLoad, keyed_load, set_loads, merge_loads, groups}
 use Rattle.ds2_meaning.specs.declared.globals.Variable.{Variable}
 use Rattle.ds2_meaning.specs.declared.location.Global.{Global}
 use Rattle.ds2_meaning.specs.declared.location.Global.TheVariants.{Named, First, Last, Present}
@@ -63,13 +63,18 @@ keys_in bys (input ∷ inputs) (rows ∷ tables) = map (key_in bys input.columns
 abbrev pub descending_of : List ByVariable → List Bool
 descending_of bys = map (λ (by : ByVariable). by.is_descending) bys
 
--- the loads of a reading statement over its tables; without one there is one load, and without `run` none
+-- the loads of a reading statement over its tables; without one there is one load, and without `run` none. The loads of
+-- `set from` are the rows of its thread program
 abbrev pub keyed_loads : Reading → InputTables → List KeyedLoad
 keyed_loads Nothing tables = []
 keyed_loads Once tables = keyed_load [] [] [] ∷ []
 keyed_loads (Set inputs bys) tables = set_loads (descending_of bys) (keys_in bys inputs tables)
 keyed_loads (Merge inputs bys retains) tables = merge_loads (descending_of bys) (keys_in bys inputs tables)
 keyed_loads (From instance workers columns) tables = []
+
+-- how many groups the loads of a reading statement over its tables make at a grain
+abbrev pub number_of_groups : ℕ → Reading → TableRows → ℕ
+number_of_groups grain reading tables = length (groups grain (keyed_loads reading (input_tables tables (inputs_of reading))))
 
 -- ---- what a load sets
 
@@ -159,6 +164,16 @@ with_settings [] before = before
 with_settings (set ∷ more) before = with_settings more (with_content (record { home = None; global = set.0 }) (Holds set.1) before)
 
 -- ---- columns
+
+-- the instance of a thread program that `set from` names, and none for other statements
+abbrev pub stage_instance : Reading → List ℕ
+stage_instance (From instance workers columns) = instance
+stage_instance _ = []
+
+-- the columns of the rows that `set from` reads, and none for other statements
+abbrev pub stage_columns : Reading → Columns
+stage_columns (From instance workers columns) = columns
+stage_columns _ = []
 
 -- a name is that of a column of the reading statement
 abbrev pub is_column : Reading → List ℕ → Bool

@@ -94,7 +94,7 @@ pub data StatementOutcome : Type 0 where
   Returns : Value → RunState → StatementOutcome
   Faults : Fault → RunState → StatementOutcome
 
--- a statement faults without an operation of its own
+-- a statement faults: a `select` of which no part applies counts as an operation that fails
 abbrev pub raises : Fault → RunState → StatementOutcome
 raises fault w = Faults fault (noting_failure w)
 

@@ -88,10 +88,10 @@ pub record LoopExamples : Type 0 where
   pub innermost_loop : ran (program_with (codes "i" ∷ codes "j" ∷ codes "s" ∷ []) (
       assign_at 1 (codes "s") (int 0)
       ∷ Count (col 8) (global (codes "i")) (int 1) (int 3) None (all_statements (
-          Count (col 23) (global (codes "j")) (int 1) (int 3) None (all_statements (
-            If (col 38) (Compared comparison.Equal (variable_of (codes "j")) (int 2)) (Continue (col 52))
-            ∷ If (col 62) (Compared comparison.Equal (variable_of (codes "j")) (int 3)) (Leave (col 76))
-            ∷ assign_at 83 (codes "s") (plus (variable_of (codes "s")) (int 1)) ∷ [])) ∷ [])) ∷ [])) 50
+      Count (col 23) (global (codes "j")) (int 1) (int 3) None (all_statements (
+      If (col 38) (Compared comparison.Equal (variable_of (codes "j")) (int 2)) (Continue (col 52))
+      ∷ If (col 62) (Compared comparison.Equal (variable_of (codes "j")) (int 3)) (Leave (col 76))
+      ∷ assign_at 83 (codes "s") (plus (variable_of (codes "s")) (int 1)) ∷ [])) ∷ [])) ∷ [])) 50
       ≡ ends_with ((natural 4 ∷ natural 3 ∷ natural 3 ∷ []) ∷ []) (50 ∷ 8 ∷ 50 ∷ [])
   -- do i = 1 to 5; ; end;
   pub spent_at_a_test : ran (program_with (codes "i" ∷ []) (Count (col 8) (global (codes "i")) (int 1) (int 5) None (all_statements (Empty (col 24) ∷ [])) ∷ [])) 5
@@ -130,9 +130,15 @@ with_methods methods p = record p { methods = methods }
 
 -- method f(bigint n) returns bigint; if n <= 1 then return 1; return 1 + f(n - 1); end;
 abbrev pub counting_method : MethodTree
-counting_method = record { name = codes "f"; parameters = by_value (codes "n") ∷ []; locals = []; returns = Some BigInt; body = all_statements (
-    If (col 38) (Compared comparison.LessOrEqual (local (codes "n")) (int 1)) (ReturnValue (col 53) (int 1))
-    ∷ ReturnValue (col 63) (plus (int 1) (Called None 0 (ByValue (less (local (codes "n")) (int 1)) NoArgument) BigInt)) ∷ []) }
+counting_method = record {
+  name = codes "f";
+  parameters = by_value (codes "n") ∷ [];
+  locals = [];
+  returns = Some BigInt;
+  body = all_statements (
+      If (col 38) (Compared comparison.LessOrEqual (local (codes "n")) (int 1)) (ReturnValue (col 53) (int 1))
+      ∷ ReturnValue (col 63) (plus (int 1) (Called None 0 (ByValue (less (local (codes "n")) (int 1)) NoArgument) BigInt)) ∷ []);
+}
 
 -- x = f(n);
 abbrev pub calling : ℕ → UnitTree
@@ -144,20 +150,38 @@ handed_in_and_out name = record { name = name; ty = BigInt; is_in_out = true }
 
 -- method swap(in_out bigint a, in_out bigint b); dcl bigint t; t = a; a = b; b = t; end;
 abbrev pub swapping_method : MethodTree
-swapping_method = record { name = codes "swap"; parameters = handed_in_and_out (codes "a") ∷ handed_in_and_out (codes "b") ∷ []; locals = bigint (codes "t") ∷ []; returns = None; body = all_statements (
-    assign_local 62 (codes "t") (local (codes "a")) ∷ assign_local 69 (codes "a") (local (codes "b")) ∷ assign_local 76 (codes "b") (local (codes "t")) ∷ []) }
+swapping_method = record {
+  name = codes "swap";
+  parameters = handed_in_and_out (codes "a") ∷ handed_in_and_out (codes "b") ∷ [];
+  locals = bigint (codes "t") ∷ [];
+  returns = None;
+  body = all_statements (
+      assign_local 62 (codes "t") (local (codes "a")) ∷ assign_local 69 (codes "a") (local (codes "b")) ∷ assign_local 76 (codes "b") (local (codes "t")) ∷ []);
+}
 
 -- method add(bigint n, in_out bigint s); if n > 0 then do; s = s + n; add(n - 1, s); end; end;
 abbrev pub adding_method : MethodTree
-adding_method = record { name = codes "add"; parameters = by_value (codes "n") ∷ handed_in_and_out (codes "s") ∷ []; locals = []; returns = None; body = all_statements (
-    If (col 40) (Compared comparison.Greater (local (codes "n")) (int 0)) (Block (col 54) (all_statements (
+adding_method = record {
+  name = codes "add";
+  parameters = by_value (codes "n") ∷ handed_in_and_out (codes "s") ∷ [];
+  locals = [];
+  returns = None;
+  body = all_statements (
+      If (col 40) (Compared comparison.Greater (local (codes "n")) (int 0)) (Block (col 54) (all_statements (
       assign_local 58 (codes "s") (plus (local (codes "s")) (local (codes "n")))
-      ∷ Invoke (col 69) None 0 (ByValue (less (local (codes "n")) (int 1)) (InOut (Local (codes "s")) NoArgument)) ∷ []))) ∷ []) }
+      ∷ Invoke (col 69) None 0 (ByValue (less (local (codes "n")) (int 1)) (InOut (Local (codes "s")) NoArgument)) ∷ []))) ∷ []);
+}
 
 -- method g() returns bigint; dcl bigint l; l = coalesce(l, 0) + 1; return l; end;
 abbrev pub fresh_method : MethodTree
-fresh_method = record { name = codes "g"; parameters = []; locals = bigint (codes "l") ∷ []; returns = Some BigInt; body = all_statements (
-    assign_local 42 (codes "l") (plus (function_of function.Coalesce BigInt (local (codes "l") ∷ int 0 ∷ [])) (int 1)) ∷ ReturnValue (col 66) (local (codes "l")) ∷ []) }
+fresh_method = record {
+  name = codes "g";
+  parameters = [];
+  locals = bigint (codes "l") ∷ [];
+  returns = Some BigInt;
+  body = all_statements (
+      assign_local 42 (codes "l") (plus (function_of function.Coalesce BigInt (local (codes "l") ∷ int 0 ∷ [])) (int 1)) ∷ ReturnValue (col 66) (local (codes "l")) ∷ []);
+}
 
 -- calls; a call is a step behind its arguments
 pub record MethodExamples : Type 0 where

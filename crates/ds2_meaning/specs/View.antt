@@ -18,19 +18,17 @@ use Rattle.ds2_meaning.specs.declared.statements.PutItem.{PutItem}
 use Rattle.ds2_meaning.specs.declared.statements.PutItem.TheVariants as put_item
 use Rattle.ds2_meaning.specs.declared.methods.Method as code_method
 use Rattle.ds2_meaning.specs.declared.methods.SystemMethod.{SystemMethod}
-use Rattle.ds2_meaning.specs.declared.globals.OutputColumn.{OutputColumn}
-use Rattle.ds2_meaning.specs.declared.globals.OutputTable.{OutputTable}
 use Rattle.ds2_meaning.specs.declared.globals.Variable.{Variable}
-use Rattle.ds2_meaning.specs.declared.readings.Reading.{Reading}
-use Rattle.ds2_meaning.specs.declared.readings.Reading.TheVariants.{Nothing, Once, Set, Merge, From}
 use Rattle.ds2_meaning.specs.declared.units.Instance.{Instance}
 use Rattle.ds2_meaning.specs.declared.units.Program.{Program}
 use Rattle.ds2_meaning.specs.declared.units.TypedData.{TypedData}
 use Rattle.ds2_meaning.specs.declared.units.TypedThread.{TypedThread}
+use Rattle.ds2_meaning.specs.declared.units.TypedThread.TheFolds.{fold-TypedThread}
+use Rattle.ds2_meaning.specs.declared.units.TypedThread.TheOpen as thread_node
 use Rattle.ds2_meaning.specs.TypedExpression as tree
 use Rattle.ds2_meaning.specs.TypedStatement as statement
 use Rattle.ds2_meaning.specs.Method.{MethodTree}
-use Rattle.ds2_meaning.specs.ProgramTree.{InstanceTree, UnitTree, ProgramTree, OverTables, OverStage}
+use Rattle.ds2_meaning.specs.ProgramTree.{BodyTree, InstanceTree, UnitTree, ProgramTree, OverTables, OverStage}
 
 -- parts one behind the other, each given as what it puts before the rest
 abbrev pub in_a_row : {A : Type 0} → List (A → A) → A → A
@@ -119,7 +117,7 @@ all_statements [] = statement.Finish
 all_statements (s ∷ ss) = statement.Next s (all_statements ss)
 
 -- what a box holds, where there is one
-abbrev pub unboxed : Option (Box statement.TypedStatement allocator.Global) → Option statement.TypedStatement
+abbrev pub unboxed : {A : Type 0} → Option (Box A allocator.Global) → Option A
 unboxed None = None
 unboxed (Some s) = Some s.value
 
@@ -162,18 +160,14 @@ typed_statements body = all_statements (map typed_statement body)
 abbrev pub typed_method : code_method.Method → MethodTree
 typed_method m = record { name = m.name; parameters = m.parameters; locals = m.locals; returns = m.returns; body = typed_statements m.body }
 
--- the statements of a system method; one that is not there has none
-abbrev pub system_tree : Option SystemMethod → statement.TypedStatements
-system_tree None = statement.Finish
-system_tree (Some m) = typed_statements m.body
-
--- the variables of the columns of an output
-abbrev pub sources : OutputTable → List (List ℕ)
-sources output = map (λ (c : OutputColumn). c.source) output.columns
+-- a system method as its meaning sees it; one that is not there has no statements
+abbrev pub system_tree : Option SystemMethod → BodyTree
+system_tree None = record { locals = []; statements = statement.Finish }
+system_tree (Some m) = record { locals = m.locals; statements = typed_statements m.body }
 
 -- an instance as its meaning sees it
 abbrev pub instance_tree : Instance → InstanceTree
-instance_tree i = record { name = i.name; variables = i.package.variables; methods = map typed_method i.package.methods }
+instance_tree i = record { name = i.name; package' = i.package.name; variables = i.package.variables; methods = map typed_method i.package.methods }
 
 -- the constructors of instances in order, and then other statements
 abbrev pub constructors_first : List Instance → statement.TypedStatements → statement.TypedStatements
@@ -181,21 +175,40 @@ constructors_first [] rest = rest
 constructors_first (i ∷ is) rest =
     statement.Next (statement.Construct i.place i.name i.constructor (in_a_row (map argument_tree i.arguments) tree.NoArgument)) (constructors_first is rest)
 
+-- `init` with the constructors of instances in front
+abbrev pub init_tree : List Instance → BodyTree → BodyTree
+init_tree instances init = record { locals = init.locals; statements = constructors_first instances init.statements }
+
 -- a data or thread program as its meaning sees it
-abbrev pub unit_tree : List Variable → Program → UnitTree
-unit_tree parameters p = record { parameters = parameters; declared = p.declared; columns = p.columns; retained = p.retained;
-    instances = map instance_tree p.instances; reading = p.reading; outputs = map sources p.outputs; methods = map typed_method p.methods;
-    init = constructors_first p.instances (system_tree p.init); run = system_tree p.run; term = system_tree p.term }
+abbrev pub unit_tree : Option (List ℕ) → List Variable → Program → UnitTree
+unit_tree thread parameters p = record {
+  thread = thread;
+  parameters = parameters;
+  declared = p.declared;
+  columns = p.columns;
+  retained = p.retained;
+  instances = map instance_tree p.instances;
+  reading = p.reading;
+  outputs = p.outputs;
+  methods = map typed_method p.methods;
+  init = init_tree p.instances (system_tree p.init);
+  run = system_tree p.run;
+  term = system_tree p.term;
+}
 
--- a thread program, as a program over its tables
+-- a program over the thread program that it reads from, where it reads from one
+abbrev pub over_stage : UnitTree → Option ProgramTree → ProgramTree
+over_stage p None = OverTables p
+over_stage p (Some stage) = OverStage p stage
+
+-- a thread program, from what the one that it reads from is
+abbrev pub thread_part : thread_node.TypedThread-F ProgramTree → ProgramTree
+thread_part t = over_stage (unit_tree (Some t.name) t.parameters t.program) (unboxed t.stage)
+
+-- a thread program as its meaning sees it
 abbrev pub typed_thread_program : TypedThread → ProgramTree
-typed_thread_program t = OverTables (unit_tree t.parameters t.program)
-
--- a data program over the thread program that it holds, where its reading statement names an instance of one
-abbrev pub reading_tree : UnitTree → Reading → Option TypedThread → ProgramTree
-reading_tree p (From instance workers columns) (Some stage) = OverStage p instance columns (typed_thread_program stage)
-reading_tree p _ _ = OverTables p
+typed_thread_program = fold-TypedThread ProgramTree thread_part
 
 -- a data program as its meaning sees it
 abbrev pub typed_data_program : TypedData → ProgramTree
-typed_data_program d = reading_tree (unit_tree [] d.program) d.program.reading d.stage
+typed_data_program d = over_stage (unit_tree None [] d.program) (option_map typed_thread_program d.stage)

@@ -83,23 +83,52 @@ pub enum Function {
 #[cycle(expression)]
 pub enum Expression {
     /// A constant; null has the type that stands where it is used.
-    Constant { value: Value, ty: Ty },
+    Constant {
+        value: Value,
+        ty: Ty,
+    },
     /// The value of a variable.
-    Variable { variable: Reference, ty: Ty },
+    Variable {
+        variable: Reference,
+        ty: Ty,
+    },
     /// A BIGINT as DECIMAL(19,0).
-    Widen { operand: Box<Expression> },
+    Widen {
+        operand: Box<Expression>,
+    },
     /// A value assigned to a type of its kind: a DECIMAL rescaled, a text cut or filled.
-    Convert { operand: Box<Expression>, ty: Ty },
+    Convert {
+        operand: Box<Expression>,
+        ty: Ty,
+    },
     /// An operator before its operand.
-    Prefixed { prefix: Prefix, operand: Box<Expression>, ty: Ty },
+    Prefixed {
+        prefix: Prefix,
+        operand: Box<Expression>,
+        ty: Ty,
+    },
     /// `first` and then each further operand, from the left.
-    Chain { first: Box<Expression>, links: List<Link> },
+    Chain {
+        first: Box<Expression>,
+        links: List<Link>,
+    },
     /// A comparison of two BIGINT values, of two DECIMAL values of any types, or of two texts: 1, 0 or null.
-    Compared { comparison: Comparison, left: Box<Expression>, right: Box<Expression> },
+    Compared {
+        comparison: Comparison,
+        left: Box<Expression>,
+        right: Box<Expression>,
+    },
     /// A function of its arguments.
-    Applied { function: Function, arguments: List<Expression>, ty: Ty },
+    Applied {
+        function: Function,
+        arguments: List<Expression>,
+        ty: Ty,
+    },
     /// The result of a method.
-    Called { call: Call, ty: Ty },
+    Called {
+        call: Call,
+        ty: Ty,
+    },
 }
 
 /// A further operand of a chain.

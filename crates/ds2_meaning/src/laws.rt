@@ -1,7 +1,29 @@
 //! Laws of the meaning, over the definitions alone.
+ghost use Rattle.ds2_meaning.specs.BudgetLaws.{NoStatementRaisesTheBudget, LoopsAreTheirTurns};
 ghost use Rattle.ds2_meaning.specs.ExpressionExamples.{IntegerExamples, DecimalExamples, TruthExamples, TextExamples};
 ghost use Rattle.ds2_meaning.specs.ProgramExamples.{UnitExamples, LoadExamples, StageExamples};
 ghost use Rattle.ds2_meaning.specs.StatementExamples.{ChoiceExamples, LoopExamples, OutputExamples, MethodExamples};
+ghost use Rattle.ds2_meaning.specs.TableLaws.{TablesMentionedDecide, FaultLeavesNoTable};
+
+/// No statement raises the budget, whatever methods it calls.
+pub fn no_statement_raises_the_budget()
+    ensures { NoStatementRaisesTheBudget }
+{}
+
+/// Each of the three loops is one turn and then the loop: the bound that the definitions count down says nothing.
+pub fn loops_are_their_turns()
+    ensures { LoopsAreTheirTurns }
+{}
+
+/// A program's answer depends on the tables that its reading statements mention alone.
+pub fn tables_mentioned_decide()
+    ensures { TablesMentionedDecide }
+{}
+
+/// A program that ends by a fault leaves no table.
+pub fn fault_leaves_no_table()
+    ensures { FaultLeavesNoTable }
+{}
 
 /// Operators on BIGINT values, in small programs.
 pub fn integer_examples()

@@ -28,9 +28,20 @@ pub enum Reading {
     /// A `run` without a reading statement: one load that sets nothing.
     Once,
     /// `set` with its tables and BY variables.
-    Set { inputs: List<Input>, bys: List<ByVariable> },
+    Set {
+        inputs: List<Input>,
+        bys: List<ByVariable>,
+    },
     /// `merge` with its tables and BY variables.
-    Merge { inputs: List<Input>, bys: List<ByVariable>, retains: bool },
+    Merge {
+        inputs: List<Input>,
+        bys: List<ByVariable>,
+        retains: bool,
+    },
     /// `set from` an instance of a thread program, whose rows have these columns.
-    From { instance: Name, workers: u32, columns: List<Column> },
+    From {
+        instance: Name,
+        workers: u32,
+        columns: List<Column>,
+    },
 }

@@ -10,23 +10,47 @@ use ds2_base::{List, Place, Text};
 #[cycle(statement)]
 pub enum Statement {
     /// `;`
-    Empty { place: Place },
+    Empty {
+        place: Place,
+    },
     /// `variable = value;`, the value in the variable's type.
-    Assign { place: Place, variable: Reference, value: Expression },
+    Assign {
+        place: Place,
+        variable: Reference,
+        value: Expression,
+    },
     /// A call whose result, where it has one, is dropped.
-    Invoke { place: Place, call: Call },
+    Invoke {
+        place: Place,
+        call: Call,
+    },
     /// `leave;`
-    Leave { place: Place },
+    Leave {
+        place: Place,
+    },
     /// `continue;`
-    Continue { place: Place },
+    Continue {
+        place: Place,
+    },
     /// `return;`
-    Return { place: Place },
+    Return {
+        place: Place,
+    },
     /// `return value;`, the value in the type that the method returns.
-    ReturnValue { place: Place, value: Expression },
+    ReturnValue {
+        place: Place,
+        value: Expression,
+    },
     /// `output ..;`: a row for each of these outputs, by their numbers in the program, from 0.
-    Output { place: Place, outputs: List<u32> },
+    Output {
+        place: Place,
+        outputs: List<u32>,
+    },
     /// `put ..;`
-    Put { place: Place, items: List<PutItem> },
+    Put {
+        place: Place,
+        items: List<PutItem>,
+    },
     /// `if condition then ..`, perhaps with `else if` parts and an `else` part.
     If {
         place: Place,
@@ -36,11 +60,23 @@ pub enum Statement {
         otherwise: Option<Box<Statement>>,
     },
     /// `select; when (condition) .. otherwise .. end;`
-    Select { place: Place, whens: List<When>, otherwise: Option<Box<Statement>> },
+    Select {
+        place: Place,
+        whens: List<When>,
+        otherwise: Option<Box<Statement>>,
+    },
     /// `select (value); when (other, ..) .. otherwise .. end;`, all values BIGINT, all DECIMAL of any types, or all texts.
-    SelectValue { place: Place, value: Expression, whens: List<When>, otherwise: Option<Box<Statement>> },
+    SelectValue {
+        place: Place,
+        value: Expression,
+        whens: List<When>,
+        otherwise: Option<Box<Statement>>,
+    },
     /// `do; .. end;`
-    Block { place: Place, body: List<Statement> },
+    Block {
+        place: Place,
+        body: List<Statement>,
+    },
     /// `do variable = start to end by step; .. end;`, all BIGINT; a step that is left out is 1.
     Count {
         place: Place,
@@ -51,9 +87,17 @@ pub enum Statement {
         body: List<Statement>,
     },
     /// `do while (condition); .. end;`
-    While { place: Place, condition: Expression, body: List<Statement> },
+    While {
+        place: Place,
+        condition: Expression,
+        body: List<Statement>,
+    },
     /// `do until (condition); .. end;`
-    Until { place: Place, condition: Expression, body: List<Statement> },
+    Until {
+        place: Place,
+        condition: Expression,
+        body: List<Statement>,
+    },
 }
 
 /// An `else if` of a chain, at the place of its `if`.

@@ -29,6 +29,8 @@ pub struct TypedThread {
     /// Its parameters, in order.
     pub parameters: List<Variable>,
     pub program: Program,
+    /// The thread program that it reads from, where it reads from one.
+    pub stage: Option<Box<TypedThread>>,
 }
 
 /// A package whose names and types fit.
