@@ -28,7 +28,7 @@ use Rattle.ds2_meaning.specs.Location.{Home, Location, Storage, held}
 use Rattle.ds2_meaning.specs.Method.{MethodTree, Methods}
 use Rattle.ds2_meaning.specs.ProgramMeaning.{output_columns}
 use Rattle.ds2_meaning.specs.ProgramTree.{BodyTree, InstanceTree, UnitTree, ProgramTree, OverTables, OverStage, data_vector, methods_of, reader_of}
-use Rattle.ds2_meaning.specs.Reading.{inputs_of, stage_columns}
+use Rattle.ds2_meaning.specs.Reading.{inputs_of, bys_of, stage_columns}
 use Rattle.ds2_meaning.specs.TypedExpression as e
 use Rattle.ds2_meaning.specs.TypedStatement as s
 
@@ -386,12 +386,6 @@ AreTypedMethods globals methods (m ∷ more) = IsTypedMethod globals methods m �
 -- the type of a flag of this name, where the list has it
 abbrev pub flag_type : Bool → Option Ty
 flag_type is_there = if is_there then Some BigInt else None
-
--- the BY variables of a reading statement
-abbrev pub bys_of : Reading → List ByVariable
-bys_of (Set inputs bys) = bys
-bys_of (Merge inputs bys retains) = bys
-bys_of _ = []
 
 -- a BY variable has this name
 abbrev pub is_by : List ByVariable → List ℕ → Bool

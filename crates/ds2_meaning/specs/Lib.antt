@@ -15,6 +15,11 @@ pub mod ExampleWords
 pub mod ExpressionExamples
 pub mod StatementExamples
 pub mod ProgramExamples
+pub mod FurtherExamples
 pub mod BudgetLaws
 pub mod TableLaws
 pub mod IsTyped
+pub mod SourceUnit
+pub mod Uses
+pub mod Refusals
+pub mod NameRules

@@ -25,7 +25,7 @@ use Rattle.ds2_meaning.specs.ExampleWords.{col, natural, fixed, global, value_of
 use Rattle.ds2_meaning.specs.Method.{MethodTree}
 use Rattle.ds2_meaning.specs.ProgramMeaning.{program_answer, tables_left}
 use Rattle.ds2_meaning.specs.ProgramTree.{UnitTree, ProgramTree, OverTables, OverStage}
-use Rattle.ds2_meaning.specs.Reading.{TableRows}
+use Rattle.ds2_meaning.specs.Reading.{TableRows, first_grain}
 use Rattle.ds2_meaning.specs.StatementExamples.{one_by_zero}
 use Rattle.ds2_meaning.specs.TypedExpression.{TypedExpression, Convert, Compared, Variable, Called, NoArgument}
 use Rattle.ds2_meaning.specs.TypedStatement.{TypedStatement, Empty, Construct, ReturnValue, Output, Put, If, Block, Text, Shown}
@@ -71,11 +71,11 @@ retaining names p = record p { retained = names }
 
 -- what is seen of a program over tables
 abbrev pub ran_over : UnitTree → List (List ℕ × List Row) → ℕ → Seen
-ran_over p tables budget = seen (program_answer (OverTables p) [] (tables_of tables) budget 1)
+ran_over p tables budget = seen (program_answer (OverTables p) [] (tables_of tables) budget (first_grain p.reading))
 
 -- the rows that a program over tables writes
 abbrev pub rows_over : UnitTree → List (List ℕ × List Row) → List Row
-rows_over p tables = map (λ (w : Written). w.row) (program_answer (OverTables p) [] (tables_of tables) 20 1).rows
+rows_over p tables = map (λ (w : Written). w.row) (program_answer (OverTables p) [] (tables_of tables) 20 (first_grain p.reading)).rows
 
 -- a row of two BIGINT values
 abbrev pub two : ℕ → ℕ → Row

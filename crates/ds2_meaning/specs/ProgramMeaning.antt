@@ -109,8 +109,8 @@ program_over_loads (OverStage p stage) tables budget grain =
     ReadsFrom (program_units p budget) (program_over_loads stage tables budget grain) (opening_of q) (parameters_given (stage_instance p.reading) q.parameters)
     (row_settings (data_vector p) (stage_columns p.reading))
 
--- the one-thread answer of a program with these values of its parameters, over these tables. The grain is that of the program
--- that reads tables, and changes the number of groups alone
+-- the one-thread answer of a program with these values of its parameters, over these tables. The grain, which fits the reading
+-- statement of the program that reads tables, changes the number of groups alone
 abbrev pub program_answer : ProgramTree → List Value → TableRows → (budget grain : ℕ) → Answer
 program_answer p values tables budget grain = alone_answer (program_over_loads p tables budget grain) (opening_of (reader_of p) values)
 

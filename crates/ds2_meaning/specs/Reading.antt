@@ -1,5 +1,5 @@
 -- Reading statements: their loads, and what a load sets.
-use Rattle.std.specs.Prelude.{ℕ, Bool, true, false, bytes_eq, not, ◌||◌, if◌then◌else◌, List, [], ◌∷◌, ◌++◌, length, map, slice_get, Option, Some, None, pos}
+use Rattle.std.specs.Prelude.{ℕ, min, nat_eq, nat_le, Bool, true, false, bytes_eq, not, ◌&&◌, ◌||◌, if◌then◌else◌, List, [], ◌∷◌, ◌++◌, length, map, slice_get, Option, Some, None, pos}
 use Rattle.std.specs.List.{list_any}
 use Rattle.ds2_value.specs.Operations.{or_null_at_fault}
 use Rattle.ds2_value.specs.Row.{Row, Columns}
@@ -39,6 +39,12 @@ inputs_of (Set inputs bys) = inputs
 inputs_of (Merge inputs bys retains) = inputs
 inputs_of _ = []
 
+-- the BY variables of a reading statement
+abbrev pub bys_of : Reading → List ByVariable
+bys_of (Set inputs bys) = bys
+bys_of (Merge inputs bys retains) = bys
+bys_of _ = []
+
 -- the rows of these inputs, in their order
 abbrev pub input_tables : TableRows → List Input → InputTables
 input_tables tables inputs = map (λ (input : Input). tables input.table) inputs
@@ -72,7 +78,15 @@ keyed_loads (Set inputs bys) tables = set_loads (descending_of bys) (keys_in bys
 keyed_loads (Merge inputs bys retains) tables = merge_loads (descending_of bys) (keys_in bys inputs tables)
 keyed_loads (From instance workers columns) tables = []
 
--- how many groups the loads of a reading statement over its tables make at a grain
+-- a grain fits a reading statement: 0 where it has no BY variable, else 1 to the number of its BY variables
+abbrev pub fits_reading : ℕ → Reading → Bool
+fits_reading grain reading = nat_le grain (length (bys_of reading)) && nat_eq (min grain 1) (min (length (bys_of reading)) 1)
+
+-- the grain of a reading statement for which none is asked: 0 without a BY variable, else 1
+abbrev pub first_grain : Reading → ℕ
+first_grain reading = min (length (bys_of reading)) 1
+
+-- how many groups the loads of a reading statement over its tables make at a grain that fits it
 abbrev pub number_of_groups : ℕ → Reading → TableRows → ℕ
 number_of_groups grain reading tables = length (groups grain (keyed_loads reading (input_tables tables (inputs_of reading))))
 

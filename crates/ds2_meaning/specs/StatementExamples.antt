@@ -1,5 +1,5 @@
 -- What small programs of statements and methods leave, written out from the rules by hand. Each stands behind its source; the
--- number in a statement is the column at which it begins.
+-- numbers in statements are their columns, which rise with the statements.
 use Rattle.std.specs.Prelude.{◌≡◌, ℕ, true, false, codes, List, [], ◌∷◌, Option, Some, None, ℤ, pos, negsuc}
 use Rattle.ds2_value.specs.declared.comparison.Comparison.TheVariants as comparison
 use Rattle.ds2_value.specs.declared.fault.Ending.TheVariants.{Normal, Faulted}

@@ -196,7 +196,8 @@ unit_tree thread parameters p = record {
   term = system_tree p.term;
 }
 
--- a program over the thread program that it reads from, where it reads from one
+-- a program over the thread program that it holds, where it holds one; in a typed program it holds one exactly where it reads
+-- from one
 abbrev pub over_stage : UnitTree → Option ProgramTree → ProgramTree
 over_stage p None = OverTables p
 over_stage p (Some stage) = OverStage p stage

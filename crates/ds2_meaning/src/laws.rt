@@ -1,6 +1,7 @@
 //! Laws of the meaning, over the definitions alone.
 ghost use Rattle.ds2_meaning.specs.BudgetLaws.{NoStatementRaisesTheBudget, LoopsAreTheirTurns};
 ghost use Rattle.ds2_meaning.specs.ExpressionExamples.{IntegerExamples, DecimalExamples, TruthExamples, TextExamples};
+ghost use Rattle.ds2_meaning.specs.FurtherExamples.{NullExamples, ConversionExamples, RoundExamples, CallExamples, ReadingExamples, FaultExamples};
 ghost use Rattle.ds2_meaning.specs.ProgramExamples.{UnitExamples, LoadExamples, StageExamples};
 ghost use Rattle.ds2_meaning.specs.StatementExamples.{ChoiceExamples, LoopExamples, OutputExamples, MethodExamples};
 ghost use Rattle.ds2_meaning.specs.TableLaws.{TablesMentionedDecide, FaultLeavesNoTable};
@@ -78,4 +79,34 @@ pub fn load_examples()
 /// Small programs that read from a thread program.
 pub fn stage_examples()
     ensures { StageExamples }
+{}
+
+/// A null operand of each operator and function, in small programs.
+pub fn null_examples()
+    ensures { NullExamples }
+{}
+
+/// The order of conversions and the types of DECIMAL results, in small programs.
+pub fn conversion_examples()
+    ensures { ConversionExamples }
+{}
+
+/// Loops with `leave`, `continue` and null, in small programs.
+pub fn round_examples()
+    ensures { RoundExamples }
+{}
+
+/// Calls, constructors and returns, in small programs.
+pub fn call_examples()
+    ensures { CallExamples }
+{}
+
+/// Loads over several tables and their groups, in small programs.
+pub fn reading_examples()
+    ensures { ReadingExamples }
+{}
+
+/// Faults in each unit and the order of units, in small programs.
+pub fn fault_examples()
+    ensures { FaultExamples }
 {}
