@@ -13,6 +13,7 @@ use Rattle.std.specs.Option.{is_some, option_map, option_and_then}
 use Rattle.ds2_decimal.specs.Arithmetic.{new, neg}
 use Rattle.ds2_decimal.specs.Decimal.{Decimal}
 use Rattle.ds2_decimal.specs.Text.{is_point, are_digits, is_whole, of_digits, of_parts, read_unsigned, read}
+use Rattle.ds2_csv.specs.Columns.{without_sign}
 use Rattle.ds2_csv.specs.Number.{begins_well, number_from, size_of, below_zero, not_below_zero, integer_of}
 use Rattle.ds2_csv.specs.Short.{number_behind}
 use Rattle.ds2_csv.proofs.Writing.{after, after_cons}
@@ -281,4 +282,36 @@ integer-decimal (c ∷ cs) e = by (c == 45) e
     by : (b : Bool) → is_some (if b then option_and_then below_zero (size_of cs) else option_and_then not_below_zero (size_of (c ∷ cs))) ≡ true
         → is_some (if b then option_map neg (read_unsigned cs) else read_unsigned (c ∷ cs)) ≡ true
     by true f = negative (read_unsigned cs) (whole cs below_zero f)
+    by false f = whole (c ∷ cs) not_below_zero f
+
+-- an integer has no point
+digits-of-size : (ds : List ℕ) (n : ℕ) → size_of ds ≡ Some n → all_ascii_digits ds ≡ true
+unfolding size_of
+digits-of-size ds n e = by (begins_well ds) (all_ascii_digits ds) (nat_le (number_from 0 ds) (2 ^ 63)) e
+  where
+    by : (a b c : Bool) → (if a && b && c then Some (number_from 0 ds) else None) ≡ Some n → b ≡ true
+    by true true c f = refl
+    by true false c f = cc f
+    by false b c f = cc f
+
+-- the whole text stands before the point, and nothing behind it
+abbrev IsWhole : List ℕ → Type 0
+IsWhole ds = (before_first is_point ds ≡ ds) × (after_first is_point ds ≡ [])
+
+pub integer-whole : (cell : List ℕ) → is_some (integer_of cell) ≡ true → (before_first is_point (without_sign cell) ≡ without_sign cell) × (after_first is_point (without_sign cell) ≡ [])
+unfolding integer_of
+integer-whole [] e = cc e
+integer-whole (c ∷ cs) e = by (c == 45) e
+  where
+    whole : (ds : List ℕ) (f : ℕ → Option ℤ) → is_some (option_and_then f (size_of ds)) ≡ true → IsWhole ds
+    whole ds f e = pick (size_of ds) refl e
+      where
+        pick : (o : Option ℕ) → size_of ds ≡ o → is_some (option_and_then f o) ≡ true → IsWhole ds
+        pick (Some n) g h =
+            let end : position_or_len is_point ds ≡ length ds = no-point ds (digits-of-size ds n g) in
+            (take-all ds (position_or_len is_point ds) (omega arith), drop-all ds (position_or_len is_point ds + 1) (omega arith))
+        pick None g h = cc h
+
+    by : (b : Bool) → is_some (if b then option_and_then below_zero (size_of cs) else option_and_then not_below_zero (size_of (c ∷ cs))) ≡ true → IsWhole (if b then cs else c ∷ cs)
+    by true f = whole cs below_zero f
     by false f = whole (c ∷ cs) not_below_zero f

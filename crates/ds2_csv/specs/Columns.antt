@@ -25,17 +25,21 @@ abbrev pub greatest : (List ℕ → ℕ) → List (List ℕ) → ℕ
 greatest number [] = 0
 greatest number (cell ∷ cells) = max (number cell) (greatest number cells)
 
--- the part of a number's text before its point, without its sign
-abbrev pub whole_part : List ℕ → List ℕ
-whole_part text = before_first is_point (if slice_index text 0 == 45 then drop 1 text else text)
+-- a number's text without its sign
+abbrev pub without_sign : List ℕ → List ℕ
+without_sign text = if slice_index text 0 == 45 then drop 1 text else text
+
+-- how many digits a whole number has, where `0` has none
+abbrev pub whole_digits : List ℕ → ℕ
+whole_digits whole = if slice_index whole 0 == 48 then 0 else length whole
 
 -- how many digits stand before the point of a number's text, where `0` counts none
 abbrev pub digits_before : List ℕ → ℕ
-digits_before text = if slice_index (whole_part text) 0 == 48 then 0 else length (whole_part text)
+digits_before text = whole_digits (before_first is_point (without_sign text))
 
 -- how many digits stand after the point of a number's text
 abbrev pub digits_after : List ℕ → ℕ
-digits_after text = length (after_first is_point text)
+digits_after text = length (after_first is_point (without_sign text))
 
 -- the digits of the decimals that take these cells, at least one
 abbrev pub precision_of : List (List ℕ) → ℕ

@@ -5,7 +5,7 @@ ghost use Rattle.ds2_csv.specs.Cells.{is_null_mark, is_missing, unescaped, decod
 ghost use Rattle.std.specs.Str.{is_utf8};
 ghost use Rattle.ds2_value.specs.declared.value.Value.TheVariants as Value;
 ghost use Rattle.ds2_base.specs.Characters.{char_count};
-ghost use Rattle.ds2_csv_records.specs.Cells.{spelled};
+ghost use Rattle.ds2_csv_records.specs.Cells.{spelled, unquoted};
 ghost use Rattle.ds2_value.specs.Types.{in_bounds, fits};
 
 use crate::decimal::decimal;
@@ -157,7 +157,8 @@ fn add_decimal(values: &mut Row, p: u8, s: u8, cell: &str) -> Result<bool, OutOf
     }
 }
 
-/// Adds the value of a cell's text in a column of a type at the end, and says whether there is one.
+// Adds the value of a cell's text in a column of a type at the end, and says whether there is one.
+#[inline(always)]
 #[tactic(auto, unfolding(crate::specs::Cells::value_of))]
 fn add_value(alloc: Global, values: &mut Row, ty: Ty, cell: &str) -> Result<bool, OutOfMemory>
     requires { IsTrue (in_bounds ty) }
@@ -172,7 +173,18 @@ fn add_value(alloc: Global, values: &mut Row, ty: Ty, cell: &str) -> Result<bool
     }
 }
 
-/// The same of a cell as it stands in the text.
+// The same of a cell with quotes.
+#[inline(never)]
+fn add_quoted(alloc: Global, values: &mut Row, ty: Ty, raw: &str) -> Result<bool, OutOfMemory>
+    requires { IsTrue (in_bounds ty) }
+    ensures added { IfOk result (λ good. IsAdded good values.old values.new (value_of ty (unquoted true raw.now))) }
+    ensures fit { IfOk result (λ good. IfSome (value_of ty (unquoted true raw.now)) (λ v. IsTrue (fits v ty))) }
+{
+    let text = unquoted(alloc, raw)?;
+    add_value(alloc, values, ty, text.as_str())
+}
+
+/// Adds the value of a cell as it stands in the text, in a column of a type, at the end, and says whether there is one.
 pub fn add_cell(alloc: Global, values: &mut Row, ty: Ty, cell: Cell) -> Result<bool, OutOfMemory>
     requires { IsTrue (in_bounds ty) }
     ensures added { IfOk result (λ good. IsAdded good values.old values.new (value_of ty (spelled cell.entry))) }
@@ -180,9 +192,6 @@ pub fn add_cell(alloc: Global, values: &mut Row, ty: Ty, cell: Cell) -> Result<b
 {
     match cell {
         Cell::Plain(text) => add_value(alloc, values, ty, text),
-        Cell::Quoted(raw) => {
-            let text = unquoted(alloc, raw)?;
-            add_value(alloc, values, ty, text.as_str())
-        }
+        Cell::Quoted(raw) => add_quoted(alloc, values, ty, raw),
     }
 }

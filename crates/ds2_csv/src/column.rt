@@ -1,6 +1,6 @@
 //! The columns of a table, whose types the header tells or the cells do.
-ghost use Rattle.std.specs.Prelude.{◌≡◌, ◌∷◌, ◌++◌, ℕ, [], length, map, unwrap_or, List as Items, IfOk, OnOk};
-ghost use Rattle.ds2_csv_records.specs.Cells.{spelled};
+ghost use Rattle.std.specs.Prelude.{◌≡◌, ◌∷◌, ◌++◌, ℕ, [], true, length, map, unwrap_or, List as Items, IfOk, OnOk};
+ghost use Rattle.ds2_csv_records.specs.Cells.{spelled, unquoted};
 ghost use Rattle.ds2_csv_records.specs.Reading.{records_left};
 ghost use Rattle.ds2_csv.specs.Columns.{type_of_cells, columns_from};
 ghost use Rattle.ds2_csv.specs.Inferred.{IsInferred};
@@ -19,16 +19,27 @@ use ds2_csv_records::{Cell, unquoted};
 use ds2_value::{Column, Ty};
 use std::alloc::Global;
 
-// What is known with one more cell.
-fn with_cell(alloc: Global, known: Inference, cell: Cell) -> Result<Inference, OutOfMemory>
-    ensures { (cells : Items (Items ℕ)) → IsInferred known cells → IfOk result (λ more. IsInferred more (cells ++ spelled cell.entry ∷ [])) }
+// Adds one more cell, which has quotes, to what is known.
+#[inline(never)]
+fn add_quoted(alloc: Global, known: &mut Inference, raw: &str) -> Result<(), OutOfMemory>
+    ensures { (cells : Items (Items ℕ)) → IsInferred known.old cells → OnOk result (IsInferred known.new (cells ++ unquoted true raw.now ∷ [])) }
+{
+    let text = unquoted(alloc, raw)?;
+    known.add_cell(text.as_str());
+    Ok(())
+}
+
+// Adds one more cell to what is known.
+#[inline(always)]
+fn add_cell(alloc: Global, known: &mut Inference, cell: Cell) -> Result<(), OutOfMemory>
+    ensures { (cells : Items (Items ℕ)) → IsInferred known.old cells → OnOk result (IsInferred known.new (cells ++ spelled cell.entry ∷ [])) }
 {
     match cell {
-        Cell::Plain(text) => Ok(known.with_cell(text)),
-        Cell::Quoted(raw) => {
-            let text = unquoted(alloc, raw)?;
-            Ok(known.with_cell(text.as_str()))
+        Cell::Plain(text) => {
+            known.add_cell(text);
+            Ok(())
         }
+        Cell::Quoted(raw) => add_quoted(alloc, known, raw),
     }
 }
 
@@ -40,9 +51,9 @@ fn add_row(alloc: Global, known: &mut List<Inference>, row: &[Cell]) -> Result<(
 {
     'cells: for (i, _) in row.iter().enumerate() {
         let cell = item(row, i);
-        let seen = item(known.as_slice(), i);
-        let more = with_cell(alloc, seen, cell)?;
-        known.replace(i, more);
+        let mut seen = item(known.as_slice(), i);
+        add_cell(alloc, &mut seen, cell)?;
+        known.replace(i, seen);
     }
     Ok(())
 }

@@ -1,8 +1,8 @@
 //! The type of a column out of its cells, in one pass.
-ghost use Rattle.std.specs.Prelude.{◌≡◌, ◌&&◌, ◌||◌, false, ℕ, [], ◌∷◌, ◌++◌, max, is_some, List as Items};
+ghost use Rattle.std.specs.Prelude.{◌≡◌, ◌&&◌, ◌||◌, true, false, ℕ, [], ◌∷◌, ◌++◌, max, is_some, List as Items};
 ghost use Rattle.ds2_base.specs.Characters.{char_count};
 ghost use Rattle.ds2_csv.specs.Cells.{is_missing};
-ghost use Rattle.ds2_csv.specs.Columns.{whole_part, digits_before, digits_after, text_size, given, decimals_of, type_of_cells};
+ghost use Rattle.ds2_csv.specs.Columns.{without_sign, whole_digits, digits_before, digits_after, text_size, given, decimals_of, type_of_cells};
 ghost use Rattle.ds2_csv.specs.Number.{integer_of};
 ghost use Rattle.ds2_decimal.specs.Text.{read};
 ghost use Rattle.ds2_csv.specs.Inferred.{IsInferred};
@@ -31,30 +31,39 @@ pub struct Inference {
     longest: usize,
 }
 
-// The part of a number's text before its point, without its sign.
-fn whole_part(text: &[u8]) -> &[u8]
-    ensures { result.now ≡ whole_part text.now }
+// A number's text without its sign.
+fn without_sign(text: &[u8]) -> &[u8]
+    ensures { result.now ≡ without_sign text.now }
 {
     match text {
-        [b'-', digits @ ..] => cut(digits, b'.').0,
-        _ => cut(text, b'.').0,
+        [b'-', digits @ ..] => digits,
+        _ => text,
     }
 }
 
-// How many digits stand before the point of a number's text, where `0` counts none.
-fn digits_before(text: &[u8]) -> usize
-    ensures { result ≡ digits_before text.now }
+// How many digits a whole number has, where `0` has none.
+fn whole_digits(whole: &[u8]) -> usize
+    ensures { result ≡ whole_digits whole.now }
 {
-    match whole_part(text) {
+    match whole {
         [b'0', ..] => 0,
-        whole => whole.len(),
+        _ => whole.len(),
     }
 }
 
-fn digits_after(text: &[u8]) -> usize
-    ensures { result ≡ digits_after text.now }
+// How many digits stand before the point of a number's text, where `0` counts none, and how many after it. No point is looked for
+// in an integer.
+fn digits(text: &[u8], integer: bool) -> (usize, usize)
+    requires { integer ≡ true → is_some (integer_of text.now) ≡ true }
+    ensures before { result.0 ≡ digits_before text.now }
+    ensures behind { result.1 ≡ digits_after text.now }
 {
-    cut(text, b'.').1.len()
+    let number = without_sign(text);
+    if integer {
+        return (whole_digits(number), 0);
+    }
+    let (whole, fraction) = cut(number, b'.');
+    (whole_digits(whole), fraction.len())
 }
 
 // The greater of a number and the number of a text's characters. A text of at most so many bytes has no more characters.
@@ -107,40 +116,34 @@ impl Inference {
     }
 
     // One more cell, which is not null in a number column; `longest` is known with it.
-    fn with_given(self, cell: &str, longest: usize) -> Inference
-        ensures { (cells : Items (Items ℕ)) → IsInferred self cells → is_missing cell.now ≡ false → longest ≡ max (text_size cell.now) self.longest
-            → IsInferred result (cells ++ cell.now ∷ []) }
+    fn add_given(&mut self, cell: &str, longest: usize)
+        ensures { (cells : Items (Items ℕ)) → IsInferred self.old cells → is_missing cell.now ≡ false → longest ≡ max (text_size cell.now) self.old.longest
+            → IsInferred self.new (cells ++ cell.now ∷ []) }
     {
         let integers = are_integers(self.integers, cell.as_bytes());
+        self.given = true;
+        self.integers = integers;
+        self.longest = longest;
         if !are_decimals(integers, self.decimals, cell) {
-            return Inference {
-                given: true,
-                integers,
-                decimals: false,
-                before: 0,
-                after: 0,
-                longest,
-            };
+            self.decimals = false;
+            return;
         }
-        Inference {
-            given: true,
-            integers,
-            decimals: true,
-            before: self.before.max(digits_before(cell.as_bytes())),
-            after: self.after.max(digits_after(cell.as_bytes())),
-            longest,
-        }
+        let (before, after) = digits(cell.as_bytes(), integers);
+        self.decimals = true;
+        self.before = self.before.max(before);
+        self.after = self.after.max(after);
     }
 
-    /// One more cell.
-    pub fn with_cell(self, cell: &str) -> Inference
-        ensures { (cells : Items (Items ℕ)) → IsInferred self cells → IsInferred result (cells ++ cell.now ∷ []) }
+    /// Adds one more cell.
+    #[inline(always)]
+    pub fn add_cell(&mut self, cell: &str)
+        ensures { (cells : Items (Items ℕ)) → IsInferred self.old cells → IsInferred self.new (cells ++ cell.now ∷ []) }
     {
         let longest = with_size(self.longest, cell);
         if is_missing(cell.as_bytes()) {
-            Inference { longest, ..self }
+            self.longest = longest;
         } else {
-            self.with_given(cell, longest)
+            self.add_given(cell, longest);
         }
     }
 

@@ -1,10 +1,10 @@
 //! Reading of a table.
-ghost use Rattle.std.specs.Prelude.{◌≡◌, ◌≤◌, length, IsTrue, IfOk};
+ghost use Rattle.std.specs.Prelude.{◌≡◌, ◌≤◌, length, nat_lt, IsTrue, IfOk};
 ghost use Rattle.ds2_base.specs.Says.{Says};
 ghost use Rattle.ds2_csv_records.specs.Reading.{records_left};
 ghost use Rattle.ds2_csv.specs.Columns.{columns_from};
 ghost use Rattle.ds2_csv.specs.Known.{AreInferred};
-ghost use Rattle.ds2_csv.specs.declared.limits.TheConstants.{MOST_COLUMNS};
+ghost use Rattle.ds2_csv.specs.declared.limits.TheConstants.{MOST_BYTES, MOST_COLUMNS};
 ghost use Rattle.ds2_csv.specs.Reads.{of_records, reads};
 ghost use Rattle.ds2_csv.specs.Records.{Rows, records_of};
 ghost use Rattle.ds2_csv.specs.Typed.{are_typed, under_headings};
@@ -65,6 +65,13 @@ fn under_headings(
     typed_table(alloc, below, schema, headings.len())
 }
 
+// Whether a header of so many cells has more than a table may have.
+fn is_wide(count: usize) -> bool
+    ensures { result ≡ nat_lt MOST_COLUMNS count }
+{
+    count > MOST_COLUMNS
+}
+
 // The table of the records of a text.
 fn of_records(alloc: Global, text: &str) -> Result<Table, Stop<CsvRefusal>>
     ensures { Says result (of_records (records_of text.now)) }
@@ -73,11 +80,18 @@ fn of_records(alloc: Global, text: &str) -> Result<Table, Stop<CsvRefusal>>
     let Some(below) = next_record(without_mark(text), &mut header, MOST_COLUMNS)? else {
         return Err(Stop::Refused(of_file(CsvKind::NoHeader)));
     };
-    if header.count > MOST_COLUMNS {
+    if is_wide(header.count) {
         return Err(Stop::Refused(of_file(CsvKind::TooLarge)));
     }
     let headings = headings(alloc, header.cells.as_slice())?;
     under_headings(alloc, headings.as_slice(), below)
+}
+
+// Whether a file of so many bytes has more than a table may have.
+fn is_long(len: usize) -> bool
+    ensures { result ≡ nat_lt MOST_BYTES len }
+{
+    len > MOST_BYTES
 }
 
 /// The table that bytes spell, or the first refusal, in the order of [`CsvKind`]; the limits on bytes and columns come before
@@ -87,7 +101,7 @@ pub fn read_table(alloc: Global, bytes: &Bytes) -> Result<Table, Stop<CsvRefusal
     ensures { Says result (reads bytes.now) }
 {
     let bytes = bytes.as_slice();
-    if bytes.len() > MOST_BYTES {
+    if is_long(bytes.len()) {
         return Err(Stop::Refused(of_file(CsvKind::TooLarge)));
     }
     match str::from_utf8(bytes) {

@@ -1,13 +1,15 @@
 //! Writing of a table.
-ghost use Rattle.std.specs.Prelude.{◌≡◌, ◌++◌, map, OnOk, IfOk, string_bytes};
+ghost use Rattle.std.specs.Prelude.{◌≡◌, ◌≤◌, ◌++◌, ◌∷◌, [], if◌then◌else◌, map, OnOk, IfOk, string_bytes};
 ghost use Rattle.std.specs.Fmt.{signed_decimal};
-ghost use Rattle.csv.specs.Writing.{default_writer, row_body, row_text};
+ghost use Rattle.csv.specs.Writing.{default_writer, fields_text, row_body, row_text};
 ghost use Rattle.ds2_csv_records.specs.Records.{field_of};
+ghost use Rattle.ds2_decimal.specs.Text.{decimal_text, last_digits, written_magnitude};
 ghost use Rattle.ds2_csv.specs.Text.{type_text, heading_text, null_text, escaped, cell_text, cells_text, text};
 
 use crate::TableWriter;
 use ds2_base::{Bytes, OutOfMemory};
 use ds2_csv_records::{add_field, add_separator, end_record};
+use ds2_decimal::Dec;
 use ds2_table::Table;
 use ds2_value::{Column, Row, Ty, Value, write_dec};
 use itoa::Buffer;
@@ -63,6 +65,7 @@ fn add_text(alloc: Global, out: &mut Bytes, text: &str) -> Result<(), OutOfMemor
 }
 
 // Adds the text of a cell that holds an integer, which needs no quotes.
+#[inline(always)]
 fn add_integer(out: &mut Bytes, buffer: &mut Buffer, i: i64) -> Result<(), OutOfMemory>
     ensures { OnOk result (out.new ≡ out.old ++ field_of (signed_decimal i)) }
 {
@@ -70,9 +73,66 @@ fn add_integer(out: &mut Bytes, buffer: &mut Buffer, i: i64) -> Result<(), OutOf
     Ok(())
 }
 
+// Adds the last digits of a number, so many of them.
+fn add_last_digits(out: &mut Bytes, n: u64, count: u8) -> Result<(), OutOfMemory>
+    ensures { OnOk result (out.new ≡ out.old ++ last_digits count n) }
+{
+    if count > 0 {
+        add_last_digits(out, n / 10, count - 1)?;
+        out.push(b'0' + (n % 10) as u8)?;
+    }
+    Ok(())
+}
+
+// Adds the sign of a number below 0.
+fn add_sign(out: &mut Bytes, below_zero: bool) -> Result<(), OutOfMemory>
+    ensures { OnOk result (out.new ≡ out.old ++ (if below_zero then 45 ∷ [] else [])) }
+{
+    if below_zero {
+        out.push(b'-')?;
+    }
+    Ok(())
+}
+
+// Adds the text of a decimal without its sign, of at most 18 digits behind the point.
+fn add_magnitude(out: &mut Bytes, buffer: &mut Buffer, n: u64, scale: u8) -> Result<(), OutOfMemory>
+    requires { scale ≤ 18 }
+    ensures { OnOk result (out.new ≡ out.old ++ written_magnitude n scale) }
+{
+    if scale == 0 {
+        out.append(buffer.format(n).as_bytes())?;
+        return Ok(());
+    }
+    out.append(buffer.format(n / 10u64.pow(scale as u32)).as_bytes())?;
+    out.push(b'.')?;
+    add_last_digits(out, n, scale)?;
+    Ok(())
+}
+
+// Adds the text of a cell that holds a decimal, which needs no quotes. A short one is written here, in fewer steps.
+fn add_decimal(
+    alloc: Global,
+    out: &mut Bytes,
+    buffer: &mut Buffer,
+    d: Dec,
+) -> Result<(), OutOfMemory>
+    ensures { OnOk result (out.new ≡ out.old ++ field_of (decimal_text d)) }
+{
+    let units = d.units();
+    let magnitude = units.unsigned_abs();
+    if d.scale() > 18 || magnitude > u64::MAX as u128 {
+        let text = write_dec(alloc, d)?;
+        return add_field(out, text.as_bytes());
+    }
+    add_sign(out, units < 0)?;
+    add_magnitude(out, buffer, magnitude as u64, d.scale())?;
+    Ok(())
+}
+
 // Adds the text of a cell that holds a value in a column of a type.
+#[inline(never)]
 #[tactic(auto, unfolding(crate::specs::Text::cell_text))]
-fn add_cell(
+fn add_value(
     alloc: Global,
     out: &mut Bytes,
     buffer: &mut Buffer,
@@ -84,11 +144,26 @@ fn add_cell(
     match value {
         Value::Null => add_field(out, null_text(ty).as_bytes()),
         Value::Int(i) => add_integer(out, buffer, *i),
-        Value::Dec(d) => {
-            let number = write_dec(alloc, *d)?;
-            add_field(out, number.as_bytes())
-        }
+        Value::Dec(d) => add_decimal(alloc, out, buffer, *d),
         Value::Txt(t) => add_text(alloc, out, t.as_str()),
+    }
+}
+
+// The same; an integer is added here, in fewer steps.
+#[inline(always)]
+#[tactic(auto, unfolding(crate::specs::Text::cell_text))]
+fn add_cell(
+    alloc: Global,
+    out: &mut Bytes,
+    buffer: &mut Buffer,
+    ty: Ty,
+    value: &Value,
+) -> Result<(), OutOfMemory>
+    ensures { OnOk result (out.new ≡ out.old ++ field_of (cell_text ty value.now)) }
+{
+    match value {
+        Value::Int(i) => add_integer(out, buffer, *i),
+        _ => add_value(alloc, out, buffer, ty, value),
     }
 }
 
@@ -108,6 +183,32 @@ fn header_cells(alloc: Global, out: &mut Bytes, columns: &[Column]) -> Result<()
     Ok(())
 }
 
+// Adds the cells of a row under its columns, with a comma before each.
+fn later_cells(
+    alloc: Global,
+    out: &mut Bytes,
+    buffer: &mut Buffer,
+    columns: &[Column],
+    row: &[Value],
+) -> Result<(), OutOfMemory>
+    ensures { OnOk result (out.new ≡ out.old ++ fields_text default_writer (cells_text columns.now row.now)) }
+{
+    let mut later = columns;
+    let mut rest = row;
+    'cells: while let [column, after @ ..] = later {
+        match rest {
+            [] => return Ok(()),
+            [value, others @ ..] => {
+                add_separator(out, false)?;
+                add_cell(alloc, out, buffer, column.ty, value)?;
+                later = after;
+                rest = others;
+            }
+        }
+    }
+    Ok(())
+}
+
 // Adds the cells of a row under its columns, with commas between them.
 fn row_cells(
     alloc: Global,
@@ -118,22 +219,17 @@ fn row_cells(
     ensures { OnOk result (out.new ≡ out.old ++ row_body default_writer (cells_text columns.now row.now)) }
 {
     let mut buffer = Buffer::new();
-    let mut later = columns;
-    let mut rest = row;
-    let mut first = true;
-    'cells: while let [column, after @ ..] = later {
-        match rest {
-            [] => return Ok(()),
-            [value, others @ ..] => {
-                add_separator(out, first)?;
+    match columns {
+        [] => Ok(()),
+        [column, later @ ..] => match row {
+            [] => Ok(()),
+            [value, rest @ ..] => {
                 add_cell(alloc, out, &mut buffer, column.ty, value)?;
-                later = after;
-                rest = others;
-                first = false;
+                later_cells(alloc, out, &mut buffer, later, rest)?;
+                Ok(())
             }
-        }
+        },
     }
-    Ok(())
 }
 
 /// Adds the record of the header.
@@ -169,7 +265,7 @@ pub fn write_rows(alloc: Global, columns: &[Column], rows: &[Row]) -> Result<Byt
 {
     let mut writer = TableWriter::new(alloc, columns)?;
     'each: for row in rows {
-        writer = writer.with_row(alloc, columns, row.as_slice())?;
+        writer.add(alloc, columns, row.as_slice())?;
     }
     writer.into_bytes()
 }

@@ -1,5 +1,5 @@
 //! Writing of a table row by row.
-ghost use Rattle.std.specs.Prelude.{◌≡◌, ◌++◌, ◌∷◌, [], List as Items, IfOk};
+ghost use Rattle.std.specs.Prelude.{◌≡◌, ◌++◌, ◌∷◌, [], List as Items, IfOk, OnOk};
 ghost use Rattle.ds2_value.specs.declared.value.Value.{Value as Cell};
 ghost use Rattle.ds2_csv.specs.Text.{text};
 
@@ -34,6 +34,19 @@ impl TableWriter {
         Ok(TableWriter { bytes })
     }
 
+    // Adds one more row of its columns.
+    pub(crate) fn add(
+        &mut self,
+        alloc: Global,
+        columns: &[Column],
+        row: &[Value],
+    ) -> Result<(), OutOfMemory>
+        ensures { (rows : Items (Items Cell)) → self.old ≡ text (record { columns = columns.now; rows = rows }) → OnOk result (self.new ≡ text (record { columns = columns.now; rows = rows ++ row.now ∷ [] })) }
+    {
+        add_row(alloc, &mut self.bytes, columns, row)?;
+        Ok(())
+    }
+
     /// The text with one more row of its columns.
     pub fn with_row(
         self,
@@ -43,9 +56,9 @@ impl TableWriter {
     ) -> Result<TableWriter, OutOfMemory>
         ensures { (rows : Items (Items Cell)) → self ≡ text (record { columns = columns.now; rows = rows }) → IfOk result (λ writer. writer ≡ text (record { columns = columns.now; rows = rows ++ row.now ∷ [] })) }
     {
-        let TableWriter { mut bytes } = self;
-        add_row(alloc, &mut bytes, columns, row)?;
-        Ok(TableWriter { bytes })
+        let mut writer = self;
+        writer.add(alloc, columns, row)?;
+        Ok(writer)
     }
 
     /// The bytes of the table.

@@ -118,7 +118,7 @@ fn add_part<'t>(text: &mut String, rest: &'t str) -> Result<&'t str, OutOfMemory
 pub fn unquoted(alloc: Global, raw: &str) -> Result<String, OutOfMemory>
     ensures { IfOk result (λ text. string_bytes text ≡ unquoted true raw.now) }
 {
-    let mut text = String::new(alloc);
+    let mut text = String::with_capacity(alloc, raw.len())?;
     let mut rest = raw;
     'quotes: while !rest.is_empty() {
         rest = add_part(&mut text, rest)?;

@@ -8,6 +8,7 @@ use Rattle.ds2_decimal.specs.declared.dec.DecFault.{DecFault}
 use Rattle.ds2_decimal.specs.declared.dec.DecFault.TheVariants.{Overflow, DivideByZero}
 use Rattle.ds2_decimal.specs.Decimal.{Decimal, is_within, units_at, value}
 use Rattle.ds2_decimal.specs.Rounding.{is_zero, moved_sign, round, round_down, round_up}
+use Rattle.ds2_decimal.specs.declared.dec.TheConstants.{MOST_DIGITS}
 
 -- the decimal u / 10 ^ s, or Overflow where u has more than p digits
 abbrev pub within : ℕ → ℤ → ℕ → Result Decimal DecFault
@@ -15,7 +16,7 @@ within p u s = if is_within p u then Ok (record { units = u; scale = s }) else E
 
 -- the decimal u / 10 ^ s, or none where u has more than 38 digits or s is above 38
 abbrev pub new : ℤ → ℕ → Option Decimal
-new u s = if is_within 38 u && nat_le s 38 then Some (record { units = u; scale = s }) else None
+new u s = if is_within MOST_DIGITS u && nat_le s MOST_DIGITS then Some (record { units = u; scale = s }) else None
 
 -- the scale to which the operands of a sum are brought
 abbrev pub common_scale : Decimal → Decimal → ℕ
@@ -24,11 +25,11 @@ common_scale a b = max a.scale b.scale
 -- the units of both at their common scale, where both have at most 38 digits there
 abbrev pub aligned : Decimal → Decimal → Option (ℤ × ℤ)
 aligned a b = let s = common_scale a b in
-    if is_within 38 (units_at s a) && is_within 38 (units_at s b) then Some (units_at s a, units_at s b) else None
+    if is_within MOST_DIGITS (units_at s a) && is_within MOST_DIGITS (units_at s b) then Some (units_at s a, units_at s b) else None
 
 -- f of the aligned units, at the common scale; Overflow where they, or what f gives, have more than 38 digits
 abbrev pub on_aligned : (ℤ → ℤ → ℤ) → Decimal → Decimal → Result Decimal DecFault
-on_aligned f a b = option_map_or (λ p. within 38 (f p.0 p.1) (common_scale a b)) (aligned a b) (Err Overflow)
+on_aligned f a b = option_map_or (λ p. within MOST_DIGITS (f p.0 p.1) (common_scale a b)) (aligned a b) (Err Overflow)
 
 -- a + b
 abbrev pub add : Decimal → Decimal → Result Decimal DecFault
@@ -40,7 +41,7 @@ sub a b = on_aligned (λ x y. x -ℤ y) a b
 
 -- a * b; the scales add up
 abbrev pub mul : Decimal → Decimal → Result Decimal DecFault
-mul a b = within 38 (a.units *ℤ b.units) (a.scale + b.scale)
+mul a b = within MOST_DIGITS (a.units *ℤ b.units) (a.scale + b.scale)
 
 -- the scale of a quotient
 abbrev pub quotient_scale : Decimal → Decimal → ℕ
@@ -52,7 +53,7 @@ numerator a b = moved_sign b.units a.units *ℤ pos (10 ^ (quotient_scale a b + 
 
 -- a / b rounded, a half away from zero; DivideByZero where b is 0
 abbrev pub div : Decimal → Decimal → Result Decimal DecFault
-div a b = if is_zero b.units then Err DivideByZero else within 38 (round (numerator a b) (unsigned_abs b.units)) (quotient_scale a b)
+div a b = if is_zero b.units then Err DivideByZero else within MOST_DIGITS (round (numerator a b) (unsigned_abs b.units)) (quotient_scale a b)
 
 -- what is left of a after as many whole b as go into it, with the sign of a; DivideByZero, where b is 0, comes before Overflow
 abbrev pub modulo : Decimal → Decimal → Result Decimal DecFault

@@ -7,6 +7,7 @@ use Rattle.ds2_decimal.specs.Decimal.{Decimal, IsDecimal, units_at}
 use Rattle.ds2_decimal.specs.Rounding.{round}
 use Rattle.ds2_decimal.specs.Arithmetic.{mul, div, rescale, floor, ceil, compare}
 use Rattle.ds2_decimal.specs.Text.{read, decimal_text}
+use Rattle.ds2_decimal.specs.declared.dec.TheConstants.{MOST_DIGITS}
 
 -- the order is total
 abbrev pub CompareIsTotal : Type 0
@@ -27,7 +28,7 @@ pub record OrdersNumbers (a b : Decimal) : Type 0 where
 
 -- the order is that of the numbers, whatever their scales
 abbrev pub CompareIsExact : Type 0
-CompareIsExact = (a b : Decimal) → a.scale ≤ 38 → b.scale ≤ 38 → OrdersNumbers a b
+CompareIsExact = (a b : Decimal) → a.scale ≤ MOST_DIGITS → b.scale ≤ MOST_DIGITS → OrdersNumbers a b
 
 -- how far q divisors are from a
 abbrev pub distance : ℤ → ℕ → ℤ → ℕ

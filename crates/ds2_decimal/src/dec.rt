@@ -15,6 +15,9 @@ use std::cmp::Ordering;
 use std::marker::Model;
 use std::mem::size_of;
 
+/// The most digits of a decimal, and the most of them after the point.
+pub const MOST_DIGITS: u8 = 38;
+
 /// Why an operation on decimals has no result.
 #[derive(Debug, Clone, Copy, PartialEq, Eq, Drop)]
 pub enum DecFault {
@@ -42,7 +45,9 @@ impl Model for Dec {
 
     ghost view = { λ d. record { units = d.units; scale = d.scale } };
 
-    ghost invariant = { λ d. (unsigned_abs d.units < 10 ^ 38) × (d.scale ≤ 38) };
+    ghost use Rattle.ds2_decimal.specs.declared.dec.TheConstants.{MOST_DIGITS};
+
+    ghost invariant = { λ d. (unsigned_abs d.units < 10 ^ MOST_DIGITS) × (d.scale ≤ MOST_DIGITS) };
 
     ghost inverse = { λ d. record { units = d.units; scale = d.scale } };
 }
@@ -52,7 +57,7 @@ impl Dec {
     pub fn new(units: i128, scale: u8) -> Option<Dec>
         ensures { result ≡ spec.new units scale }
     {
-        if units.unsigned_abs() < LIMIT && scale <= 38 {
+        if units.unsigned_abs() < LIMIT && scale <= MOST_DIGITS {
             Some(Dec {
                 units: Units::of(units),
                 scale,

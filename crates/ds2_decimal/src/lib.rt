@@ -21,4 +21,4 @@ mod tests;
 mod units;
 mod words;
 
-pub use dec::{Dec, DecFault};
+pub use dec::{Dec, DecFault, MOST_DIGITS};

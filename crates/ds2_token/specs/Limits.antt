@@ -6,10 +6,13 @@ use Rattle.std.specs.Str.Parse.{digits_value}
 use Rattle.ds2_base.specs.Bytes.{Bytes}
 use Rattle.ds2_base.specs.Characters.{char_count}
 use Rattle.ds2_base.specs.Name.{is_name}
+use Rattle.ds2_base.specs.declared.name.TheConstants.{NAME_CHARACTERS}
+use Rattle.ds2_decimal.specs.declared.dec.TheConstants.{MOST_DIGITS}
 use Rattle.ds2_token.specs.declared.kinds.TokenKind.{TokenKind}
 use Rattle.ds2_token.specs.declared.kinds.TokenKind.TheVariants.{Word, Quoted, Text, Integer, Decimal, Mark}
 use Rattle.ds2_token.specs.declared.kinds.LexKind.{LexKind}
 use Rattle.ds2_token.specs.declared.kinds.LexKind.TheVariants.{NumberTooLong, BadName, TextTooLong}
+use Rattle.ds2_token.specs.declared.limits.TheConstants.{CONTENT_CHARACTERS}
 use Rattle.ds2_token.specs.Forms.{between_quotes, past_digits}
 
 -- the characters with one quote for each pair of quotes
@@ -42,9 +45,9 @@ unless false refusal = Some refusal
 -- words have at most 64 characters; quotes stand around a name; texts have at most 1,024 characters; integers are below 2 ^ 63;
 -- decimals have at most 38 digits, leading zeros not counted, and at most 38 behind the point
 abbrev pub limit_fault : TokenKind → Bytes → Option LexKind
-limit_fault Word s = unless (nat_le (length s) 64) BadName
+limit_fault Word s = unless (nat_le (length s) NAME_CHARACTERS) BadName
 limit_fault Quoted s = unless (is_name (between_quotes s)) BadName
-limit_fault Text s = unless (nat_le (char_count (text_content s)) 1024) TextTooLong
+limit_fault Text s = unless (nat_le (char_count (text_content s)) CONTENT_CHARACTERS) TextTooLong
 limit_fault Integer s = unless (nat_lt (units_of s) (2 ^ 63)) NumberTooLong
-limit_fault Decimal s = unless (nat_lt (units_of s) (10 ^ 38) && nat_le (scale_of s) 38) NumberTooLong
+limit_fault Decimal s = unless (nat_lt (units_of s) (10 ^ MOST_DIGITS) && nat_le (scale_of s) MOST_DIGITS) NumberTooLong
 limit_fault Mark s = None

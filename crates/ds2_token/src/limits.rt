@@ -9,10 +9,11 @@ use crate::values::{scale, undoubled, units};
 use crate::words::between_quotes;
 use crate::{LexKind, TokenKind};
 use ds2_base::{NAME_CHARACTERS, Name, OutOfMemory, Stop, Text, char_count};
+use ds2_decimal::MOST_DIGITS;
 use std::alloc::Global;
 
 /// The most characters of the text that a text constant stands for.
-const CONTENT_CHARACTERS: usize = 1024;
+pub const CONTENT_CHARACTERS: usize = 1024;
 
 /// The numbers that have at most 38 digits are below this one.
 const DECIMAL_LIMIT: u128 = 100_000_000_000_000_000_000_000_000_000_000_000_000;
@@ -83,7 +84,7 @@ fn decimal_fault(spelling: &[u8]) -> Option<LexKind>
 {
     match units(spelling) {
         Some(units) => unless(
-            units < DECIMAL_LIMIT && scale(spelling) <= 38,
+            units < DECIMAL_LIMIT && scale(spelling) <= MOST_DIGITS as usize,
             LexKind::NumberTooLong,
         ),
         None => Some(LexKind::NumberTooLong),

@@ -7,6 +7,7 @@ use Rattle.std.specs.Str.{chars}
 use Rattle.ds2_base.specs.Bytes.{Bytes}
 use Rattle.ds2_base.specs.Characters.{char_count}
 use Rattle.ds2_decimal.specs.Arithmetic.{rescale}
+use Rattle.ds2_decimal.specs.declared.dec.TheConstants.{MOST_DIGITS}
 use Rattle.ds2_value.specs.Order.{key_order}
 use Rattle.ds2_value.specs.Texts.{cut_to, after_characters, trimmed, without_blanks}
 use Rattle.ds2_value.specs.Types.{whole_decimal, decimal_value}
@@ -64,8 +65,8 @@ greatest_scale (_ ∷ vs) = greatest_scale vs
 
 -- a number as a decimal of 38 digits and a scale; null for other values, which are never met beside decimals but for null
 abbrev pub at_scale : ℕ → Value → Result Value Fault
-at_scale s (Int i) = decimal_value (rescale 38 s (whole_decimal i))
-at_scale s (Dec d) = decimal_value (rescale 38 s d)
+at_scale s (Int i) = decimal_value (rescale MOST_DIGITS s (whole_decimal i))
+at_scale s (Dec d) = decimal_value (rescale MOST_DIGITS s d)
 at_scale s _ = Ok Null
 
 -- a value beside decimals of a greatest scale, or beside none

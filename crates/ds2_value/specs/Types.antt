@@ -4,6 +4,7 @@ use Rattle.std.specs.Str.{is_utf8}
 use Rattle.ds2_base.specs.Characters.{char_count}
 use Rattle.ds2_decimal.specs.Arithmetic.{rescale}
 use Rattle.ds2_decimal.specs.Decimal.{Decimal, is_within}
+use Rattle.ds2_decimal.specs.declared.dec.TheConstants.{MOST_DIGITS}
 use Rattle.ds2_decimal.specs.declared.dec.DecFault.{DecFault}
 use Rattle.ds2_decimal.specs.declared.dec.DecFault.TheVariants as dec_fault
 use Rattle.ds2_value.specs.Texts.{cut_to, filled_to}
@@ -23,7 +24,7 @@ is_from_one n limit = nat_le 1 n && nat_le n limit
 -- 1 to 38 digits, no more of them after the point than there are; 1 to 1,024 characters
 abbrev pub in_bounds : Ty → Bool
 in_bounds BigInt = true
-in_bounds (DecimalOf p s) = is_from_one p 38 && nat_le s p
+in_bounds (DecimalOf p s) = is_from_one p MOST_DIGITS && nat_le s p
 in_bounds (Char n) = is_from_one n TEXT_CHARACTERS
 in_bounds (Varchar n) = is_from_one n TEXT_CHARACTERS
 
@@ -42,7 +43,7 @@ abbrev pub join_decimals : ℕ → ℕ → ℕ → ℕ → Option Ty
 join_decimals p s q t =
     let after = max s t in
     let digits = max (p - s) (q - t) + after in
-    if nat_le digits 38 then Some (DecimalOf digits after) else None
+    if nat_le digits MOST_DIGITS then Some (DecimalOf digits after) else None
 
 -- the type that takes the values of both types; None for a number and a text, and for decimals of more than 38 digits.
 -- BIGINT counts as 19 digits beside a decimal

@@ -6,6 +6,7 @@ ghost use Rattle.ds2_value.specs.declared.value.Value.TheVariants.{Null};
 
 use crate::{Fault, Value, decimal_value, key_compare, whole_decimal};
 use ds2_base::{OutOfMemory, Stop, refusing};
+use ds2_decimal::MOST_DIGITS;
 use std::alloc::Global;
 
 // Which of its arguments a function chooses.
@@ -52,8 +53,8 @@ fn at_scale(v: &Value, scale: u8) -> Result<Value, Fault>
     ensures { result ≡ at_scale scale v.now }
 {
     match v {
-        Value::Int(i) => decimal_value(whole_decimal(*i).rescale(38, scale)),
-        Value::Dec(d) => decimal_value(d.rescale(38, scale)),
+        Value::Int(i) => decimal_value(whole_decimal(*i).rescale(MOST_DIGITS, scale)),
+        Value::Dec(d) => decimal_value(d.rescale(MOST_DIGITS, scale)),
         Value::Null | Value::Txt(_) => Ok(Value::Null),
     }
 }

@@ -2,10 +2,12 @@
 ghost use Rattle.std.specs.Prelude.{◌≡◌};
 ghost use Rattle.ds2_value.specs.Types.{in_bounds, join_decimals, join_of};
 
+use ds2_decimal::MOST_DIGITS;
+
 /// The most characters of a text in a type, and of texts that are put one after the other.
 pub const TEXT_CHARACTERS: u16 = 1024;
 
-/// A type of variables and columns. It is in bounds where 1 <= p <= 38, s <= p and 1 <= n <= [`TEXT_CHARACTERS`].
+/// A type of variables and columns. It is in bounds where 1 <= p <= [`MOST_DIGITS`], s <= p and 1 <= n <= [`TEXT_CHARACTERS`].
 #[derive(Clone, Copy, Debug, PartialEq, Eq)]
 pub enum Ty {
     /// Whole numbers of 64 bits.
@@ -25,7 +27,7 @@ impl Ty {
     {
         match self {
             Ty::BigInt => true,
-            Ty::Decimal { p, s } => 1 <= p && p <= 38 && s <= p,
+            Ty::Decimal { p, s } => 1 <= p && p <= MOST_DIGITS && s <= p,
             Ty::Char { n } | Ty::Varchar { n } => 1 <= n && n <= TEXT_CHARACTERS,
         }
     }
@@ -38,7 +40,7 @@ fn join_decimals(p: u8, s: u8, q: u8, t: u8) -> Option<Ty>
     let after = s.max(t);
     let before = p.saturating_sub(s).max(q.saturating_sub(t));
     let digits = before as u16 + after as u16;
-    if digits <= 38 {
+    if digits <= MOST_DIGITS as u16 {
         Some(Ty::Decimal {
             p: digits as u8,
             s: after,

@@ -6,9 +6,9 @@ use Rattle.ds2_csv.proofs.column.add_row.Goals as goal
 
 pub cells-preserved : goal.cells-preserved
 cells-preserved c = record {
-  count = ap (λ (t : List Inference). length t) c.replace.ensures.new ∙ set-length c.cells.known c.cells.i c.in_ok-more.more ∙ c.cells.invariant.count;
-  known = λ rows a. known-took c.cells.known c.replace.new.self c.cells.i c.item-seen.result c.in_ok-more.more c.args.row.now c.item-cell.result rows (rw c.as_slice.ensures at c.item-seen.ensures)
-      c.item-cell.ensures c.in_ok-more.ensures c.replace.ensures.new (c.cells.invariant.known rows a);
+  count = ap (λ (t : List Inference). length t) c.replace.ensures.new ∙ set-length c.cells.known c.cells.i c.add_cell.new.known ∙ c.cells.invariant.count;
+  known = λ rows a. known-took c.cells.known c.replace.new.self c.cells.i c.item-seen.result c.add_cell.new.known c.args.row.now c.item-cell.result rows (rw c.as_slice.ensures at c.item-seen.ensures)
+      c.item-cell.ensures c.in_ok-add_cell.ensures c.replace.ensures.new (c.cells.invariant.known rows a);
 }
 
 pub returns-clause-known : goal.returns-clause-known

@@ -2,7 +2,7 @@ use Rattle.std.proofs.Common.{◌≡◌, ◌++◌, ◌∙◌, ap, sym, List, ℕ
 use Rattle.csv.specs.Writing.{default_writer, row_text}
 use Rattle.ds2_csv.specs.Text.{cells_text}
 use Rattle.ds2_csv.proofs.Writing.{text_after}
-use Rattle.ds2_csv.proofs.writer.TableWriter.with_row.Goals as goal
+use Rattle.ds2_csv.proofs.writer.TableWriter.add.Goals as goal
 
 pub returns : goal.returns
 returns c rows was =
