@@ -1,5 +1,5 @@
 -- Which programs are typed: by cases over the tree, every name is known, every type fits, and no statement has a flag as its target.
-use Rattle.std.specs.Prelude.{◌≡◌, ◌≤◌, ◌<◌, ◌+◌, IsTrue, ℕ, zero, suc, min, max, Bool, true, false, bytes_eq, if◌then◌else◌, List, [], ◌∷◌, ◌++◌, length, slice_get, Option, Some, None}
+use Rattle.std.specs.Prelude.{◌≡◌, ◌≤◌, ◌<◌, ◌+◌, IsTrue, ℕ, zero, suc, min, max, Bool, true, false, bytes_eq, if◌then◌else◌, not, ◌&&◌, List, [], ◌∷◌, ◌++◌, length, map, slice_get, Option, Some, None}
 use Rattle.ds2_value.specs.Row.{Columns}
 use Rattle.ds2_value.specs.Schema.{has_column}
 use Rattle.ds2_value.specs.Types.{in_bounds, fits, takes}
@@ -27,7 +27,7 @@ use Rattle.ds2_meaning.specs.declared.readings.Reading.TheVariants.{Nothing, Onc
 use Rattle.ds2_meaning.specs.Location.{Home, Location, Storage, held}
 use Rattle.ds2_meaning.specs.Method.{MethodTree, Methods}
 use Rattle.ds2_meaning.specs.ProgramMeaning.{output_columns}
-use Rattle.ds2_meaning.specs.ProgramTree.{BodyTree, InstanceTree, UnitTree, ProgramTree, OverTables, OverStage, data_vector, methods_of, reader_of}
+use Rattle.ds2_meaning.specs.ProgramTree.{BodyTree, InstanceTree, UnitTree, ProgramTree, OverTables, OverStage, data_vector, is_listed, methods_of, reader_of}
 use Rattle.ds2_meaning.specs.Reading.{inputs_of, bys_of, stage_columns}
 use Rattle.ds2_meaning.specs.TypedExpression as e
 use Rattle.ds2_meaning.specs.TypedStatement as s
@@ -45,12 +45,12 @@ with_parameters_of [] variables = variables
 with_parameters_of (p ∷ ps) variables = record { name = p.name; ty = p.ty } ∷ with_parameters_of ps variables
 
 -- what the statements of a method may name: globals with their types, its parameters and locals, the methods that they may call,
--- the constructor of each instance, how many outputs they may write to, and what the method returns where it returns a value
+-- whether it is a system method, how many outputs it may write to, and what it returns where it returns a value
 pub record NamesInScope : Type 0 where
   pub globals : Global → Option Ty
   pub locals : List Variable
   pub methods : Option (List ℕ) → List MethodTree
-  pub constructors : List ℕ → Option ℕ
+  pub is_system : Bool
   pub outputs : ℕ
   pub returns : Option Ty
 
@@ -129,8 +129,8 @@ IsOperation operation.Or a b result = IsNumeric a × IsNumeric b × (result ≡ 
 -- an operator before an operand fits its type, and gives this type
 abbrev pub IsPrefix : Prefix → Ty → Ty → Type 0
 IsPrefix prefix.IntegerNegate a result = (a ≡ BigInt) × (result ≡ BigInt)
-IsPrefix prefix.DecimalNegate a result = (class_of a ≡ Decimals) × (result ≡ decimal_result (type_scale a))
-IsPrefix prefix.Plus a result = IsNumeric a × (class_of result ≡ class_of a) × (type_scale result ≡ type_scale a)
+IsPrefix prefix.DecimalNegate a result = (class_of a ≡ Decimals) × (result ≡ a)
+IsPrefix prefix.Plus a result = IsNumeric a × (result ≡ a)
 IsPrefix prefix.Not a result = IsNumeric a × (result ≡ BigInt)
 
 -- arguments that are all of this type
@@ -273,10 +273,6 @@ module _ (names : NamesInScope) where
   HasConstructorArguments instance None arguments = arguments ≡ e.NoArgument
   HasConstructorArguments instance (Some number) arguments = IsTypedCall (Some instance) number arguments
 
-  -- the call of an instance's constructor
-  abbrev pub IsTypedConstructor : List ℕ → Option ℕ → e.TypedArguments → Type 0
-  IsTypedConstructor instance constructor arguments = (constructor ≡ names.constructors instance) × HasConstructorArguments instance constructor arguments
-
   abbrev mutual
     -- a statement, inside a loop or not, whose names are known and whose types fit
     pub IsTypedStatement : Bool → s.TypedStatement → Type 0
@@ -284,12 +280,12 @@ module _ (names : NamesInScope) where
     IsTypedStatement loop (s.Assign place variable value) =
         IsTarget variable × IsTypedExpression value × (reference_type names variable ≡ Some (expression_type value))
     IsTypedStatement loop (s.Invoke place instance number arguments) = IsTypedCall instance number arguments
-    IsTypedStatement loop (s.Construct place instance constructor arguments) = IsTypedConstructor instance constructor arguments
+    IsTypedStatement loop (s.Construct place instance constructor arguments) = ⊥
     IsTypedStatement loop (s.Leave place) = IsTrue loop
     IsTypedStatement loop (s.Continue place) = IsTrue loop
     IsTypedStatement loop (s.Return place) = names.returns ≡ None
     IsTypedStatement loop (s.ReturnValue place value) = IsTypedExpression value × (names.returns ≡ Some (expression_type value))
-    IsTypedStatement loop (s.Output place numbers) = AreOutputs numbers
+    IsTypedStatement loop (s.Output place numbers) = IsTrue names.is_system × AreOutputs numbers
     IsTypedStatement loop (s.Put place items) = AreTypedItems items
     IsTypedStatement loop (s.If place condition on) = IsTypedCondition condition × IsTypedStatement loop on
     IsTypedStatement loop (s.IfElse place condition on off) = IsTypedCondition condition × IsTypedStatement loop on × IsTypedStatement loop off
@@ -357,25 +353,29 @@ abbrev pub AreInBounds : List Variable → Type 0
 AreInBounds [] = Unit {0}
 AreInBounds (v ∷ variables) = IsTrue (in_bounds v.ty) × AreInBounds variables
 
--- no instance is constructed in a declared method
-abbrev pub no_constructors : List ℕ → Option ℕ
-no_constructors instance = None
-
 -- the number of the first method of this name, counted from a number on
 abbrev pub method_number : ℕ → List MethodTree → List ℕ → Option ℕ
 method_number number [] name = None
 method_number number (m ∷ methods) name = if bytes_eq m.name name then Some number else method_number (number + 1) methods name
 
--- the number of the constructor of an instance: of the method that has its package's name
-abbrev pub constructor_in : List InstanceTree → List ℕ → Option ℕ
-constructor_in [] instance = None
-constructor_in (i ∷ instances) instance = if bytes_eq i.name instance then method_number 0 i.methods i.package' else constructor_in instances instance
+-- no name stands twice in a list
+abbrev pub are_distinct : List (List ℕ) → Bool
+are_distinct [] = true
+are_distinct (name ∷ names) = not (is_listed names name) && are_distinct names
+
+-- the names of variables
+abbrev pub variable_names : List Variable → List (List ℕ)
+variable_names variables = map (λ (v : Variable). v.name) variables
+
+-- variables of distinct names whose types are in bounds
+abbrev pub AreTypedVariables : List Variable → Type 0
+AreTypedVariables variables = AreInBounds variables × IsTrue (are_distinct (variable_names variables))
 
 -- a method among these globals and methods
 abbrev pub IsTypedMethod : (Global → Option Ty) → (Option (List ℕ) → List MethodTree) → MethodTree → Type 0
 IsTypedMethod globals methods method =
-    AreInBounds (with_parameters_of method.parameters method.locals)
-    × AreTypedStatements (record { globals = globals; locals = with_parameters_of method.parameters method.locals; methods = methods; constructors = no_constructors; outputs = 0; returns = method.returns }) false method.body
+    AreTypedVariables (with_parameters_of method.parameters method.locals)
+    × AreTypedStatements (record { globals = globals; locals = with_parameters_of method.parameters method.locals; methods = methods; is_system = false; outputs = 0; returns = method.returns }) false method.body
     × ReturnsWhatItSays method method.returns
 
 -- methods among these globals and methods
@@ -420,17 +420,32 @@ abbrev pub package_methods : List MethodTree → Option (List ℕ) → List Meth
 package_methods methods None = methods
 package_methods methods (Some instance) = []
 
+-- what a system method of a program with these locals may name
+abbrev pub names_in_body : UnitTree → List Variable → NamesInScope
+names_in_body p locals = record { globals = globals_of p; locals = locals; methods = methods_of p; is_system = true; outputs = length p.outputs; returns = None }
+
 -- a system method of a program
 abbrev pub IsTypedBody : UnitTree → BodyTree → Type 0
-IsTypedBody p body =
-    AreInBounds body.locals
-    × AreTypedStatements (record { globals = globals_of p; locals = body.locals; methods = methods_of p; constructors = constructor_in p.instances; outputs = length p.outputs; returns = None }) false body.statements
+IsTypedBody p body = AreTypedVariables body.locals × AreTypedStatements (names_in_body p body.locals) false body.statements
+
+-- statements behind the constructors of these instances, in order: each calls the first method of its package's name, where
+-- there is one
+abbrev pub AreBehindConstructors : NamesInScope → List InstanceTree → s.TypedStatements → Type 0
+AreBehindConstructors names [] statements = AreTypedStatements names false statements
+AreBehindConstructors names (i ∷ instances) (s.Next (s.Construct place instance constructor arguments) rest) =
+    (instance ≡ i.name) × (constructor ≡ method_number 0 i.methods i.package') × HasConstructorArguments names instance constructor arguments
+    × AreBehindConstructors names instances rest
+AreBehindConstructors names (i ∷ instances) _ = ⊥
+
+-- `init`, with the constructors of the program's instances in front
+abbrev pub IsTypedInit : UnitTree → BodyTree → Type 0
+IsTypedInit p body = AreTypedVariables body.locals × AreBehindConstructors (names_in_body p body.locals) p.instances body.statements
 
 -- the instances of a program
 abbrev pub AreTypedInstances : List InstanceTree → Type 0
 AreTypedInstances [] = Unit {0}
 AreTypedInstances (i ∷ instances) =
-    AreInBounds i.variables × AreTypedMethods (package_globals i.variables) (package_methods i.methods) i.methods × AreTypedInstances instances
+    AreTypedVariables i.variables × AreTypedMethods (package_globals i.variables) (package_methods i.methods) i.methods × AreTypedInstances instances
 
 -- each of these columns is a variable whose type takes the values of the column
 abbrev pub AreVariables : List Variable → Columns → Type 0
@@ -466,13 +481,14 @@ AreTypedOutputs variables (output ∷ outputs) =
 
 -- a program without the thread program that it reads from
 pub record IsTypedUnit (p : UnitTree) : Type 0 where
-  pub variables : AreInBounds (data_vector p)
-  pub parameters : AreInBounds p.parameters
+  pub variables : AreTypedVariables (data_vector p)
+  pub parameters : AreTypedVariables p.parameters
+  pub names : IsTrue (are_distinct (map (λ (i : InstanceTree). i.name) p.instances))
   pub instances : AreTypedInstances p.instances
   pub reading : IsTypedReading (data_vector p) p.reading
   pub outputs : AreTypedOutputs (data_vector p) p.outputs
   pub methods : AreTypedMethods (globals_of p) (methods_of p) p.methods
-  pub init : IsTypedBody p p.init
+  pub init : IsTypedInit p p.init
   pub run : IsTypedBody p p.run
   pub term : IsTypedBody p p.term
 

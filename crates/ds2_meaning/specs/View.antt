@@ -19,6 +19,8 @@ use Rattle.ds2_meaning.specs.declared.statements.PutItem.TheVariants as put_item
 use Rattle.ds2_meaning.specs.declared.methods.Method as code_method
 use Rattle.ds2_meaning.specs.declared.methods.SystemMethod.{SystemMethod}
 use Rattle.ds2_meaning.specs.declared.globals.Variable.{Variable}
+use Rattle.ds2_meaning.specs.declared.readings.Reading.{Reading}
+use Rattle.ds2_meaning.specs.declared.readings.Reading.TheVariants.{Nothing, Once}
 use Rattle.ds2_meaning.specs.declared.units.Instance.{Instance}
 use Rattle.ds2_meaning.specs.declared.units.Program.{Program}
 use Rattle.ds2_meaning.specs.declared.units.TypedData.{TypedData}
@@ -179,6 +181,12 @@ constructors_first (i ∷ is) rest =
 abbrev pub init_tree : List Instance → BodyTree → BodyTree
 init_tree instances init = record { locals = init.locals; statements = constructors_first instances init.statements }
 
+-- the reading statement of a program: without `run` there is no load, and with it there is one where nothing is read
+abbrev pub reading_with_run : Option SystemMethod → Reading → Reading
+reading_with_run None reading = Nothing
+reading_with_run (Some run) Nothing = Once
+reading_with_run (Some run) reading = reading
+
 -- a data or thread program as its meaning sees it
 abbrev pub unit_tree : Option (List ℕ) → List Variable → Program → UnitTree
 unit_tree thread parameters p = record {
@@ -188,7 +196,7 @@ unit_tree thread parameters p = record {
   columns = p.columns;
   retained = p.retained;
   instances = map instance_tree p.instances;
-  reading = p.reading;
+  reading = reading_with_run p.run p.reading;
   outputs = p.outputs;
   methods = map typed_method p.methods;
   init = init_tree p.instances (system_tree p.init);
