@@ -1,0 +1,148 @@
+-- What the units of a program mean, and the program on its tables.
+use Rattle.std.specs.List.{range_with_len}
+use Rattle.std.specs.Prelude.{ℕ, ◌+◌, nat_eq, Bool, false, if◌then◌else◌, List, [], ◌∷◌, length, filter, map, Option, Some, None}
+use Rattle.ds2_value.specs.Progress.{at_the_start, UnitOutcome, Completed, Interrupted}
+use Rattle.ds2_value.specs.Row.{Row, Columns}
+use Rattle.ds2_value.specs.declared.fault.TheConstants.{CALL_DEPTH}
+use Rattle.ds2_value.specs.declared.value.Value.{Value}
+use Rattle.ds2_value.specs.declared.value.Value.TheVariants.{Null}
+use Rattle.ds2_value.specs.Run.{Written}
+use Rattle.ds2_value.specs.declared.fault.Ending.{Ending}
+use Rattle.ds2_value.specs.declared.fault.Ending.TheVariants.{Normal, Faulted}
+use Rattle.ds2_table.specs.Table.{Contents}
+use Rattle.ds2_table.specs.OneThread.{Units, ProgramOf, Reads, ReadsFrom, Answer, alone_answer}
+use Rattle.ds2_meaning.specs.declared.globals.OutputColumn.{OutputColumn}
+use Rattle.ds2_meaning.specs.declared.globals.OutputTable.{OutputTable}
+use Rattle.ds2_meaning.specs.declared.globals.Variable.{Variable}
+use Rattle.ds2_meaning.specs.declared.location.Global.{Global}
+use Rattle.ds2_meaning.specs.declared.location.Global.TheVariants.{Named, Parameter}
+use Rattle.ds2_meaning.specs.Location.{Home, Location, Storage, Holds, held, with_content}
+use Rattle.ds2_meaning.specs.RunState.{RunState, StatementOutcome, Proceeds, Leaves, Continues, Returns, Faults, no_locals}
+use Rattle.ds2_meaning.specs.Evaluation.{Surroundings}
+use Rattle.ds2_meaning.specs.Execution.{exec_all, write_each}
+use Rattle.ds2_meaning.specs.Invocation.{invoke}
+use Rattle.ds2_meaning.specs.Reading.{TableRows, Settings, number_of_groups, loads_over, row_settings, with_settings, stage_instance, stage_columns}
+use Rattle.ds2_meaning.specs.ProgramTree.{BodyTree, UnitTree, ProgramTree, OverTables, OverStage, reader_of, output_sources, data_vector, is_cleared, methods_of, program_has_output}
+
+-- ---- units
+
+-- what the statements of a program's system methods find around them
+abbrev pub program_surroundings : UnitTree → Surroundings
+program_surroundings p = record { calls = invoke (methods_of p) CALL_DEPTH; outputs = output_sources p; home = None }
+
+-- the state in which the statements of a system method begin
+abbrev pub unit_state : ℕ → Storage → RunState
+unit_state budget c = record { storage = c; locals = no_locals; progress = at_the_start budget }
+
+-- the statements of a system method on variables, with a budget
+abbrev pub carry_out : UnitTree → BodyTree → ℕ → Storage → StatementOutcome
+carry_out p body budget c = exec_all (program_surroundings p) body.statements (unit_state budget c)
+
+-- a unit is completed by what is done at its end
+abbrev pub completed_by : (RunState → RunState) → RunState → UnitOutcome Storage
+completed_by at_end w = let u = at_end w in Completed u.storage u.progress 0
+
+-- a unit is at its end where its statements are done or return
+abbrev pub unit_end : (RunState → RunState) → StatementOutcome → UnitOutcome Storage
+unit_end at_end (Proceeds w) = completed_by at_end w
+unit_end at_end (Leaves w) = completed_by at_end w
+unit_end at_end (Continues w) = completed_by at_end w
+unit_end at_end (Returns v w) = completed_by at_end w
+unit_end at_end (Faults f w) = Interrupted f w.progress 0
+
+-- nothing is done at the end of `init` and `term`
+abbrev pub nothing_more : RunState → RunState
+nothing_more w = w
+
+-- a program without an `output` statement writes a row to each of its outputs at the end of `run`
+abbrev pub implicit_output : UnitTree → RunState → RunState
+implicit_output p w = if program_has_output p then w else write_each None (output_sources p) (range_with_len 0 (length p.outputs)) w
+
+-- `run` sets this global of the program to null
+abbrev pub is_cleared_global : UnitTree → Global → Bool
+is_cleared_global p (Named name) = is_cleared p name
+is_cleared_global p _ = false
+
+-- `run` sets this location to null; what belongs to an instance is never set to null
+abbrev pub is_cleared_at : UnitTree → Home → Global → Bool
+is_cleared_at p None global = is_cleared_global p global
+is_cleared_at p (Some instance) global = false
+
+-- the variables before a load: those that `run` sets to null are null
+abbrev pub with_cleared : UnitTree → Storage → Storage
+with_cleared p before = λ at. if is_cleared_at p at.home at.global then Holds Null else before at
+
+-- the units of a program, each with this budget; `run` sets variables to null, then has what its load sets
+abbrev pub program_units : UnitTree → ℕ → Units Settings Storage
+program_units p budget = record {
+  init = λ c. unit_end nothing_more (carry_out p p.init budget c);
+  run = λ load c. unit_end (implicit_output p) (carry_out p p.run budget (with_settings load (with_cleared p c)));
+  term = λ c. unit_end nothing_more (carry_out p p.term budget c);
+}
+
+-- ---- programs
+
+-- before a program begins every variable is null
+abbrev pub nothing_kept : Storage
+nothing_kept at = Holds Null
+
+-- the parameters of a thread program have these values, as many as there are; the others stay as they are
+abbrev pub with_parameters : List Variable → List Value → Storage → Storage
+with_parameters [] values before = before
+with_parameters (p ∷ ps) [] before = before
+with_parameters (p ∷ ps) (v ∷ vs) before = with_parameters ps vs (with_content (record { home = None; global = Parameter p.name }) (Holds v) before)
+
+-- what is kept where a program begins with these values of its parameters
+abbrev pub opening_of : UnitTree → List Value → Storage
+opening_of p values = with_parameters p.parameters values nothing_kept
+
+-- the values that the last `setparms` gave to the parameters of an instance; null where there was none
+abbrev pub parameters_given : List ℕ → List Variable → Storage → List Value
+parameters_given instance parameters c = map (λ (p : Variable). held (c (record { home = Some instance; global = Parameter p.name }))) parameters
+
+-- a program as units over its loads, which make groups at a grain, or over the rows of the thread program that it reads from
+abbrev pub program_over_loads : ProgramTree → TableRows → (budget grain : ℕ) → ProgramOf Settings Storage
+program_over_loads (OverTables p) tables budget grain =
+    Reads (program_units p budget) (loads_over (data_vector p) p.reading tables) (number_of_groups grain p.reading tables)
+program_over_loads (OverStage p stage) tables budget grain =
+    let q = reader_of stage in
+    ReadsFrom (program_units p budget) (program_over_loads stage tables budget grain) (opening_of q) (parameters_given (stage_instance p.reading) q.parameters)
+    (row_settings (data_vector p) (stage_columns p.reading))
+
+-- the one-thread answer of a program with these values of its parameters, over these tables. The grain, which fits the reading
+-- statement of the program that reads tables, changes the number of groups alone
+abbrev pub program_answer : ProgramTree → List Value → TableRows → (budget grain : ℕ) → Answer
+program_answer p values tables budget grain = alone_answer (program_over_loads p tables budget grain) (opening_of (reader_of p) values)
+
+-- ---- tables
+
+-- a table that a program makes: its name, whether a file of that name may be written over, its columns and its rows
+pub record MadeTable : Type 0 where
+  pub name : List ℕ
+  pub overwrites : Bool
+  pub contents : Contents
+
+-- the columns of an output
+abbrev pub output_columns : OutputTable → Columns
+output_columns output = map (λ (c : OutputColumn). record { name = c.name; ty = c.ty }) output.columns
+
+-- the rows that were written to the output of this number, in order
+abbrev pub rows_written : ℕ → List Written → List Row
+rows_written number rows = map (λ (w : Written). w.row) (filter (λ (w : Written). nat_eq w.output number) rows)
+
+-- the tables of outputs, numbered from this number on
+abbrev pub tables_made : ℕ → List OutputTable → List Written → List MadeTable
+tables_made number [] rows = []
+tables_made number (output ∷ outputs) rows =
+    record { name = output.name; overwrites = output.overwrites; contents = record { columns = output_columns output; rows = rows_written number rows } }
+    ∷ tables_made (number + 1) outputs rows
+
+-- the tables that a program leaves that ended so: those of all its outputs after a normal end, and none after a fault
+abbrev pub tables_left_at : Option Ending → List MadeTable → List MadeTable
+tables_left_at (Some Normal) tables = tables
+tables_left_at (Some (Faulted fault place)) tables = []
+tables_left_at None tables = []
+
+-- the tables that a program leaves with this answer
+abbrev pub tables_left : UnitTree → Answer → List MadeTable
+tables_left p answer = tables_left_at answer.ending (tables_made 0 p.outputs answer.rows)

@@ -1,0 +1,36 @@
+-- A program's answer depends on the tables that its reading statements mention alone.
+use Rattle.std.specs.Prelude.{◌≡◌, ℕ, List, [], ◌∷◌, map, Some}
+use Rattle.ds2_base.specs.declared.place.Place.{Place}
+use Rattle.ds2_value.specs.declared.fault.Ending.TheVariants.{Faulted}
+use Rattle.ds2_value.specs.declared.fault.Fault.{Fault}
+use Rattle.ds2_value.specs.declared.value.Value.{Value}
+use Rattle.ds2_table.specs.OneThread.{Answer}
+use Rattle.ds2_meaning.specs.declared.readings.Input.{Input}
+use Rattle.ds2_meaning.specs.declared.readings.Reading.{Reading}
+use Rattle.ds2_meaning.specs.ProgramMeaning.{program_answer, tables_left}
+use Rattle.ds2_meaning.specs.ProgramTree.{UnitTree, ProgramTree, OverTables, OverStage}
+use Rattle.ds2_meaning.specs.Reading.{TableRows, inputs_of}
+
+-- the names of the tables of a reading statement
+abbrev pub tables_read : Reading → List (List ℕ)
+tables_read reading = map (λ (input : Input). input.table) (inputs_of reading)
+
+-- the names of the tables that a program mentions, those of the thread program that it reads from among them
+abbrev pub tables_mentioned : ProgramTree → List (List ℕ)
+tables_mentioned (OverTables p) = tables_read p.reading
+tables_mentioned (OverStage p stage) = tables_mentioned stage
+
+-- two stores have the same rows under each of these names
+abbrev pub AgreeUnder : List (List ℕ) → TableRows → TableRows → Type 0
+AgreeUnder [] before after = Unit {0}
+AgreeUnder (name ∷ names) before after = (before name ≡ after name) × AgreeUnder names before after
+
+-- two stores that agree under the names of the tables that a program mentions give it one answer
+abbrev pub TablesMentionedDecide : Type 0
+TablesMentionedDecide = (p : ProgramTree) (values : List Value) (before after : TableRows) (budget grain : ℕ)
+    → AgreeUnder (tables_mentioned p) before after → program_answer p values before budget grain ≡ program_answer p values after budget grain
+
+-- a program that ends by a fault leaves no table
+abbrev pub FaultLeavesNoTable : Type 0
+FaultLeavesNoTable = (p : UnitTree) (answer : Answer) (fault : Fault) (place : Place)
+    → answer.ending ≡ Some (Faulted fault place) → tables_left p answer ≡ []

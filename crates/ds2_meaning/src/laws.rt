@@ -1,0 +1,112 @@
+//! Laws of the meaning, over the definitions alone.
+ghost use Rattle.ds2_meaning.specs.BudgetLaws.{NoStatementRaisesTheBudget, LoopsAreTheirTurns};
+ghost use Rattle.ds2_meaning.specs.ExpressionExamples.{IntegerExamples, DecimalExamples, TruthExamples, TextExamples};
+ghost use Rattle.ds2_meaning.specs.FurtherExamples.{NullExamples, ConversionExamples, RoundExamples, CallExamples, ReadingExamples, FaultExamples};
+ghost use Rattle.ds2_meaning.specs.ProgramExamples.{UnitExamples, LoadExamples, StageExamples};
+ghost use Rattle.ds2_meaning.specs.StatementExamples.{ChoiceExamples, LoopExamples, OutputExamples, MethodExamples};
+ghost use Rattle.ds2_meaning.specs.TableLaws.{TablesMentionedDecide, FaultLeavesNoTable};
+
+/// No statement raises the budget, whatever methods it calls.
+pub fn no_statement_raises_the_budget()
+    ensures { NoStatementRaisesTheBudget }
+{}
+
+/// Each of the three loops is one turn and then the loop: the bound that the definitions count down says nothing.
+pub fn loops_are_their_turns()
+    ensures { LoopsAreTheirTurns }
+{}
+
+/// A program's answer depends on the tables that its reading statements mention alone.
+pub fn tables_mentioned_decide()
+    ensures { TablesMentionedDecide }
+{}
+
+/// A program that ends by a fault leaves no table.
+pub fn fault_leaves_no_table()
+    ensures { FaultLeavesNoTable }
+{}
+
+/// Operators on BIGINT values, in small programs.
+pub fn integer_examples()
+    ensures { IntegerExamples }
+{}
+
+/// Operators on DECIMAL values, in small programs.
+pub fn decimal_examples()
+    ensures { DecimalExamples }
+{}
+
+/// Comparisons and truth, in small programs.
+pub fn truth_examples()
+    ensures { TruthExamples }
+{}
+
+/// Texts, in small programs.
+pub fn text_examples()
+    ensures { TextExamples }
+{}
+
+/// Choices between statements, in small programs.
+pub fn choice_examples()
+    ensures { ChoiceExamples }
+{}
+
+/// Loops, in small programs.
+pub fn loop_examples()
+    ensures { LoopExamples }
+{}
+
+/// Lines and rows, in small programs.
+pub fn output_examples()
+    ensures { OutputExamples }
+{}
+
+/// Calls of methods, in small programs.
+pub fn method_examples()
+    ensures { MethodExamples }
+{}
+
+/// The units of small programs, what they keep and what they write.
+pub fn unit_examples()
+    ensures { UnitExamples }
+{}
+
+/// The loads of `set` and `merge`, in small programs.
+pub fn load_examples()
+    ensures { LoadExamples }
+{}
+
+/// Small programs that read from a thread program.
+pub fn stage_examples()
+    ensures { StageExamples }
+{}
+
+/// A null operand of each operator and function, in small programs.
+pub fn null_examples()
+    ensures { NullExamples }
+{}
+
+/// The order of conversions and the types of DECIMAL results, in small programs.
+pub fn conversion_examples()
+    ensures { ConversionExamples }
+{}
+
+/// Loops with `leave`, `continue` and null, in small programs.
+pub fn round_examples()
+    ensures { RoundExamples }
+{}
+
+/// Calls, constructors and returns, in small programs.
+pub fn call_examples()
+    ensures { CallExamples }
+{}
+
+/// Loads over several tables and their groups, in small programs.
+pub fn reading_examples()
+    ensures { ReadingExamples }
+{}
+
+/// Faults in each unit and the order of units, in small programs.
+pub fn fault_examples()
+    ensures { FaultExamples }
+{}
