@@ -1,5 +1,5 @@
 -- What small programs with one expression or two leave, written out from the rules by hand. Each stands behind its source.
-use Rattle.std.specs.Prelude.{◌≡◌, ℕ, true, false, codes, List, [], ◌∷◌, Option, Some, None, ℤ, pos, negsuc}
+use Rattle.std.specs.Prelude.{◌≡◌, true, false, codes, [], ◌∷◌, pos, negsuc}
 use Rattle.ds2_value.specs.declared.comparison.Comparison.TheVariants as comparison
 use Rattle.ds2_value.specs.declared.fault.Fault.TheVariants.{Overflow, DivideByZero, Range}
 use Rattle.ds2_value.specs.declared.ty.Ty.TheVariants.{BigInt, Decimal as DecimalOf, Char, Varchar}
@@ -7,8 +7,8 @@ use Rattle.ds2_value.specs.declared.value.Value.TheVariants.{Null, Int, Txt}
 use Rattle.ds2_meaning.specs.declared.expressions.Function.TheVariants as function
 use Rattle.ds2_meaning.specs.declared.expressions.Operation.TheVariants as operation
 use Rattle.ds2_meaning.specs.declared.expressions.Prefix.TheVariants as prefix
-use Rattle.ds2_meaning.specs.ExampleWords.{col, natural, fixed, global, value_of_type, variable_of, int, decimal_constant, text_constant, binary, plus, less, negated, function_of, assign_at, unit_with, program_with, bigint, ran, ends_with, faults_at}
-use Rattle.ds2_meaning.specs.TypedExpression.{TypedExpression, Constant, Variable, Widen, Convert, Prefixed, Chain, Link, NoLink, Compared}
+use Rattle.ds2_meaning.specs.ExampleWords.{natural, fixed, value_of_type, variable_of, int, decimal_constant, text_constant, binary, plus, less, negated, function_of, assign_at, unit_with, program_with, bigint, ran, ends_with, faults_at}
+use Rattle.ds2_meaning.specs.TypedExpression.{Widen, Convert, Prefixed, Chain, Link, NoLink, Compared}
 
 -- operators on BIGINT values: chains from the left, null, and results that leave 64 bits
 pub record IntegerExamples : Type 0 where

@@ -1,14 +1,12 @@
 -- What further small programs leave: null in each operand, the order of conversions, loops, calls, loads, faults. Each stands behind
 -- its source, and its places rise with its statements.
-use Rattle.std.specs.Prelude.{◌≡◌, ℕ, true, false, codes, List, [], ◌∷◌, ◌++◌, map, Option, Some, None, ℤ, pos, negsuc}
-use Rattle.ds2_value.specs.Row.{Row}
+use Rattle.std.specs.Prelude.{◌≡◌, ℕ, true, false, codes, List, [], ◌∷◌, ◌++◌, map, Some, None, pos, negsuc}
 use Rattle.ds2_value.specs.declared.comparison.Comparison.TheVariants as comparison
 use Rattle.ds2_value.specs.declared.fault.Ending.TheVariants.{Normal, Faulted}
 use Rattle.ds2_value.specs.declared.fault.Fault.TheVariants.{BudgetSpent, DivideByZero, Overflow}
 use Rattle.ds2_value.specs.declared.ty.Ty.{Ty}
 use Rattle.ds2_value.specs.declared.ty.Ty.TheVariants.{BigInt, Decimal as DecimalOf, Char, Varchar}
-use Rattle.ds2_value.specs.declared.value.Value.TheVariants.{Null, Int, Txt}
-use Rattle.ds2_table.specs.OneThread.{Answer, StageAnswer}
+use Rattle.ds2_value.specs.declared.value.Value.TheVariants.{Null, Txt}
 use Rattle.ds2_meaning.specs.declared.expressions.Function.TheVariants as function
 use Rattle.ds2_meaning.specs.declared.expressions.Operation.TheVariants as operation
 use Rattle.ds2_meaning.specs.declared.expressions.Prefix.TheVariants as prefix
@@ -16,10 +14,10 @@ use Rattle.ds2_meaning.specs.declared.globals.Variable as variables
 use Rattle.ds2_meaning.specs.declared.location.Global.TheVariants.{First, Last, Present, Parameter}
 use Rattle.ds2_meaning.specs.declared.location.Reference.TheVariants.{At, Local}
 use Rattle.ds2_meaning.specs.declared.readings.Reading.{Reading}
-use Rattle.ds2_meaning.specs.declared.readings.Reading.TheVariants.{Once, Set, Merge, From}
-use Rattle.ds2_meaning.specs.ExampleWords.{col, natural, fixed, global, value_of_type, variable_of, local, int, decimal_constant, text_constant, binary, plus, less, negated, function_of, assign_at, assign_local, bigint, by_value, bigint_column, output_column, output_of, body_of, unit_with, program_with, Seen, seen, ran, ends_with, faults_at}
+use Rattle.ds2_meaning.specs.declared.readings.Reading.TheVariants.{Set, Merge, From}
+use Rattle.ds2_meaning.specs.ExampleWords.{col, natural, fixed, global, value_of_type, variable_of, local, int, decimal_constant, text_constant, binary, plus, less, negated, function_of, assign_at, assign_local, bigint, by_value, bigint_column, output_of, body_of, unit_with, program_with, seen, ran, ends_with, faults_at}
 use Rattle.ds2_meaning.specs.Method.{MethodTree}
-use Rattle.ds2_meaning.specs.ProgramExamples.{tables_of, input_of, by_ascending, reader, with_columns, retaining, ran_over, rows_over, two, getting, merging, summing, totals, sales}
+use Rattle.ds2_meaning.specs.ProgramExamples.{tables_of, input_of, by_ascending, reader, with_columns, rows_over, two, getting, merging, summing, totals, sales}
 use Rattle.ds2_meaning.specs.ProgramMeaning.{program_answer}
 use Rattle.ds2_meaning.specs.ProgramTree.{UnitTree, ProgramTree, OverTables, OverStage}
 use Rattle.ds2_meaning.specs.Reading.{TableRows, number_of_groups}

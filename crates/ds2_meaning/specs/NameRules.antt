@@ -6,7 +6,7 @@ use Rattle.ds2_base.specs.declared.place.Refusal.{Refusal}
 use Rattle.ds2_token.specs.Words.{is_word}
 use Rattle.ds2_token.specs.declared.token.Token.{Token}
 use Rattle.ds2_tree.specs.Expressions.{Expression, Variable, Arguments, NoArgument, Argument}
-use Rattle.ds2_tree.specs.Globals.{Method, GlobalItem, Declared, Listed, Defined}
+use Rattle.ds2_tree.specs.Globals.{Method, GlobalItem, Listed}
 use Rattle.ds2_tree.specs.Statements as s
 use Rattle.ds2_tree.specs.Units.{DataProgram}
 use Rattle.ds2_tree.specs.declared.expressions.Callee.{Callee}
@@ -29,7 +29,7 @@ use Rattle.ds2_value.specs.Schema.{has_column}
 use Rattle.ds2_meaning.specs.ProgramTree.{is_listed}
 use Rattle.ds2_meaning.specs.Refusals.{scope_rank, least_refusal, broken_at}
 use Rattle.ds2_meaning.specs.SourceUnit.{TableColumns, spelled_name, PlacedName, placed_name, names_alone, is_earlier, variable_declarations, listed_tokens, is_system_name, local_names, reading_of_run, tables_of_reading, SourceNames, names_of_source, vector_names, plain_globals, is_named}
-use Rattle.ds2_meaning.specs.Uses.{NameUse, Values, Members, HandsOver, CallsOn, Sets, WritesTo, callee_place, first_place, method_named, in_out_parameters, statements_uses}
+use Rattle.ds2_meaning.specs.Uses.{NameUse, Values, Members, HandsOver, CallsOn, Sets, WritesTo, first_place, method_named, in_out_parameters, statements_uses}
 use Rattle.ds2_meaning.specs.declared.refusals.ScopeKind.{ScopeKind}
 use Rattle.ds2_meaning.specs.declared.refusals.ScopeKind.TheVariants as kind
 
