@@ -53,7 +53,7 @@ pub record DecimalExamples : Type 0 where
   pub rounded : ran (unit_with (record { name = codes "x"; ty = DecimalOf 10 2 } ∷ record { name = codes "y"; ty = DecimalOf 10 2 } ∷ record { name = codes "z"; ty = DecimalOf 10 2 } ∷ []) (
       assign_at 7 (codes "x") (Convert (binary operation.DecimalDivide (DecimalOf 38 6) (decimal_constant 1000 4 2) (Widen (int 3))) (DecimalOf 10 2))
       ∷ assign_at 25 (codes "y") (Convert (binary operation.DecimalDivide (DecimalOf 38 6) (decimal_constant 200 3 2) (Widen (int 3))) (DecimalOf 10 2))
-      ∷ assign_at 45 (codes "z") (Convert (Prefixed prefix.DecimalNegate (decimal_constant 5 3 3) (DecimalOf 38 3)) (DecimalOf 10 2)) ∷ [])) 10
+      ∷ assign_at 45 (codes "z") (Convert (Prefixed prefix.DecimalNegate (decimal_constant 5 3 3) (DecimalOf 3 3)) (DecimalOf 10 2)) ∷ [])) 10
       ≡ ends_with ((fixed (pos 333) 2 ∷ fixed (pos 67) 2 ∷ fixed (negsuc 0) 2 ∷ []) ∷ []) (10 ∷ 7 ∷ 10 ∷ [])
   -- dcl decimal(38,0) x; x = the product of two constants of 38 nines;
   pub product_of_nines : ran (unit_with (record { name = codes "x"; ty = DecimalOf 38 0 } ∷ []) (
@@ -77,8 +77,8 @@ pub record DecimalExamples : Type 0 where
       ≡ ends_with ((Null ∷ Null ∷ []) ∷ []) (10 ∷ 9 ∷ 10 ∷ [])
   -- dcl decimal(5,0) f c; dcl bigint g; f = floor(-1.5n); c = ceil(-1.5n); g = floor(7);
   pub whole_parts : ran (unit_with (record { name = codes "f"; ty = DecimalOf 5 0 } ∷ record { name = codes "c"; ty = DecimalOf 5 0 } ∷ bigint (codes "g") ∷ []) (
-      assign_at 7 (codes "f") (Convert (function_of function.Floor (DecimalOf 38 0) (Prefixed prefix.DecimalNegate (decimal_constant 15 2 1) (DecimalOf 38 1) ∷ [])) (DecimalOf 5 0))
-      ∷ assign_at 25 (codes "c") (Convert (function_of function.Ceiling (DecimalOf 38 0) (Prefixed prefix.DecimalNegate (decimal_constant 15 2 1) (DecimalOf 38 1) ∷ [])) (DecimalOf 5 0))
+      assign_at 7 (codes "f") (Convert (function_of function.Floor (DecimalOf 38 0) (Prefixed prefix.DecimalNegate (decimal_constant 15 2 1) (DecimalOf 2 1) ∷ [])) (DecimalOf 5 0))
+      ∷ assign_at 25 (codes "c") (Convert (function_of function.Ceiling (DecimalOf 38 0) (Prefixed prefix.DecimalNegate (decimal_constant 15 2 1) (DecimalOf 2 1) ∷ [])) (DecimalOf 5 0))
       ∷ assign_at 45 (codes "g") (function_of function.Unchanged BigInt (int 7 ∷ [])) ∷ [])) 10
       ≡ ends_with ((fixed (negsuc 1) 0 ∷ fixed (negsuc 0) 0 ∷ natural 7 ∷ []) ∷ []) (10 ∷ 7 ∷ 10 ∷ [])
 
