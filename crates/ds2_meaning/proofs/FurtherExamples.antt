@@ -58,6 +58,7 @@ reading_examples = record {
   merged_with_an_empty_table = refl;
   wider_variables = refl;
   groups_at_each_grain = (refl, refl, refl);
+  groups_without_by = refl;
 }
 
 pub fault_examples : FaultExamples

@@ -1,5 +1,5 @@
 -- A loop is one turn and then the loop: the bound by which it is written says nothing.
-use Rattle.std.proofs.Common.{◌≡◌, ℕ, zero, suc, ◌≤◌, Bool, true, false, List, Option, Some, None, refl, sym, ap, ◌∙◌, arith}
+use Rattle.std.proofs.Common.{◌≡◌, ℕ, zero, suc, ◌≤◌, Bool, true, false, Option, Some, None, refl, sym, ap, ◌∙◌, arith}
 use Rattle.std.specs.Prelude.{pos}
 use Rattle.ds2_base.specs.declared.place.Place.{Place}
 use Rattle.ds2_value.specs.Operations.{is_true}
@@ -10,13 +10,11 @@ use Rattle.ds2_value.specs.declared.comparison.Comparison.TheVariants.{Less, Les
 use Rattle.ds2_value.specs.declared.value.Value.{Value}
 use Rattle.ds2_value.specs.declared.value.Value.TheVariants.{Int}
 use Rattle.ds2_meaning.specs.declared.location.Reference.{Reference}
-use Rattle.ds2_meaning.specs.BudgetLaws.{left_by_expression, left_by_statement, around, NoStatementRaisesTheBudget, while_loop, until_loop, count_loop, LoopsAreTheirTurns}
+use Rattle.ds2_meaning.specs.BudgetLaws.{left_by_expression, left_by_statement, around, NoStatementRaisesTheBudget, LoopsAreTheirTurns}
 use Rattle.ds2_meaning.specs.Evaluation.{Surroundings, evaluate}
 use Rattle.ds2_meaning.specs.Execution.{step_or_one, counts_on, count_turn, rounds_counted, while_turn, rounds_while, until_turn, rounds_until, exec_all}
-use Rattle.ds2_meaning.specs.Invocation.{invoke}
 use Rattle.ds2_meaning.specs.RunState.{RunState, ExpressionEnd, Gives, Breaks, attempt, StatementOutcome, Proceeds, Leaves, Continues, Returns, Faults, then_value, then_round, step_fails, step_finding, begin_step, after_test, noting, with_progress, variable_value, store}
 use Rattle.ds2_meaning.specs.TypedExpression.{TypedExpression}
-use Rattle.ds2_meaning.specs.TypedStatement.{TypedStatements}
 use Rattle.ds2_meaning.proofs.Within.{CallsAreWithin, IsWithin, attempt_within, stored_within, value_within, statement_within, statements_within, invoke_within}
 
 pub no_statement_raises_the_budget : NoStatementRaisesTheBudget

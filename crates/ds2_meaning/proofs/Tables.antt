@@ -1,13 +1,11 @@
 -- A program's answer depends on the tables that it mentions alone.
-use Rattle.std.proofs.Common.{◌≡◌, ℕ, List, [], ◌∷◌, map, length, refl, ap, ◌∙◌}
+use Rattle.std.proofs.Common.{◌≡◌, ℕ, List, [], ◌∷◌, map, length, refl, ap}
 use Rattle.ds2_table.specs.Loads.{KeyedLoad, groups}
-use Rattle.ds2_table.specs.OneThread.{ProgramOf, Reads, ReadsFrom, alone_answer}
-use Rattle.ds2_value.specs.declared.value.Value.{Value}
+use Rattle.ds2_table.specs.OneThread.{Reads, ReadsFrom, alone_answer}
 use Rattle.ds2_meaning.specs.declared.readings.Input.{Input}
-use Rattle.ds2_meaning.specs.Location.{Storage}
 use Rattle.ds2_meaning.specs.ProgramMeaning.{program_units, program_over_loads, opening_of, parameters_given, tables_made, tables_left_at}
 use Rattle.ds2_meaning.specs.ProgramTree.{ProgramTree, OverTables, OverStage, reader_of, data_vector}
-use Rattle.ds2_meaning.specs.Reading.{TableRows, Settings, inputs_of, input_tables, keyed_loads, settings_of, row_settings, stage_instance, stage_columns}
+use Rattle.ds2_meaning.specs.Reading.{TableRows, inputs_of, input_tables, keyed_loads, settings_of, row_settings, stage_instance, stage_columns}
 use Rattle.ds2_meaning.specs.TableLaws.{tables_mentioned, AgreeUnder, TablesMentionedDecide, FaultLeavesNoTable}
 
 same_inputs : (inputs : List Input) (before after : TableRows) → AgreeUnder (map (λ (input : Input). input.table) inputs) before after

@@ -1,9 +1,9 @@
 -- What is left of a budget stays within a bound: the words of the meaning, expressions, statements and calls.
-use Rattle.std.proofs.Common.{◌≡◌, ℕ, zero, suc, ◌≤◌, Bool, true, false, List, [], ◌∷◌, Option, Some, None, Result, Ok, Err, arith}
+use Rattle.std.proofs.Common.{ℕ, zero, suc, ◌≤◌, Bool, true, false, List, [], ◌∷◌, Option, Some, None, Result, Ok, Err, arith}
 use Rattle.std.specs.List.{join_with_byte}
 use Rattle.std.specs.Prelude.{slice_get, if◌then◌else◌, pos}
 use Rattle.ds2_base.specs.declared.place.Place.{Place}
-use Rattle.ds2_value.specs.Operations.{is_true, widened, of_decimals, of_decimal, line_text}
+use Rattle.ds2_value.specs.Operations.{is_true, widened, of_decimals, line_text}
 use Rattle.ds2_value.specs.Progress.{with_step}
 use Rattle.ds2_value.specs.Run.{Tested}
 use Rattle.ds2_value.specs.Types.{assign_of}
@@ -25,7 +25,7 @@ use Rattle.ds2_meaning.specs.declared.expressions.Prefix.TheVariants as prefix
 use Rattle.ds2_meaning.specs.declared.location.Reference.{Reference}
 use Rattle.ds2_meaning.specs.declared.location.Reference.TheVariants.{At, Local}
 use Rattle.ds2_meaning.specs.declared.methods.Parameter.{Parameter}
-use Rattle.ds2_meaning.specs.BudgetLaws.{left_by_expression, left_by_statement, around}
+use Rattle.ds2_meaning.specs.BudgetLaws.{left_by_expression, left_by_statement}
 use Rattle.ds2_meaning.specs.Evaluation.{Surroundings, Calls, CallEnd, Answers, CallBreaks, callee_home, with_one_more, then_others, then_all, then_call, taken_back, after_call, call_with, result_of, evaluate, evaluate_links, evaluate_all, evaluate_arguments, call}
 use Rattle.ds2_meaning.specs.Execution.{labelled, dropped, step_or_one, counts_on, write_one, write_each, any_holds, any_equals, with_texts, with_step_value, count_turn, rounds_counted, while_turn, rounds_while, until_turn, rounds_until, constructed, exec, exec_all, select, select_value}
 use Rattle.ds2_meaning.specs.Invocation.{method_state, returned, call_finding, carried_out, call_too_deep, invoke}

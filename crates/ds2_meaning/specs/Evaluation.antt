@@ -1,10 +1,9 @@
 -- What an expression means: its value or a fault, with its operands from the left.
-use Rattle.std.specs.Prelude.{ℕ, Bool, true, false, List, [], ◌∷◌, Option, Some, None, if◌then◌else◌}
+use Rattle.std.specs.Prelude.{ℕ, List, [], ◌∷◌, Option, Some, None, if◌then◌else◌}
 use Rattle.ds2_value.specs.Operations.{widened}
 use Rattle.ds2_value.specs.Value.{compared_of}
 use Rattle.ds2_value.specs.declared.fault.Fault.{Fault}
 use Rattle.ds2_value.specs.declared.value.Value.{Value}
-use Rattle.ds2_meaning.specs.declared.location.Reference.{Reference}
 use Rattle.ds2_meaning.specs.Location.{Home}
 use Rattle.ds2_meaning.specs.RunState.{RunState, ExpressionEnd, Gives, Breaks, then_operand, ExpressionsEnd, GiveAll, BreakAt, variable_value, store}
 use Rattle.ds2_meaning.specs.TypedExpression.{TypedExpression, Constant, Variable, Widen, Convert, Prefixed, Chain, Compared, Applied, Called, Links, NoLink, Link, TypedExpressions, NoExpression, Then, TypedArguments, NoArgument, ByValue, InOut}

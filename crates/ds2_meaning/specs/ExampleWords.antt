@@ -1,9 +1,8 @@
 -- Words that the small programs of the examples are written with.
-use Rattle.std.specs.Prelude.{ℕ, Bool, false, codes, List, [], ◌∷◌, map, Option, Some, None, ℤ, pos, negsuc}
+use Rattle.std.specs.Prelude.{ℕ, false, codes, List, [], ◌∷◌, map, Option, Some, None, ℤ, pos}
 use Rattle.ds2_base.specs.declared.place.Place.{Place}
 use Rattle.ds2_value.specs.Row.{Row}
 use Rattle.ds2_value.specs.Run.{Written}
-use Rattle.ds2_value.specs.declared.comparison.Comparison.{Comparison}
 use Rattle.ds2_value.specs.declared.fault.Ending.{Ending}
 use Rattle.ds2_value.specs.declared.fault.Ending.TheVariants.{Normal, Faulted}
 use Rattle.ds2_value.specs.declared.fault.Fault.{Fault}
@@ -11,8 +10,8 @@ use Rattle.ds2_value.specs.declared.schema.Column.{Column}
 use Rattle.ds2_value.specs.declared.ty.Ty.{Ty}
 use Rattle.ds2_value.specs.declared.ty.Ty.TheVariants.{BigInt, Decimal as DecimalOf, Varchar}
 use Rattle.ds2_value.specs.declared.value.Value.{Value}
-use Rattle.ds2_value.specs.declared.value.Value.TheVariants.{Null, Int, Dec, Txt}
-use Rattle.ds2_table.specs.OneThread.{Answer, StageAnswer}
+use Rattle.ds2_value.specs.declared.value.Value.TheVariants.{Int, Dec, Txt}
+use Rattle.ds2_table.specs.OneThread.{Answer}
 use Rattle.ds2_meaning.specs.declared.expressions.Operation.{Operation}
 use Rattle.ds2_meaning.specs.declared.expressions.Operation.TheVariants.{IntegerAdd, IntegerSubtract}
 use Rattle.ds2_meaning.specs.declared.expressions.Prefix.TheVariants.{IntegerNegate}
@@ -24,15 +23,10 @@ use Rattle.ds2_meaning.specs.declared.location.Global.TheVariants.{Named}
 use Rattle.ds2_meaning.specs.declared.location.Reference.{Reference}
 use Rattle.ds2_meaning.specs.declared.location.Reference.TheVariants.{At, Local}
 use Rattle.ds2_meaning.specs.declared.methods.Parameter.{Parameter}
-use Rattle.ds2_meaning.specs.declared.readings.ByVariable.{ByVariable}
-use Rattle.ds2_meaning.specs.declared.readings.Input.{Input}
-use Rattle.ds2_meaning.specs.declared.readings.Reading.{Reading}
 use Rattle.ds2_meaning.specs.declared.readings.Reading.TheVariants.{Once}
-use Rattle.ds2_meaning.specs.Method.{MethodTree}
 use Rattle.ds2_meaning.specs.ProgramMeaning.{program_answer}
-use Rattle.ds2_meaning.specs.ProgramTree.{BodyTree, UnitTree, ProgramTree, OverTables}
-use Rattle.ds2_meaning.specs.Reading.{TableRows}
-use Rattle.ds2_meaning.specs.TypedExpression.{TypedExpression, Constant, Variable, Prefixed, Chain, Link, NoLink, Compared, Applied}
+use Rattle.ds2_meaning.specs.ProgramTree.{BodyTree, UnitTree, OverTables}
+use Rattle.ds2_meaning.specs.TypedExpression.{TypedExpression, Constant, Variable, Prefixed, Chain, Link, NoLink, Applied}
 use Rattle.ds2_meaning.specs.TypedStatement.{TypedStatement, Assign}
 use Rattle.ds2_meaning.specs.View.{all_expressions, all_statements}
 

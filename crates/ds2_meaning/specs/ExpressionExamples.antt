@@ -1,5 +1,5 @@
 -- What small programs with one expression or two leave, written out from the rules by hand. Each stands behind its source.
-use Rattle.std.specs.Prelude.{◌≡◌, ℕ, true, false, codes, List, [], ◌∷◌, Option, Some, None, ℤ, pos, negsuc}
+use Rattle.std.specs.Prelude.{◌≡◌, true, false, codes, [], ◌∷◌, pos, negsuc}
 use Rattle.ds2_value.specs.declared.comparison.Comparison.TheVariants as comparison
 use Rattle.ds2_value.specs.declared.fault.Fault.TheVariants.{Overflow, DivideByZero, Range}
 use Rattle.ds2_value.specs.declared.ty.Ty.TheVariants.{BigInt, Decimal as DecimalOf, Char, Varchar}
@@ -7,8 +7,8 @@ use Rattle.ds2_value.specs.declared.value.Value.TheVariants.{Null, Int, Txt}
 use Rattle.ds2_meaning.specs.declared.expressions.Function.TheVariants as function
 use Rattle.ds2_meaning.specs.declared.expressions.Operation.TheVariants as operation
 use Rattle.ds2_meaning.specs.declared.expressions.Prefix.TheVariants as prefix
-use Rattle.ds2_meaning.specs.ExampleWords.{col, natural, fixed, global, value_of_type, variable_of, int, decimal_constant, text_constant, binary, plus, less, negated, function_of, assign_at, unit_with, program_with, bigint, ran, ends_with, faults_at}
-use Rattle.ds2_meaning.specs.TypedExpression.{TypedExpression, Constant, Variable, Widen, Convert, Prefixed, Chain, Link, NoLink, Compared}
+use Rattle.ds2_meaning.specs.ExampleWords.{natural, fixed, value_of_type, variable_of, int, decimal_constant, text_constant, binary, plus, less, negated, function_of, assign_at, unit_with, program_with, bigint, ran, ends_with, faults_at}
+use Rattle.ds2_meaning.specs.TypedExpression.{Widen, Convert, Prefixed, Chain, Link, NoLink, Compared}
 
 -- operators on BIGINT values: chains from the left, null, and results that leave 64 bits
 pub record IntegerExamples : Type 0 where
@@ -53,7 +53,7 @@ pub record DecimalExamples : Type 0 where
   pub rounded : ran (unit_with (record { name = codes "x"; ty = DecimalOf 10 2 } ∷ record { name = codes "y"; ty = DecimalOf 10 2 } ∷ record { name = codes "z"; ty = DecimalOf 10 2 } ∷ []) (
       assign_at 7 (codes "x") (Convert (binary operation.DecimalDivide (DecimalOf 38 6) (decimal_constant 1000 4 2) (Widen (int 3))) (DecimalOf 10 2))
       ∷ assign_at 25 (codes "y") (Convert (binary operation.DecimalDivide (DecimalOf 38 6) (decimal_constant 200 3 2) (Widen (int 3))) (DecimalOf 10 2))
-      ∷ assign_at 45 (codes "z") (Convert (Prefixed prefix.DecimalNegate (decimal_constant 5 3 3) (DecimalOf 38 3)) (DecimalOf 10 2)) ∷ [])) 10
+      ∷ assign_at 45 (codes "z") (Convert (Prefixed prefix.DecimalNegate (decimal_constant 5 3 3) (DecimalOf 3 3)) (DecimalOf 10 2)) ∷ [])) 10
       ≡ ends_with ((fixed (pos 333) 2 ∷ fixed (pos 67) 2 ∷ fixed (negsuc 0) 2 ∷ []) ∷ []) (10 ∷ 7 ∷ 10 ∷ [])
   -- dcl decimal(38,0) x; x = the product of two constants of 38 nines;
   pub product_of_nines : ran (unit_with (record { name = codes "x"; ty = DecimalOf 38 0 } ∷ []) (
@@ -77,8 +77,8 @@ pub record DecimalExamples : Type 0 where
       ≡ ends_with ((Null ∷ Null ∷ []) ∷ []) (10 ∷ 9 ∷ 10 ∷ [])
   -- dcl decimal(5,0) f c; dcl bigint g; f = floor(-1.5n); c = ceil(-1.5n); g = floor(7);
   pub whole_parts : ran (unit_with (record { name = codes "f"; ty = DecimalOf 5 0 } ∷ record { name = codes "c"; ty = DecimalOf 5 0 } ∷ bigint (codes "g") ∷ []) (
-      assign_at 7 (codes "f") (Convert (function_of function.Floor (DecimalOf 38 0) (Prefixed prefix.DecimalNegate (decimal_constant 15 2 1) (DecimalOf 38 1) ∷ [])) (DecimalOf 5 0))
-      ∷ assign_at 25 (codes "c") (Convert (function_of function.Ceiling (DecimalOf 38 0) (Prefixed prefix.DecimalNegate (decimal_constant 15 2 1) (DecimalOf 38 1) ∷ [])) (DecimalOf 5 0))
+      assign_at 7 (codes "f") (Convert (function_of function.Floor (DecimalOf 38 0) (Prefixed prefix.DecimalNegate (decimal_constant 15 2 1) (DecimalOf 2 1) ∷ [])) (DecimalOf 5 0))
+      ∷ assign_at 25 (codes "c") (Convert (function_of function.Ceiling (DecimalOf 38 0) (Prefixed prefix.DecimalNegate (decimal_constant 15 2 1) (DecimalOf 2 1) ∷ [])) (DecimalOf 5 0))
       ∷ assign_at 45 (codes "g") (function_of function.Unchanged BigInt (int 7 ∷ [])) ∷ [])) 10
       ≡ ends_with ((fixed (negsuc 1) 0 ∷ fixed (negsuc 0) 0 ∷ natural 7 ∷ []) ∷ []) (10 ∷ 7 ∷ 10 ∷ [])
 

@@ -1,14 +1,12 @@
 -- What further small programs leave: null in each operand, the order of conversions, loops, calls, loads, faults. Each stands behind
 -- its source, and its places rise with its statements.
-use Rattle.std.specs.Prelude.{◌≡◌, ℕ, true, false, codes, List, [], ◌∷◌, ◌++◌, map, Option, Some, None, ℤ, pos, negsuc}
-use Rattle.ds2_value.specs.Row.{Row}
+use Rattle.std.specs.Prelude.{◌≡◌, ℕ, true, false, codes, List, [], ◌∷◌, ◌++◌, map, Some, None, pos, negsuc}
 use Rattle.ds2_value.specs.declared.comparison.Comparison.TheVariants as comparison
 use Rattle.ds2_value.specs.declared.fault.Ending.TheVariants.{Normal, Faulted}
 use Rattle.ds2_value.specs.declared.fault.Fault.TheVariants.{BudgetSpent, DivideByZero, Overflow}
 use Rattle.ds2_value.specs.declared.ty.Ty.{Ty}
 use Rattle.ds2_value.specs.declared.ty.Ty.TheVariants.{BigInt, Decimal as DecimalOf, Char, Varchar}
-use Rattle.ds2_value.specs.declared.value.Value.TheVariants.{Null, Int, Txt}
-use Rattle.ds2_table.specs.OneThread.{Answer, StageAnswer}
+use Rattle.ds2_value.specs.declared.value.Value.TheVariants.{Null, Txt}
 use Rattle.ds2_meaning.specs.declared.expressions.Function.TheVariants as function
 use Rattle.ds2_meaning.specs.declared.expressions.Operation.TheVariants as operation
 use Rattle.ds2_meaning.specs.declared.expressions.Prefix.TheVariants as prefix
@@ -16,13 +14,13 @@ use Rattle.ds2_meaning.specs.declared.globals.Variable as variables
 use Rattle.ds2_meaning.specs.declared.location.Global.TheVariants.{First, Last, Present, Parameter}
 use Rattle.ds2_meaning.specs.declared.location.Reference.TheVariants.{At, Local}
 use Rattle.ds2_meaning.specs.declared.readings.Reading.{Reading}
-use Rattle.ds2_meaning.specs.declared.readings.Reading.TheVariants.{Once, Set, Merge, From}
-use Rattle.ds2_meaning.specs.ExampleWords.{col, natural, fixed, global, value_of_type, variable_of, local, int, decimal_constant, text_constant, binary, plus, less, negated, function_of, assign_at, assign_local, bigint, by_value, bigint_column, output_column, output_of, body_of, unit_with, program_with, Seen, seen, ran, ends_with, faults_at}
+use Rattle.ds2_meaning.specs.declared.readings.Reading.TheVariants.{Set, Merge, From}
+use Rattle.ds2_meaning.specs.ExampleWords.{col, natural, fixed, global, value_of_type, variable_of, local, int, decimal_constant, text_constant, binary, plus, less, negated, function_of, assign_at, assign_local, bigint, by_value, bigint_column, output_of, body_of, unit_with, program_with, seen, ran, ends_with, faults_at}
 use Rattle.ds2_meaning.specs.Method.{MethodTree}
-use Rattle.ds2_meaning.specs.ProgramExamples.{tables_of, input_of, by_ascending, reader, with_columns, retaining, ran_over, rows_over, two, getting, merging, summing, totals, sales}
+use Rattle.ds2_meaning.specs.ProgramExamples.{tables_of, input_of, by_ascending, reader, with_columns, rows_over, two, getting, merging, summing, totals, sales}
 use Rattle.ds2_meaning.specs.ProgramMeaning.{program_answer}
 use Rattle.ds2_meaning.specs.ProgramTree.{UnitTree, ProgramTree, OverTables, OverStage}
-use Rattle.ds2_meaning.specs.Reading.{TableRows, number_of_groups}
+use Rattle.ds2_meaning.specs.Reading.{TableRows, first_grain, number_of_groups}
 use Rattle.ds2_meaning.specs.StatementExamples.{one_by_zero, with_methods, calling, handed_in_and_out, fresh_method}
 use Rattle.ds2_meaning.specs.TypedExpression.{TypedExpression, Constant, Variable, Widen, Convert, Prefixed, Chain, Link, NoLink, Compared, Called, NoArgument, ByValue, InOut}
 use Rattle.ds2_meaning.specs.TypedStatement.{TypedStatement, Empty, Invoke, Construct, Leave, Continue, Return, ReturnValue, Output, Put, If, SelectValue, Count, While, Until, Otherwise, When, Text, Shown}
@@ -80,7 +78,7 @@ pub record ConversionExamples : Type 0 where
       ≡ ends_with ((fixed (pos 100) 2 ∷ Null ∷ []) ∷ []) (10 ∷ 9 ∷ 10 ∷ [])
   -- dcl decimal(5,1) x y z; x = mod(-7.5n, 2); y = abs(x); z = 1 + 0.5n;
   pub decimal_functions : ran (unit_with (map (variable_in (DecimalOf 5 1)) (codes "x" ∷ codes "y" ∷ codes "z" ∷ [])) (
-      assign_at 1 (codes "x") (Convert (function_of function.DecimalModulo (DecimalOf 38 1) (Prefixed prefix.DecimalNegate (decimal_constant 75 2 1) (DecimalOf 38 1) ∷ Widen (int 2) ∷ [])) (DecimalOf 5 1))
+      assign_at 1 (codes "x") (Convert (function_of function.DecimalModulo (DecimalOf 38 1) (Prefixed prefix.DecimalNegate (decimal_constant 75 2 1) (DecimalOf 2 1) ∷ Widen (int 2) ∷ [])) (DecimalOf 5 1))
       ∷ assign_at 21 (codes "y") (function_of function.DecimalAbsolute (DecimalOf 5 1) (value_of_type (codes "x") (DecimalOf 5 1) ∷ []))
       ∷ assign_at 31 (codes "z") (Convert (Chain (int 1) (Link true operation.DecimalAdd (decimal_constant 5 1 1) (DecimalOf 38 1) NoLink)) (DecimalOf 5 1)) ∷ [])) 10
       ≡ ends_with ((fixed (negsuc 14) 1 ∷ fixed (pos 15) 1 ∷ fixed (pos 15) 1 ∷ []) ∷ []) (10 ∷ 7 ∷ 10 ∷ [])
@@ -210,14 +208,17 @@ pub record ReadingExamples : Type 0 where
       ((codes "x", two 1 5 ∷ two 1 8 ∷ []) ∷ (codes "y", two 1 6 ∷ []) ∷ []) ≡ two 1 6 ∷ two 1 8 ∷ []
   -- merge x y; by k; where x has no row
   pub merged_with_an_empty_table : rows_over (merging false []) ((codes "x", []) ∷ (codes "y", two 1 10 ∷ []) ∷ []) ≡ (natural 1 ∷ Null ∷ natural 10 ∷ []) ∷ []
-  -- dcl decimal(5,1) a; dcl char(5) t; set s; where a is BIGINT and t is CHAR(2) in the table
-  pub wider_variables : rows_over (record (unit_with (variable_in (DecimalOf 5 1) (codes "a") ∷ variable_in (Char 5) (codes "t") ∷ []) []) {
+  -- dcl decimal(20,1) a; dcl char(5) t; set s; where a is BIGINT and t is CHAR(2) in the table
+  pub wider_variables : rows_over (record (unit_with (variable_in (DecimalOf 20 1) (codes "a") ∷ variable_in (Char 5) (codes "t") ∷ []) []) {
     reading = Set (record { table = codes "s"; present = None; columns = bigint_column (codes "a") ∷ record { name = codes "t"; ty = Char 2 } ∷ [] } ∷ []) [];
   })
       ((codes "s", (natural 3 ∷ Txt (codes "ab") ∷ []) ∷ []) ∷ []) ≡ (fixed (pos 30) 1 ∷ Txt (codes "ab   ") ∷ []) ∷ []
   -- set sales; by region prod; : four loads, two regions, three products of a region
   pub groups_at_each_grain : (number_of_groups 0 by_region_and_product product_sales ≡ 4)
       × (number_of_groups 1 by_region_and_product product_sales ≡ 2) × (number_of_groups 2 by_region_and_product product_sales ≡ 3)
+  -- set t; : without BY each load is a group
+  pub groups_without_by : number_of_groups (first_grain (Set (input_of (codes "t") (codes "a" ∷ []) ∷ []) [])) (Set (input_of (codes "t") (codes "a" ∷ []) ∷ []) [])
+      (tables_of ((codes "t", (natural 1 ∷ []) ∷ (natural 1 ∷ []) ∷ (natural 2 ∷ []) ∷ []) ∷ [])) ≡ 3
 
 -- thread names; method run(); put n; x = 1; end; with a parameter n, and with this in `init`
 abbrev pub naming : List TypedStatement → UnitTree

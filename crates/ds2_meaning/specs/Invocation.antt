@@ -8,7 +8,7 @@ use Rattle.ds2_value.specs.declared.value.Value.TheVariants.{Null}
 use Rattle.ds2_meaning.specs.declared.methods.Parameter.{Parameter}
 use Rattle.ds2_meaning.specs.Location.{Home}
 use Rattle.ds2_meaning.specs.RunState.{RunState, StatementOutcome, Proceeds, Leaves, Continues, Returns, Faults, noting_failure, with_progress}
-use Rattle.ds2_meaning.specs.Evaluation.{Calls, CallEnd, Answers, CallBreaks, Surroundings}
+use Rattle.ds2_meaning.specs.Evaluation.{Calls, CallEnd, Answers, CallBreaks}
 use Rattle.ds2_meaning.specs.Execution.{exec_all}
 use Rattle.ds2_meaning.specs.Method.{MethodTree, Methods, locals_at_entry, last_values}
 

@@ -1,9 +1,8 @@
 -- Which programs are typed: by cases over the tree, every name is known, every type fits, and no statement has a flag as its target.
-use Rattle.std.specs.Prelude.{◌≡◌, ◌≤◌, ◌<◌, ◌+◌, IsTrue, ℕ, zero, suc, min, max, Bool, true, false, bytes_eq, if◌then◌else◌, not, ◌&&◌, List, [], ◌∷◌, ◌++◌, length, map, slice_get, Option, Some, None}
+use Rattle.std.specs.Prelude.{◌≡◌, ◌≤◌, ◌<◌, ◌+◌, IsTrue, ℕ, min, max, Bool, true, false, bytes_eq, if◌then◌else◌, not, ◌&&◌, List, [], ◌∷◌, length, map, slice_get, Option, Some, None}
 use Rattle.ds2_value.specs.Row.{Columns}
 use Rattle.ds2_value.specs.Schema.{has_column}
 use Rattle.ds2_value.specs.Types.{in_bounds, fits, takes}
-use Rattle.ds2_value.specs.declared.schema.Column.{Column}
 use Rattle.ds2_value.specs.declared.ty.Ty.{Ty}
 use Rattle.ds2_value.specs.declared.ty.Ty.TheVariants.{BigInt, Decimal as DecimalOf, Char, Varchar}
 use Rattle.ds2_meaning.specs.declared.expressions.Function.{Function}
@@ -23,9 +22,9 @@ use Rattle.ds2_meaning.specs.declared.methods.Parameter as parameters
 use Rattle.ds2_meaning.specs.declared.readings.ByVariable.{ByVariable}
 use Rattle.ds2_meaning.specs.declared.readings.Input.{Input}
 use Rattle.ds2_meaning.specs.declared.readings.Reading.{Reading}
-use Rattle.ds2_meaning.specs.declared.readings.Reading.TheVariants.{Nothing, Once, Set, Merge, From}
+use Rattle.ds2_meaning.specs.declared.readings.Reading.TheVariants.{From}
 use Rattle.ds2_meaning.specs.Location.{Home, Location, Storage, held}
-use Rattle.ds2_meaning.specs.Method.{MethodTree, Methods}
+use Rattle.ds2_meaning.specs.Method.{MethodTree}
 use Rattle.ds2_meaning.specs.ProgramMeaning.{output_columns}
 use Rattle.ds2_meaning.specs.ProgramTree.{BodyTree, InstanceTree, UnitTree, ProgramTree, OverTables, OverStage, data_vector, is_listed, methods_of, reader_of}
 use Rattle.ds2_meaning.specs.Reading.{inputs_of, bys_of, stage_columns}

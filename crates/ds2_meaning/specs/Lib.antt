@@ -19,6 +19,7 @@ pub mod FurtherExamples
 pub mod BudgetLaws
 pub mod TableLaws
 pub mod IsTyped
+pub mod TypedExamples
 pub mod SourceUnit
 pub mod Uses
 pub mod Refusals

@@ -6,7 +6,7 @@ use Rattle.ds2_base.specs.declared.place.Refusal.{Refusal}
 use Rattle.ds2_token.specs.Words.{is_word}
 use Rattle.ds2_token.specs.declared.token.Token.{Token}
 use Rattle.ds2_tree.specs.Expressions.{Expression, Variable, Arguments, NoArgument, Argument}
-use Rattle.ds2_tree.specs.Globals.{Method, GlobalItem, Declared, Listed, Defined}
+use Rattle.ds2_tree.specs.Globals.{Method, GlobalItem, Listed}
 use Rattle.ds2_tree.specs.Statements as s
 use Rattle.ds2_tree.specs.Units.{DataProgram}
 use Rattle.ds2_tree.specs.declared.expressions.Callee.{Callee}
@@ -29,7 +29,7 @@ use Rattle.ds2_value.specs.Schema.{has_column}
 use Rattle.ds2_meaning.specs.ProgramTree.{is_listed}
 use Rattle.ds2_meaning.specs.Refusals.{scope_rank, least_refusal, broken_at}
 use Rattle.ds2_meaning.specs.SourceUnit.{TableColumns, spelled_name, PlacedName, placed_name, names_alone, is_earlier, variable_declarations, listed_tokens, is_system_name, local_names, reading_of_run, tables_of_reading, SourceNames, names_of_source, vector_names, plain_globals, is_named}
-use Rattle.ds2_meaning.specs.Uses.{NameUse, Values, Members, HandsOver, CallsOn, Sets, WritesTo, callee_place, first_place, method_named, in_out_parameters, statements_uses}
+use Rattle.ds2_meaning.specs.Uses.{NameUse, Values, Members, HandsOver, CallsOn, Sets, WritesTo, first_place, method_named, in_out_parameters, statements_uses}
 use Rattle.ds2_meaning.specs.declared.refusals.ScopeKind.{ScopeKind}
 use Rattle.ds2_meaning.specs.declared.refusals.ScopeKind.TheVariants as kind
 
@@ -71,12 +71,18 @@ is_flag_member names object member = (is_word (codes "first") object || is_word 
 abbrev pub output_names : SourceNames → List PlacedName
 output_names names = map (λ (o : source_output.OutputTable). placed_name o.table) names.outputs
 
--- a use of a name that is not there; what stands before a point is no instance
+-- an output of this name; `_null_` is none
+abbrev pub is_output_name : SourceNames → List ℕ → Bool
+is_output_name names name = is_named (output_names names) name && not (bytes_eq name (codes "_null_"))
+
+-- a use of a name that is not there, as a value, a target or an argument; what stands before a point is no instance
 abbrev pub unknown_in_use : SourceNames → Method → NameUse → List Place
 unknown_in_use names m (Values t) = place_unless (is_in_scope names m (spelled_name t)) t.place
+unknown_in_use names m (HandsOver t) = place_unless (is_in_scope names m (spelled_name t)) t.place
+unknown_in_use names m (Sets t) = place_unless (is_in_scope names m (spelled_name t)) t.place
 unknown_in_use names m (Members object member) = place_unless (is_flag_member names object member) object.place
 unknown_in_use names m (CallsOn (callee.Method object dot method) arguments) = object.place ∷ []
-unknown_in_use names m (WritesTo t) = place_unless (is_named (output_names names) (spelled_name t)) t.place
+unknown_in_use names m (WritesTo t) = place_unless (is_output_name names (spelled_name t)) t.place
 unknown_in_use names m _ = []
 
 -- the names that an option of an output lists
@@ -111,7 +117,7 @@ later_places names =
     map (λ (n : PlacedName). n.place)
     (filter (λ (n : PlacedName). list_any (λ (o : PlacedName). bytes_eq o.name n.name && is_earlier o.place n.place) names) names)
 
--- the new name of a column under the renamings of an output, at the place of that name; else the name itself, at no place
+-- the new name of a column under the renamings of an output, at the place of that name, where it is renamed
 abbrev pub renamed_to : List Renaming → List ℕ → Option PlacedName
 renamed_to [] name = None
 renamed_to (r ∷ renamings) name = if bytes_eq (spelled_name r.old) name then Some (placed_name r.new) else renamed_to renamings name
@@ -164,7 +170,7 @@ pub record OutputName : Type 0 where
   pub name : List ℕ
   pub new_place : Option Place
 
--- the name of a column of an output
+-- the name of a column of an output: its new name where it is renamed
 abbrev pub output_name : List Renaming → List ℕ → OutputName
 output_name renamings name = of_renamed (renamed_to renamings name)
   where
@@ -254,7 +260,7 @@ wrong_counts tables u = let names = names_of_source tables u in from_uses names 
 
 -- ---- NotVariable, at the name
 
--- a name may be set in a method: it is one of its parameters or locals, or a variable and not hidden
+-- a name may be set in a method: it is one of its parameters or locals, or a variable
 abbrev pub is_settable : SourceNames → Method → List ℕ → Bool
 is_settable names m name = is_named (local_names m) name || is_named (vector_names names) name
 

@@ -1,27 +1,22 @@
 -- What small programs over tables leave, written out from the rules by hand. Each stands behind its source.
-use Rattle.std.specs.Prelude.{◌≡◌, ℕ, Bool, true, false, codes, bytes_eq, if◌then◌else◌, List, [], ◌∷◌, ◌++◌, map, Option, Some, None, ℤ, pos, negsuc}
+use Rattle.std.specs.Prelude.{◌≡◌, ℕ, Bool, true, false, codes, bytes_eq, if◌then◌else◌, List, [], ◌∷◌, ◌++◌, map, Some, None, pos}
 use Rattle.ds2_value.specs.Row.{Row, Columns}
 use Rattle.ds2_value.specs.Run.{Written}
 use Rattle.ds2_value.specs.declared.comparison.Comparison.TheVariants as comparison
 use Rattle.ds2_value.specs.declared.fault.Ending.TheVariants.{Normal, Faulted}
-use Rattle.ds2_value.specs.declared.fault.Fault.TheVariants.{DivideByZero, BudgetSpent}
-use Rattle.ds2_value.specs.declared.schema.Column.{Column}
-use Rattle.ds2_value.specs.declared.ty.Ty.{Ty}
+use Rattle.ds2_value.specs.declared.fault.Fault.TheVariants.{DivideByZero}
 use Rattle.ds2_value.specs.declared.ty.Ty.TheVariants.{BigInt, Decimal as DecimalOf, Varchar}
-use Rattle.ds2_value.specs.declared.value.Value.{Value}
-use Rattle.ds2_value.specs.declared.value.Value.TheVariants.{Null, Int, Txt}
-use Rattle.ds2_table.specs.OneThread.{Answer, StageAnswer}
+use Rattle.ds2_value.specs.declared.value.Value.TheVariants.{Null, Txt}
 use Rattle.ds2_meaning.specs.declared.expressions.Function.TheVariants as function
 use Rattle.ds2_meaning.specs.declared.expressions.Operation.TheVariants as operation
 use Rattle.ds2_meaning.specs.declared.globals.Variable as variables
-use Rattle.ds2_meaning.specs.declared.location.Global.{Global}
-use Rattle.ds2_meaning.specs.declared.location.Global.TheVariants.{Named, First, Last, Present}
-use Rattle.ds2_meaning.specs.declared.location.Reference.TheVariants.{At, Local}
+use Rattle.ds2_meaning.specs.declared.location.Global.TheVariants.{First, Last, Present}
+use Rattle.ds2_meaning.specs.declared.location.Reference.TheVariants.{At}
 use Rattle.ds2_meaning.specs.declared.readings.ByVariable.{ByVariable}
 use Rattle.ds2_meaning.specs.declared.readings.Input.{Input}
 use Rattle.ds2_meaning.specs.declared.readings.Reading.{Reading}
-use Rattle.ds2_meaning.specs.declared.readings.Reading.TheVariants.{Nothing, Once, Set, Merge, From}
-use Rattle.ds2_meaning.specs.ExampleWords.{col, natural, fixed, global, value_of_type, variable_of, int, binary, plus, function_of, assign_at, bigint, output_column, output_of, body_of, bigint_column, unit_with, program_with, Seen, seen, ran, ends_with}
+use Rattle.ds2_meaning.specs.declared.readings.Reading.TheVariants.{Nothing, Set, Merge, From}
+use Rattle.ds2_meaning.specs.ExampleWords.{col, natural, fixed, value_of_type, variable_of, int, binary, plus, function_of, assign_at, bigint, output_column, output_of, body_of, bigint_column, program_with, Seen, seen, ran, ends_with}
 use Rattle.ds2_meaning.specs.Method.{MethodTree}
 use Rattle.ds2_meaning.specs.ProgramMeaning.{program_answer, tables_left}
 use Rattle.ds2_meaning.specs.ProgramTree.{UnitTree, ProgramTree, OverTables, OverStage}

@@ -16,7 +16,7 @@ use Rattle.ds2_meaning.specs.declared.globals.OutputTable.{OutputTable}
 use Rattle.ds2_meaning.specs.declared.globals.Variable.{Variable}
 use Rattle.ds2_meaning.specs.declared.location.Global.{Global}
 use Rattle.ds2_meaning.specs.declared.location.Global.TheVariants.{Named, Parameter}
-use Rattle.ds2_meaning.specs.Location.{Home, Location, Storage, Holds, held, with_content}
+use Rattle.ds2_meaning.specs.Location.{Home, Storage, Holds, held, with_content}
 use Rattle.ds2_meaning.specs.RunState.{RunState, StatementOutcome, Proceeds, Leaves, Continues, Returns, Faults, no_locals}
 use Rattle.ds2_meaning.specs.Evaluation.{Surroundings}
 use Rattle.ds2_meaning.specs.Execution.{exec_all, write_each}

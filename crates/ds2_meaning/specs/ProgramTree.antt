@@ -5,7 +5,6 @@ use Rattle.ds2_meaning.specs.declared.globals.OutputColumn.{OutputColumn}
 use Rattle.ds2_meaning.specs.declared.globals.OutputTable.{OutputTable}
 use Rattle.ds2_meaning.specs.declared.globals.Variable.{Variable}
 use Rattle.ds2_meaning.specs.declared.readings.Reading.{Reading}
-use Rattle.ds2_meaning.specs.Location.{Home}
 use Rattle.ds2_meaning.specs.Method.{MethodTree, Methods}
 use Rattle.ds2_meaning.specs.Reading.{is_column}
 use Rattle.ds2_meaning.specs.TypedStatement.{TypedStatements, have_output}

@@ -1,12 +1,11 @@
 -- Reading statements: their loads, and what a load sets.
-use Rattle.std.specs.Prelude.{ℕ, min, nat_eq, nat_le, Bool, true, false, bytes_eq, not, ◌&&◌, ◌||◌, if◌then◌else◌, List, [], ◌∷◌, ◌++◌, length, map, slice_get, Option, Some, None, pos}
+use Rattle.std.specs.Prelude.{ℕ, min, nat_eq, nat_le, Bool, false, bytes_eq, not, ◌&&◌, ◌||◌, if◌then◌else◌, List, [], ◌∷◌, ◌++◌, length, map, slice_get, Option, Some, None, pos}
 use Rattle.std.specs.List.{list_any}
 use Rattle.ds2_value.specs.Operations.{or_null_at_fault}
 use Rattle.ds2_value.specs.Row.{Row, Columns}
 use Rattle.ds2_value.specs.Schema.{has_column}
 use Rattle.ds2_value.specs.Types.{assign_of}
 use Rattle.ds2_value.specs.declared.schema.Column.{Column}
-use Rattle.ds2_value.specs.declared.ty.Ty.{Ty}
 use Rattle.ds2_value.specs.declared.value.Value.{Value}
 use Rattle.ds2_value.specs.declared.value.Value.TheVariants.{Null, Int}
 use Rattle.ds2_table.specs.Loads.{Load, KeyedLoad, keyed_load, set_loads, merge_loads, groups}
@@ -17,7 +16,7 @@ use Rattle.ds2_meaning.specs.declared.readings.ByVariable.{ByVariable}
 use Rattle.ds2_meaning.specs.declared.readings.Input.{Input}
 use Rattle.ds2_meaning.specs.declared.readings.Reading.{Reading}
 use Rattle.ds2_meaning.specs.declared.readings.Reading.TheVariants.{Nothing, Once, Set, Merge, From}
-use Rattle.ds2_meaning.specs.Location.{Location, Storage, Holds, with_content}
+use Rattle.ds2_meaning.specs.Location.{Storage, Holds, with_content}
 
 -- the rows of each table, by the table's name
 abbrev pub TableRows : Type 0

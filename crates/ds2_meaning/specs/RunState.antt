@@ -8,10 +8,9 @@ use Rattle.ds2_value.specs.declared.fault.Fault.{Fault}
 use Rattle.ds2_value.specs.declared.fault.Fault.TheVariants.{BudgetSpent}
 use Rattle.ds2_value.specs.declared.value.Value.{Value}
 use Rattle.ds2_value.specs.declared.value.Value.TheVariants.{Null}
-use Rattle.ds2_meaning.specs.declared.location.Global.{Global}
 use Rattle.ds2_meaning.specs.declared.location.Reference.{Reference}
 use Rattle.ds2_meaning.specs.declared.location.Reference.TheVariants.{At, Local}
-use Rattle.ds2_meaning.specs.Location.{Home, Location, Content, Storage, Holds, held, with_content}
+use Rattle.ds2_meaning.specs.Location.{Home, Storage, Holds, held, with_content}
 
 -- the values of a method's parameters and locals, by name
 abbrev pub Locals : Type 0

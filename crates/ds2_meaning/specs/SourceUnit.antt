@@ -1,7 +1,6 @@
 -- What the source of a data program gives names to, each with its place. Packages and threads are not among it yet.
-use Rattle.std.specs.Prelude.{ℕ, Bool, true, false, ◌||◌, ◌&&◌, ◌==◌, nat_lt, bytes_eq, codes, if◌then◌else◌, List, [], ◌∷◌, ◌++◌, map, Option, Some, None}
+use Rattle.std.specs.Prelude.{ℕ, Bool, ◌||◌, ◌&&◌, ◌==◌, nat_lt, bytes_eq, codes, if◌then◌else◌, List, [], ◌∷◌, ◌++◌, map, Option, Some, None}
 use Rattle.std.specs.Char.{to_ascii_lowercase}
-use Rattle.std.specs.List.{list_any}
 use Rattle.ds2_base.specs.declared.place.Place.{Place}
 use Rattle.ds2_token.specs.Forms.{between_quotes}
 use Rattle.ds2_token.specs.Words.{quoted_kind}
@@ -19,7 +18,6 @@ use Rattle.ds2_tree.specs.declared.readings.Reading as source_reading
 use Rattle.ds2_tree.specs.declared.readings.Reading.TheVariants as reading
 use Rattle.ds2_tree.specs.declared.units.OutputTable as source_output
 use Rattle.ds2_value.specs.Row.{Columns}
-use Rattle.ds2_value.specs.declared.schema.Column.{Column}
 use Rattle.ds2_meaning.specs.ProgramTree.{is_listed}
 
 -- the columns of each table of the store, by the table's name

@@ -1,11 +1,11 @@
 -- What small programs of statements and methods leave, written out from the rules by hand. Each stands behind its source; the
 -- numbers in statements are their columns, which rise with the statements.
-use Rattle.std.specs.Prelude.{◌≡◌, ℕ, true, false, codes, List, [], ◌∷◌, Option, Some, None, ℤ, pos, negsuc}
+use Rattle.std.specs.Prelude.{◌≡◌, ℕ, true, codes, List, [], ◌∷◌, Some, None}
 use Rattle.ds2_value.specs.declared.comparison.Comparison.TheVariants as comparison
-use Rattle.ds2_value.specs.declared.fault.Ending.TheVariants.{Normal, Faulted}
+use Rattle.ds2_value.specs.declared.fault.Ending.TheVariants.{Normal}
 use Rattle.ds2_value.specs.declared.fault.Fault.TheVariants.{BudgetSpent, DepthReached, DivideByZero, NoWhen, Overflow}
 use Rattle.ds2_value.specs.declared.ty.Ty.TheVariants.{BigInt, Decimal as DecimalOf, Char}
-use Rattle.ds2_value.specs.declared.value.Value.TheVariants.{Null, Int, Txt}
+use Rattle.ds2_value.specs.declared.value.Value.TheVariants.{Null, Txt}
 use Rattle.ds2_meaning.specs.declared.expressions.Function.TheVariants as function
 use Rattle.ds2_meaning.specs.declared.expressions.Operation.TheVariants as operation
 use Rattle.ds2_meaning.specs.declared.location.Reference.TheVariants.{Local}
@@ -13,8 +13,8 @@ use Rattle.ds2_meaning.specs.declared.methods.Parameter.{Parameter}
 use Rattle.ds2_meaning.specs.ExampleWords.{col, natural, global, value_of_type, variable_of, local, int, text_constant, plus, less, negated, function_of, assign_at, assign_local, bigint, by_value, unit_with, program_with, ran, ends_with, faults_at}
 use Rattle.ds2_meaning.specs.Method.{MethodTree}
 use Rattle.ds2_meaning.specs.ProgramTree.{UnitTree}
-use Rattle.ds2_meaning.specs.TypedExpression.{TypedExpression, Convert, Widen, Chain, Link, NoLink, Compared, Called, NoArgument, ByValue, InOut, NoExpression, Then}
-use Rattle.ds2_meaning.specs.TypedStatement.{TypedStatement, Empty, Invoke, Leave, Continue, Return, ReturnValue, Output, Put, If, IfElse, Select, SelectValue, Block, Count, While, Until, NoOtherwise, Otherwise, When, Text, Shown, Labelled}
+use Rattle.ds2_meaning.specs.TypedExpression.{TypedExpression, Convert, Widen, Chain, Link, NoLink, Compared, Called, NoArgument, ByValue, InOut}
+use Rattle.ds2_meaning.specs.TypedStatement.{Empty, Invoke, Leave, Continue, Return, ReturnValue, Output, Put, If, IfElse, Select, SelectValue, Block, Count, While, Until, NoOtherwise, Otherwise, When, Text, Shown, Labelled}
 use Rattle.ds2_meaning.specs.View.{all_expressions, all_statements}
 
 -- an expression that is evaluated to a fault: 1 / 0

@@ -1,5 +1,5 @@
 -- Typed statements, as plain data. A chained `else if` is an `if` in the else part.
-use Rattle.std.specs.Prelude.{ℕ, Bool, true, false, ◌||◌, List, Option, Some, None}
+use Rattle.std.specs.Prelude.{ℕ, Bool, true, false, ◌||◌, List, Option}
 use Rattle.ds2_base.specs.declared.place.Place.{Place}
 use Rattle.ds2_meaning.specs.declared.location.Reference.{Reference}
 use Rattle.ds2_meaning.specs.TypedExpression.{TypedExpression, TypedExpressions, TypedArguments}

@@ -1,5 +1,5 @@
 -- How the statements of a method use names.
-use Rattle.std.specs.Prelude.{ℕ, Bool, true, false, ◌&&◌, not, bytes_eq, if◌then◌else◌, List, [], ◌∷◌, ◌++◌, map, is_some, Option, Some, None}
+use Rattle.std.specs.Prelude.{ℕ, Bool, true, bytes_eq, if◌then◌else◌, List, [], ◌∷◌, ◌++◌, map, is_some, Option, Some, None}
 use Rattle.ds2_base.specs.declared.place.Place.{Place}
 use Rattle.ds2_token.specs.declared.token.Token.{Token}
 use Rattle.ds2_tree.specs.Expressions.{Expression, Constant, Null, Variable, Member, Call, Parenthesis, Sign, Chain, Comparison, Not, Operands, NoOperand, Operand, Arguments, NoArgument, Argument}

@@ -1,5 +1,5 @@
 -- What operators and functions make of values, and which of them may fault.
-use Rattle.std.specs.Prelude.{List, [], ◌∷◌, fold, Result, Ok, Err}
+use Rattle.std.specs.Prelude.{List, [], ◌∷◌, fold, Result, Ok}
 use Rattle.ds2_decimal.specs.Arithmetic as decimal
 use Rattle.ds2_value.specs.Functions.{is_null_of, length_of, trim_of, concat_of, substr_of, first_of, lesser_of, greater_of}
 use Rattle.ds2_value.specs.Operations.{of_decimals, of_decimal, truth_value, or_null_at_fault}

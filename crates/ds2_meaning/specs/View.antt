@@ -4,7 +4,6 @@ use Rattle.std.specs.Option.{option_map}
 use Rattle.std.specs.declared.boxed.Box.{Box}
 use Rattle.std.specs.declared.alloc.Global as allocator
 use Rattle.ds2_base.specs.declared.place.Place.{Place}
-use Rattle.ds2_meaning.specs.declared.location.Global.{Global}
 use Rattle.ds2_meaning.specs.declared.expressions.Argument.TheFolds.{fold-Argument, fold-Call, fold-Expression, fold-Link}
 use Rattle.ds2_meaning.specs.declared.expressions.Argument.TheOpen as node
 use Rattle.ds2_meaning.specs.declared.expressions.Argument as code_argument

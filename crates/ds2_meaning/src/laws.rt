@@ -4,6 +4,7 @@ ghost use Rattle.ds2_meaning.specs.ExpressionExamples.{IntegerExamples, DecimalE
 ghost use Rattle.ds2_meaning.specs.FurtherExamples.{NullExamples, ConversionExamples, RoundExamples, CallExamples, ReadingExamples, FaultExamples};
 ghost use Rattle.ds2_meaning.specs.ProgramExamples.{UnitExamples, LoadExamples, StageExamples};
 ghost use Rattle.ds2_meaning.specs.StatementExamples.{ChoiceExamples, LoopExamples, OutputExamples, MethodExamples};
+ghost use Rattle.ds2_meaning.specs.TypedExamples.{TypedExamples};
 ghost use Rattle.ds2_meaning.specs.TableLaws.{TablesMentionedDecide, FaultLeavesNoTable};
 
 /// No statement raises the budget, whatever methods it calls.
@@ -109,4 +110,9 @@ pub fn reading_examples()
 /// Faults in each unit and the order of units, in small programs.
 pub fn fault_examples()
     ensures { FaultExamples }
+{}
+
+/// A program that is typed, and programs that are not.
+pub fn typed_examples()
+    ensures { TypedExamples }
 {}

@@ -1,0 +1,39 @@
+-- The examples of typed programs.
+use Rattle.std.proofs.Common.{refl, arith}
+use Rattle.ds2_value.specs.declared.ty.Ty.TheVariants.{BigInt}
+use Rattle.ds2_meaning.specs.StatementExamples.{counting_method}
+use Rattle.ds2_meaning.specs.TypedExamples.{TypedExamples}
+
+pub typed_examples : TypedExamples
+typed_examples = record {
+  recursion_is_typed = (
+    record {
+      variables = ((refl, tt), refl);
+      parameters = (tt, refl);
+      names = refl;
+      instances = tt;
+      reading = tt;
+      outputs = (omega arith, (refl, tt), tt);
+      methods = (
+        (
+          ((refl, tt), refl),
+          -- if n <= 1 then return 1; return 1 + f(n - 1);
+          (
+            (((refl, (refl, refl), refl), tt), ((refl, refl), refl)),
+            (((((refl, refl), ((counting_method, refl, refl, (refl, (refl, ((refl, refl), (BigInt, refl, (refl, refl, refl)), tt)), refl, tt)), (BigInt, refl, (refl, refl, refl)), tt)), refl), tt)),
+          ),
+          tt,
+        ),
+        tt,
+      );
+      init = ((tt, refl), tt);
+      run = ((tt, refl), ((tt, (counting_method, refl, refl, (refl, (refl, refl), refl, tt)), refl), tt));
+      term = ((tt, refl), tt);
+    },
+    tt,
+  );
+  flag_is_no_target = λ h. absurd (h.0.run.1.0.0);
+  leave_wants_a_loop = λ h. cc (h.0.run.1.0);
+  constructors_stand_in_init = λ h. absurd (h.0.run.1.0);
+  names_are_known = λ h. cc (h.0.run.1.0.1);
+}
