@@ -37,7 +37,7 @@ use Rattle.ds2_draft_forms.specs.declared.form.NoForm.{NoForm}
 use Rattle.ds2_draft_forms.specs.Parts.{from_two, from_three, all_forms, GivesForm}
 use Rattle.ds2_draft_forms.specs.ExpressionForms.{operand_form, sign_form, terms_form, chain_form, sum_form, condition_form}
 use Rattle.ds2_draft_forms.specs.StatementForms.{statement_form, statements_form}
-use Rattle.ds2_draft_forms.specs.Rows.{signed_form, signed_tree, held_form, Chained, chained_form, chained_tree, else_form, chained_else, chosen_form}
+use Rattle.ds2_draft_forms.specs.Rows.{signed_form, signed_tree, held_form, ElseIfForm, chained_form, chained_tree, else_form, chained_else, chosen_form}
 
 -- ---- chains of operands
 
@@ -119,7 +119,7 @@ chained_none : (o : Option (Option Stmt)) → o ≡ from_two chained_else (Some 
 chained_none None = refl
 chained_none (Some o) = refl
 
-chained_joined : (p : Place) (e : Option Expr) (s : Option Stmt) (others : Option (List Chained)) (o : Option (Option Stmt))
+chained_joined : (p : Place) (e : Option Expr) (s : Option Stmt) (others : Option (List ElseIfForm)) (o : Option (Option Stmt))
     → option_map (λ x. Some x) (from_three (if_with_else p) e s (from_two chained_else others o))
     ≡ from_two chained_else (from_two (λ y ys. y ∷ ys) (from_two (λ c b. record { place = p; condition = c; body = b }) e s) others) o
 chained_joined p None s others o = refl
@@ -177,7 +177,7 @@ second_none : {A B C D : Type 0} (make : A → B → C → D) (a : Option A) (c 
 second_none make None c = refl
 second_none make (Some a) c = refl
 
-last_none : (others : Option (List Chained)) → from_two chained_else others None ≡ None
+last_none : (others : Option (List ElseIfForm)) → from_two chained_else others None ≡ None
 last_none None = refl
 last_none (Some others) = refl
 
@@ -221,7 +221,7 @@ pub others_fail : (x : code.Statement) (k : Token) (e : code_expression.Expressi
 others_fail x k e t s others o r fault seen is h same given =
     fails stmt_tree (map chained_tree) r fault (statement_form (statement_tree x)) (all_forms chained_form seen) h given
     (λ n. if_formed x k e t s others o is
-    ∙ ap (λ (f : Option (List Chained)). chosen_form k.place (condition_form (expression_tree e)) (statement_form (statement_tree s.value)) f (else_form (otherwise_tree o)))
+    ∙ ap (λ (f : Option (List ElseIfForm)). chosen_form k.place (condition_form (expression_tree e)) (statement_form (statement_tree s.value)) f (else_form (otherwise_tree o)))
     (ap (λ (l : List code_else_if.ElseIf). all_forms chained_form l) (sym same) ∙ n)
     ∙ third_none (if_with_else k.place) (condition_form (expression_tree e)) (statement_form (statement_tree s.value)))
 
@@ -240,7 +240,7 @@ last_fails x k e t s others o r fault is h given =
 
 -- each part of an `if` is known, and the answer is for these
 pub if_given : (x : code.Statement) (k : Token) (e : code_expression.Expression) (t : Token) (s : Box code.Statement Global) (others : List code_else_if.ElseIf) (o : Option code_otherwise.Otherwise)
-    (ec : Option Expr) (es : Option Stmt) (eothers : Option (List Chained)) (elast : Option (Option Stmt)) (r : Result draft_stmt.Stmt (Stop NoForm))
+    (ec : Option Expr) (es : Option Stmt) (eothers : Option (List ElseIfForm)) (elast : Option (Option Stmt)) (r : Result draft_stmt.Stmt (Stop NoForm))
     → x ≡ statement.If k e t s others o → condition_form (expression_tree e) ≡ ec → statement_form (statement_tree s.value) ≡ es
     → all_forms chained_form others ≡ eothers → else_form (otherwise_tree o) ≡ elast
     → GivesForm stmt_tree r (chosen_form k.place ec es eothers elast) → GivesForm stmt_tree r (statement_form (statement_tree x))

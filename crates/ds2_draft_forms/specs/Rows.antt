@@ -30,19 +30,19 @@ abbrev pub held_form : code_statement.Statement → Option Stmt
 held_form s = statement_form (statement_tree s)
 
 -- an `else if`: its place, its condition and its statement
-pub record Chained : Type 0 where
+pub record ElseIfForm : Type 0 where
   pub place : Place
   pub condition : Expr
   pub body : Stmt
 
 -- an `else if` of a chain
-abbrev pub chained_form : code_else_if.ElseIf → Option Chained
+abbrev pub chained_form : code_else_if.ElseIf → Option ElseIfForm
 chained_form x =
     from_two (λ e s. record { place = x.keyword.place; condition = e; body = s }) (condition_form (expression_tree x.condition))
     (statement_form (statement_tree x.then))
 
 -- an `else if` of a chain, as the code holds it
-abbrev pub chained_tree : code_arm.Arm → Chained
+abbrev pub chained_tree : code_arm.Arm → ElseIfForm
 chained_tree a = record { place = a.place; condition = expr_tree a.condition; body = stmt_tree a.then }
 
 -- the statement behind the last `else`, where there is one
@@ -51,10 +51,10 @@ else_form NoOtherwise = Some None
 else_form (Otherwise' keyword s) = option_map (λ o. Some o) (statement_form s)
 
 -- what chained `else if` parts make of the last else part
-abbrev pub chained_else : List Chained → Option Stmt → Option Stmt
+abbrev pub chained_else : List ElseIfForm → Option Stmt → Option Stmt
 chained_else [] o = o
 chained_else (a ∷ more) o = Some (if_with_else a.place a.condition a.body (chained_else more o))
 
 -- an `if` with its chained parts and its last else part
-abbrev pub chosen_form : Place → Option Expr → Option Stmt → Option (List Chained) → Option (Option Stmt) → Option Stmt
+abbrev pub chosen_form : Place → Option Expr → Option Stmt → Option (List ElseIfForm) → Option (Option Stmt) → Option Stmt
 chosen_form place condition body others last = from_three (if_with_else place) condition body (from_two chained_else others last)
