@@ -24,3 +24,4 @@ pub mod SourceUnit
 pub mod Uses
 pub mod Refusals
 pub mod NameRules
+pub mod NameExamples

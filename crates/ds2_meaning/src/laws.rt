@@ -2,6 +2,7 @@
 ghost use Rattle.ds2_meaning.specs.BudgetLaws.{NoStatementRaisesTheBudget, LoopsAreTheirTurns};
 ghost use Rattle.ds2_meaning.specs.ExpressionExamples.{IntegerExamples, DecimalExamples, TruthExamples, TextExamples};
 ghost use Rattle.ds2_meaning.specs.FurtherExamples.{NullExamples, ConversionExamples, RoundExamples, CallExamples, ReadingExamples, FaultExamples};
+ghost use Rattle.ds2_meaning.specs.NameExamples.{NameExamples};
 ghost use Rattle.ds2_meaning.specs.ProgramExamples.{UnitExamples, LoadExamples, StageExamples};
 ghost use Rattle.ds2_meaning.specs.StatementExamples.{ChoiceExamples, LoopExamples, OutputExamples, MethodExamples};
 ghost use Rattle.ds2_meaning.specs.TypedExamples.{TypedExamples};
@@ -115,4 +116,9 @@ pub fn fault_examples()
 /// A program that is typed, and programs that are not.
 pub fn typed_examples()
     ensures { TypedExamples }
+{}
+
+/// Small sources and the refusals of their names.
+pub fn name_examples()
+    ensures { NameExamples }
 {}
