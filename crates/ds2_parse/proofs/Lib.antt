@@ -1,0 +1,15 @@
+pub mod GrammarTokenLaws
+pub mod Refine
+pub mod ExpressionLaws
+pub mod StatementLaws
+pub mod StatementPartLaws
+pub mod StatementSumLaws
+pub mod PlainLaws
+pub mod ReadingLaws
+pub mod DeclarationLaws
+pub mod GlobalLaws
+pub mod UnitLaws
+pub mod SteadyLaws
+pub mod SteadyUnitLaws
+pub mod SourceLaws
+pub mod SymbolPromises

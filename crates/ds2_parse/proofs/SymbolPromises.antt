@@ -1,0 +1,113 @@
+-- A function that gives what the rule of a symbol does keeps the promise of the symbol.
+use Rattle.std.proofs.Common.{◌≡◌, ℕ, suc, ◌≤◌, ◌<◌, List, [], ◌∷◌, length, Result, None, refl, sym, ap, ◌∙◌, arith}
+use Rattle.std.proofs.lemmas.List.{append-nil}
+use Rattle.ds2_base.specs.declared.place.Place.{Place}
+use Rattle.ds2_base.specs.declared.place.Refusal.{Refusal}
+use Rattle.ds2_base.specs.declared.stop.Stop.{Stop}
+use Rattle.ds2_token.specs.declared.token.Token.{Token}
+use Rattle.ds2_grammar.specs.declared.kind.ParseKind.{ParseKind}
+use Rattle.ds2_grammar.specs.Parsers.{ParserOutcome, Read, Unexpected, and_then, peek}
+use Rattle.ds2_grammar.specs.Promise.{Gives, Fails, Promises, SaysOfText}
+use Rattle.ds2_grammar.proofs.Goes.{goes}
+use Rattle.ds2_grammar.proofs.Words.{sym as symbol}
+use Rattle.ds2_grammar.proofs.Promised.{promised, said}
+use Rattle.ds2_grammar.proofs.Steps.{fails_on}
+use Rattle.ds2_tree.specs.Expressions.{Expression, expression_spelling, IsExpression, expression_opens}
+use Rattle.ds2_tree.specs.Statements.{Statement, statement_spelling, IsStatement, statement_opens}
+use Rattle.ds2_tree.specs.Globals.{GlobalItem, global_spelling, IsGlobal, global_opens}
+use Rattle.ds2_tree.specs.Units.{SourcePart, part_spelling, IsPart, part_opens}
+use Rattle.ds2_parse.specs.ExpressionGrammar.{expression}
+use Rattle.ds2_parse.specs.StatementGrammar.{statement_rule}
+use Rattle.ds2_parse.specs.GlobalGrammar.{global_rule}
+use Rattle.ds2_parse.specs.UnitGrammar.{part_rule, parts_rule, at_the_end, parse_source}
+use Rattle.ds2_parse.specs.ParseAnswer.{expression_symbol, statement_symbol, global_symbol, part_symbol, source_symbol}
+use Rattle.ds2_parse.proofs.ExpressionLaws.{expression_part, expression_law}
+use Rattle.ds2_parse.proofs.StatementLaws.{statement_part}
+use Rattle.ds2_parse.proofs.StatementSumLaws.{statement_law}
+use Rattle.ds2_parse.proofs.GlobalLaws.{global_part, global_law}
+use Rattle.ds2_parse.proofs.UnitLaws.{source_part, source_part_law}
+use Rattle.ds2_parse.proofs.SteadyLaws.{steady_expression, steady_statement}
+use Rattle.ds2_parse.proofs.SteadyUnitLaws.{steady_global, steady_part}
+use Rattle.ds2_parse.proofs.SourceLaws.{sources_exactly}
+
+-- ---- expressions
+
+expression_levels : (e : Expression) → IsExpression e → (n : ℕ) × ((m : ℕ) → n ≤ m → expression_opens e m ≡ None)
+expression_levels e is = (length (expression_spelling e), λ m le. (expression_law (suc (length (expression_spelling e))) m).enough e is (omega arith) le)
+
+expression_reads : (e : Expression) (k n : ℕ) → IsExpression e → length (expression_spelling e) ≤ k → expression (suc k) n (expression_spelling e) ≡ goes (expression_opens e n) [] (Read e [])
+expression_reads e k n is short = ap (expression (suc k) n) (sym (append-nil (expression_spelling e))) ∙ (expression_law (suc k) n).reads e is (omega (arith, short)) [] (refl, (refl, (refl, (refl, (refl, (refl, (refl, refl)))))))
+
+pub expression_promise : {X : Type 0} (f : X → Expression × List Token) (n : ℕ) (end : Place) (ts : List Token) (r : Result X (Stop (Refusal ParseKind))) → ((m : ℕ) → length ts < m → Gives end f r (expression m n ts)) → Promises expression_symbol n end f ts r
+expression_promise f n end ts r gives =
+    let k = length ts in
+    promised expression_symbol (symbol (expression_part n)).Good n (λ x r g. (g.0, g.1)) (λ k n. expression (suc k) n) expression_levels expression_reads ts end f k r (expression (suc k) n ts)
+    (gives (suc k) (omega arith)) ((expression_law (suc k) n).rule ts) (λ Same i m le low is. (steady_expression (suc k) (suc i) (omega (arith, le)) n m low is).holds ts)
+
+-- ---- statements
+
+statement_levels : (s : Statement) → IsStatement s → (n : ℕ) × ((m : ℕ) → n ≤ m → statement_opens s m ≡ None)
+statement_levels s is = (length (statement_spelling s), λ m le. (statement_law (suc (length (statement_spelling s))) m).enough s is (omega arith) le)
+
+statement_reads : (s : Statement) (k n : ℕ) → IsStatement s → length (statement_spelling s) ≤ k → statement_rule (suc k) n (statement_spelling s) ≡ goes (statement_opens s n) [] (Read s [])
+statement_reads s k n is short = ap (statement_rule (suc k) n) (sym (append-nil (statement_spelling s))) ∙ (statement_law (suc k) n).reads s is (omega (arith, short)) [] (λ _. refl)
+
+pub statement_promise : {X : Type 0} (f : X → Statement × List Token) (n : ℕ) (end : Place) (ts : List Token) (r : Result X (Stop (Refusal ParseKind))) → ((m : ℕ) → length ts < m → Gives end f r (statement_rule m n ts)) → Promises statement_symbol n end f ts r
+statement_promise f n end ts r gives =
+    let k = length ts in
+    promised statement_symbol (symbol (statement_part n)).Good n (λ x r g. (g.0, g.1)) (λ k n. statement_rule (suc k) n) statement_levels statement_reads ts end f k r (statement_rule (suc k) n ts)
+    (gives (suc k) (omega arith)) ((statement_law (suc k) n).rule ts) (λ Same i m le low is. (steady_statement (suc k) (suc i) (omega (arith, le)) n m low is).holds ts)
+
+-- ---- globals
+
+global_levels : (g : GlobalItem) → IsGlobal g → (n : ℕ) × ((m : ℕ) → n ≤ m → global_opens g m ≡ None)
+global_levels g is = (length (global_spelling g), λ m le. (global_law (suc (length (global_spelling g))) m).enough g is (omega arith) le)
+
+global_reads : (g : GlobalItem) (k n : ℕ) → IsGlobal g → length (global_spelling g) ≤ k → global_rule (suc k) n (global_spelling g) ≡ goes (global_opens g n) [] (Read g [])
+global_reads g k n is short = ap (global_rule (suc k) n) (sym (append-nil (global_spelling g))) ∙ (global_law (suc k) n).reads g is (omega (arith, short)) [] tt
+
+pub global_promise : {X : Type 0} (f : X → GlobalItem × List Token) (n : ℕ) (end : Place) (ts : List Token) (r : Result X (Stop (Refusal ParseKind))) → ((m : ℕ) → length ts < m → Gives end f r (global_rule m n ts)) → Promises global_symbol n end f ts r
+global_promise f n end ts r gives =
+    let k = length ts in
+    promised global_symbol (symbol (global_part n)).Good n (λ x r g. (g.0, g.1)) (λ k n. global_rule (suc k) n) global_levels global_reads ts end f k r (global_rule (suc k) n ts)
+    (gives (suc k) (omega arith)) ((global_law (suc k) n).rule ts) (λ Same i m le low is. (steady_global (suc k) (suc i) (omega (arith, le)) n m low is).holds ts)
+
+-- ---- parts of a source
+
+part_levels : (p : SourcePart) → IsPart p → (n : ℕ) × ((m : ℕ) → n ≤ m → part_opens p m ≡ None)
+part_levels p is = (length (part_spelling p), λ m le. (source_part_law (suc (length (part_spelling p))) m).enough p is (omega arith) le)
+
+part_reads : (p : SourcePart) (k n : ℕ) → IsPart p → length (part_spelling p) ≤ k → part_rule (suc k) n (part_spelling p) ≡ goes (part_opens p n) [] (Read p [])
+part_reads p k n is short = ap (part_rule (suc k) n) (sym (append-nil (part_spelling p))) ∙ (source_part_law (suc k) n).reads p is (omega (arith, short)) [] tt
+
+pub part_promise : {X : Type 0} (f : X → SourcePart × List Token) (n : ℕ) (end : Place) (ts : List Token) (r : Result X (Stop (Refusal ParseKind))) → ((m : ℕ) → length ts < m → Gives end f r (part_rule m n ts)) → Promises part_symbol n end f ts r
+part_promise f n end ts r gives =
+    let k = length ts in
+    promised part_symbol (symbol (source_part n)).Good n (λ x r g. (g.0, g.1)) (λ k n. part_rule (suc k) n) part_levels part_reads ts end f k r (part_rule (suc k) n ts)
+    (gives (suc k) (omega arith)) ((source_part_law (suc k) n).rule ts) (λ Same i m le low is. (steady_part (suc k) (suc i) (omega (arith, le)) n m low is).holds ts)
+
+-- ---- sources
+
+-- what `parse` says, where it gives what the rule of sources does
+pub source_said : {X : Type 0} (f : X → List SourcePart) (n : ℕ) (end : Place) (ts : List Token) (r : Result X (Stop (Refusal ParseKind))) → Gives end (λ x. (f x, [])) r (parse_source n ts) → SaysOfText source_symbol n end f ts r
+source_said f n end ts r g = said source_symbol n end f ts r (parse_source n ts) (sources_exactly.answers n ts) g
+
+-- at the end of the text, the parts that were read are the source
+pub source_read : (n : ℕ) (ts : List Token) (s : List SourcePart) (r : List Token) → parts_rule (suc (length ts)) n ts ≡ Read s r → length r ≡ 0 → parse_source n ts ≡ Read s []
+source_read n ts s r h e = ap (λ (o : ParserOutcome (List SourcePart)). and_then o (λ s. peek (at_the_end s))) h ∙ ended r e
+  where
+    ended : (r : List Token) → length r ≡ 0 → peek (at_the_end s) r ≡ Read s []
+    ended [] h = refl
+    ended (t ∷ r) h = absurd (omega (arith, h))
+
+-- before any other token nothing goes on
+pub source_trails : (n : ℕ) (ts : List Token) (s : List SourcePart) (r : List Token) → parts_rule (suc (length ts)) n ts ≡ Read s r → 0 < length r → parse_source n ts ≡ Unexpected r
+source_trails n ts s r h e = ap (λ (o : ParserOutcome (List SourcePart)). and_then o (λ s. peek (at_the_end s))) h ∙ trails r e
+  where
+    trails : (r : List Token) → 0 < length r → peek (at_the_end s) r ≡ Unexpected r
+    trails [] h = absurd (omega (arith, h))
+    trails (t ∷ r) h = refl
+
+-- where a part is refused, so is the source
+pub source_fails : (n : ℕ) (end : Place) (ts : List Token) (e : Stop (Refusal ParseKind)) → Fails end e (parts_rule (suc (length ts)) n ts) → Fails end e (parse_source n ts)
+source_fails n end ts e h = fails_on end e (parts_rule (suc (length ts)) n ts) (λ s. peek (at_the_end s)) h

@@ -1,0 +1,8 @@
+pub mod GrammarTokens
+pub mod ExpressionGrammar
+pub mod StatementGrammar
+pub mod ReadingGrammar
+pub mod GlobalGrammar
+pub mod UnitGrammar
+pub mod ParseAnswer
+pub mod ParseExamples

@@ -1,0 +1,26 @@
+//! Laws of the grammar.
+ghost use Rattle.ds2_parse.specs.ExpressionGrammar.{ExpressionsHaveOneTree};
+ghost use Rattle.ds2_parse.specs.ParseAnswer.{SourcesAreReadExactly};
+ghost use Rattle.ds2_parse.specs.ParseExamples.{SourceExamples};
+ghost use Rattle.ds2_parse.specs.StatementGrammar.{StatementsHaveOneTree};
+
+/// Two expressions of the grammar with one spelling are one.
+pub fn grammar_reads_expressions()
+    ensures { ExpressionsHaveOneTree }
+{}
+
+/// Two statements of the grammar with one spelling are one.
+pub fn grammar_reads_statements()
+    ensures { StatementsHaveOneTree }
+{}
+
+/// Two sources of the grammar with one spelling are one, and of each list of tokens one answer is due: its tree, the first token
+/// with which nothing goes on, or the first that opens a level too many.
+pub fn grammar_reads_sources()
+    ensures { SourcesAreReadExactly }
+{}
+
+/// Some texts, and what is read of them.
+pub fn reading_examples()
+    ensures { SourceExamples }
+{}
