@@ -7,7 +7,8 @@ use Rattle.std.specs.Str.{IsUtf8, IsCharBoundary}
 use Rattle.std.proofs.Math.Seq.{take-suc}
 use Rattle.std.proofs.lemmas.Bool.{eqb-true}
 use Rattle.std.proofs.lemmas.Str.{IsCharBoundary-after_ascii, IsCharBoundary-start}
-use Rattle.ds2_csv.specs.Header.{is_blank, last_place, without_last_blanks}
+use Rattle.ds2_csv_cells.specs.Spelling.{is_blank}
+use Rattle.ds2_csv.specs.Header.{last_place, without_last_blanks}
 
 -- a blank is ASCII
 pub blank-ascii : (c : ℕ) → is_blank c ≡ true → c < 128

@@ -2,8 +2,7 @@
 use Rattle.std.proofs.Common.{drop, get_or, append_assoc, ◌≡◌, ◌≤◌, ◌<◌, ◌+◌, ℕ, zero, suc, Bool, true, false, List, [], ◌∷◌, ◌++◌, length, take, max, refl, sym, ap, ◌∙◌, arith, unwrap_or, slice_get, length-append}
 use Rattle.std.specs.Prelude.{not, nat_lt, cond}
 use Rattle.std.proofs.lemmas.Bool.Decides.{nat_tests}
-use Rattle.ds2_csv.specs.Cells.{is_missing}
-use Rattle.ds2_csv.specs.Columns.{cell_at, cells_of, greatest, given, column_of, columns_from}
+use Rattle.ds2_csv.specs.Columns.{cell_at, cells_of, column_of, columns_from}
 use Rattle.ds2_csv.specs.declared.heading.Heading.{Heading}
 use Rattle.ds2_value.specs.declared.schema.Column.{Column}
 use Rattle.std.proofs.lemmas.List.{append-nil}
@@ -30,28 +29,6 @@ cells-all column [] zero h = refl
 cells-all column [] (suc i) h = refl
 cells-all column (r ∷ rs) zero h = absurd (omega arith)
 cells-all column (r ∷ rs) (suc i) h = ap (λ (t : List (List ℕ)). cell_at column r ∷ t) (cells-all column rs i (omega arith))
-
-pub greatest-more : (number : List ℕ → ℕ) (cells : List (List ℕ)) (cell : List ℕ) → greatest number (cells ++ (cell ∷ [])) ≡ max (greatest number cells) (number cell)
-greatest-more number [] cell = omega arith
-greatest-more number (c ∷ cs) cell = ap (λ n. max (number c) n) (greatest-more number cs cell) ∙ omega arith
-
-pub given-skips : (cells : List (List ℕ)) (cell : List ℕ) → is_missing cell ≡ true → given (cells ++ (cell ∷ [])) ≡ given cells
-given-skips [] cell h = rw h refl
-given-skips (c ∷ cs) cell h = ap (λ (t : List (List ℕ)). cond (not (is_missing c)) (c ∷ t) t) (given-skips cs cell h)
-
-pub given-keeps : (cells : List (List ℕ)) (cell : List ℕ) → is_missing cell ≡ false → given (cells ++ (cell ∷ [])) ≡ given cells ++ (cell ∷ [])
-given-keeps [] cell h = rw h refl
-given-keeps (c ∷ cs) cell h = ap (λ (t : List (List ℕ)). cond (not (is_missing c)) (c ∷ t) t) (given-keeps cs cell h) ∙ by (not (is_missing c))
-  where
-    by : (b : Bool) → cond b (c ∷ (given cs ++ (cell ∷ []))) (given cs ++ (cell ∷ [])) ≡ cond b (c ∷ given cs) (given cs) ++ (cell ∷ [])
-    by true = refl
-    by false = refl
-
-pub some-more : (cells : List (List ℕ)) (cell : List ℕ) → true ≡ nat_lt 0 (length (cells ++ (cell ∷ [])))
-some-more cells cell = by (length (cells ++ (cell ∷ []))) (omega (arith, length-append cells (cell ∷ [])))
-  where
-    by : (n : ℕ) → 0 < n → true ≡ nat_lt 0 n
-    by n h = grind (arith, nat_tests)
 
 -- the items from a place on
 pub drop-item : {X : Type 0} (xs : List X) (i : ℕ) (x : X) → i < length xs → x ≡ get_or xs i x → drop i xs ≡ x ∷ drop (i + 1) xs

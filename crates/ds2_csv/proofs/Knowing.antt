@@ -12,14 +12,14 @@ use Rattle.ds2_csv_records.specs.declared.cell.Cell.{Cell}
 use Rattle.ds2_table.specs.Table.{Contents}
 use Rattle.ds2_value.specs.declared.schema.Column.{Column}
 use Rattle.ds2_csv.specs.Columns.{cell_at, cells_of, columns_from}
-use Rattle.ds2_csv.specs.Inferred.{IsInferred}
+use Rattle.ds2_csv_cells.specs.Inferred.{IsInferred}
 use Rattle.ds2_csv.specs.Known.{AreInferred, AreKnown}
 use Rattle.ds2_csv.specs.Reads.{under_columns}
 use Rattle.ds2_csv.specs.Records.{Rows}
 use Rattle.ds2_csv.specs.Sheet.{Sheet, sheet_of, of_sheet}
 use Rattle.ds2_csv.specs.Typed.{under_headings}
 use Rattle.ds2_csv.specs.declared.heading.Heading.{Heading}
-use Rattle.ds2_csv.specs.declared.inference.Inference.{Inference}
+use Rattle.ds2_csv_cells.specs.declared.inference.Inference.{Inference}
 use Rattle.ds2_csv.specs.declared.refusal.CsvRefusal.{CsvRefusal}
 use Rattle.ds2_csv.proofs.ReadLemmas.{sheet-width}
 use Rattle.ds2_csv.proofs.SchemaLemmas.{columns-count}

@@ -14,12 +14,14 @@ use Rattle.ds2_base.specs.declared.name.BadName.{BadName}
 use Rattle.ds2_value.specs.Types.{in_bounds}
 use Rattle.ds2_value.specs.declared.schema.Column.{Column}
 use Rattle.ds2_value.specs.declared.ty.Ty.{Ty}
-use Rattle.ds2_csv.specs.Header.{is_blank, last_place, without_last_blanks, trimmed_cell, typed_heading, heading_by, plain_heading, heading_of_text, heading_of, type_spelled}
+use Rattle.ds2_csv_cells.specs.CellText.{type_text}
+use Rattle.ds2_csv_cells.specs.Laws.{IsTypeText, ReadsTypes}
+use Rattle.ds2_csv_cells.specs.Spelling.{is_blank, type_spelled}
+use Rattle.ds2_csv.specs.Header.{last_place, without_last_blanks, trimmed_cell, typed_heading, heading_by, plain_heading, heading_of_text, heading_of}
 use Rattle.ds2_csv.proofs.Writable.{IsNamed}
-use Rattle.ds2_csv.specs.Text.{type_text, heading_text}
+use Rattle.ds2_csv.specs.Text.{heading_text}
 use Rattle.ds2_csv.proofs.LawSeq.{last-behind, last-here}
-use Rattle.ds2_csv.proofs.LawTypes.{IsWord, type-word, type-some, spelled}
-use Rattle.ds2_csv.proofs.LawUtf8.{one-text, ascii-text}
+use Rattle.ds2_csv.proofs.LawUtf8.{one-text}
 
 -- a text that is its own name
 record IsOwn (name : List ℕ) : Type 0 where
@@ -106,31 +108,31 @@ keeps-both (c ∷ cs) word h some free =
     ap (λ (t : List ℕ). drop (prefix_len is_blank t) t) same ∙ ap (λ b. drop (if b then 1 + prefix_len is_blank (cs ++ (32 ∷ word)) else 0) cell) (first-plain c cs h)
 
 -- the cell is cut at its last blank, between the name and the type
-cut : (name word : List ℕ) (ty : Ty) → IsOwnName name → IsOwn name → HasName name → IsWord word → 0 < length word → type_spelled word ≡ Some ty → in_bounds ty ≡ true
+cut : (name word : List ℕ) (ty : Ty) → IsOwnName name → IsOwn name → HasName name → IsTypeText word ty → in_bounds ty ≡ true
     → heading_of (name ++ (32 ∷ word)) ≡ Ok (record { name = name; ty = Some ty })
 unfolding heading_of heading_of_text
-cut name word ty same o h w some is bound =
+cut name word ty same o h w bound =
     let cell : List ℕ = name ++ (32 ∷ word) in
     let lower : map to_ascii_lowercase cell ≡ cell = map-append to_ascii_lowercase name (32 ∷ word) ∙ ap (λ (t : List ℕ). t ++ (32 ∷ map to_ascii_lowercase word)) o.lower ∙ ap (λ (t : List ℕ). name ++ (32 ∷ t)) w.lower in
     let behind : drop (length name + 1) cell ≡ word =
     ap (λ (t : List ℕ). drop (length name + 1) t) (sym (append_assoc name (32 ∷ []) word)) ∙ drop_at (name ++ (32 ∷ [])) word (length name + 1) (length-append name (32 ∷ [])) in
     ap (λ (t : List ℕ). heading_of_text (trimmed_cell t)) lower
-    ∙ ap heading_of_text (keeps-both name word h some w.free)
+    ∙ ap heading_of_text (keeps-both name word h w.some w.free)
     ∙ ap (λ (p : Option ℕ). option_map_or (λ i. heading_by cell (name_of (take i cell)) (type_spelled (drop (i + 1) cell))) p (plain_heading (name_of cell))) (last-here is_blank name 32 word refl w.free)
     ∙ ap (λ (t : List ℕ). heading_by cell (name_of t) (type_spelled (drop (length name + 1) cell))) (take_at name (32 ∷ word) (length name) refl)
     ∙ ap (λ (r : Result (List ℕ) BadName). heading_by cell r (type_spelled (drop (length name + 1) cell))) same
     ∙ ap (λ (t : List ℕ). heading_by cell (Ok name) (type_spelled t)) behind
-    ∙ ap (λ (p : Option Ty). heading_by cell (Ok name) p) is
+    ∙ ap (λ (p : Option Ty). heading_by cell (Ok name) p) w.type_is
     ∙ ap (λ b. typed_heading name (if b then Some ty else None)) bound
 
-pub heading-read : (c : Column) → IsNamed c → in_bounds c.ty ≡ true → heading_of (heading_text c) ≡ Ok (record { name = c.name; ty = Some c.ty })
-heading-read c named bound =
+pub heading-read : ReadsTypes → (c : Column) → IsNamed c → in_bounds c.ty ≡ true → heading_of (heading_text c) ≡ Ok (record { name = c.name; ty = Some c.ty })
+heading-read types c named bound =
     let o = own c.name named.0 in
-    cut c.name (type_text c.ty) c.ty named.0 o (has-name c.name o.good) (type-word c.ty bound) (type-some c.ty) (spelled c.ty bound) bound
+    cut c.name (type_text c.ty) c.ty named.0 o (has-name c.name o.good) (types c.ty bound) bound
 
-pub heading-text : (c : Column) → IsNamed c → in_bounds c.ty ≡ true → IsUtf8 (heading_text c)
-heading-text c named bound =
-    IsUtf8-append c.name (32 ∷ type_text c.ty) named.1 (IsUtf8-append (32 ∷ []) (type_text c.ty) (one-text 32 (lit< tt)) (ascii-text (type_text c.ty) (type-word c.ty bound).ascii))
+pub heading-text : ReadsTypes → (c : Column) → IsNamed c → in_bounds c.ty ≡ true → IsUtf8 (heading_text c)
+heading-text types c named bound =
+    IsUtf8-append c.name (32 ∷ type_text c.ty) named.1 (IsUtf8-append (32 ∷ []) (type_text c.ty) (one-text 32 (lit< tt)) (types c.ty bound).utf8)
 
 pub heading-begins : (c : Column) → IsNamed c → Begins (heading_text c)
 heading-begins c named =

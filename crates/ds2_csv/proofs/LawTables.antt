@@ -7,13 +7,13 @@ use Rattle.std.proofs.lemmas.Bool.{and_parts, eq-eqb, le-ltb}
 use Rattle.std.proofs.lemmas.List.{length-map}
 use Rattle.std.proofs.lemmas.Str.{is_utf8-from_IsUtf8}
 use Rattle.csv.specs.Reading.{strip_bom}
-use Rattle.ds2_decimal.specs.Laws.{ReadsWritten as ReadsDecimal}
 use Rattle.ds2_table.specs.Table.{Contents, rows_fit, IsTable}
 use Rattle.ds2_value.specs.Keeping.{IsHeld, FittingIsHeld}
 use Rattle.ds2_value.specs.Schema.{distinct_names, types_in_bounds, row_fits}
 use Rattle.ds2_value.specs.Types.{fits, in_bounds}
 use Rattle.ds2_value.specs.declared.schema.Column.{Column}
 use Rattle.ds2_value.specs.declared.value.Value.{Value}
+use Rattle.ds2_csv_cells.specs.Laws.{CellsAreTexts, ReadsCells, ReadsTypes}
 use Rattle.ds2_csv.specs.Columns.{columns_from}
 use Rattle.ds2_csv.specs.Header.{headings_of}
 use Rattle.ds2_csv.proofs.Writable.{IsNamed, IsWritable}
@@ -26,7 +26,6 @@ use Rattle.ds2_csv.specs.Values.{value_at, values_from, rows_from}
 use Rattle.ds2_csv.specs.declared.heading.Heading.{Heading}
 use Rattle.ds2_csv.specs.declared.refusal.CsvKind.TheVariants.{TooLarge, NotUtf8}
 use Rattle.ds2_csv.specs.declared.refusal.CsvRefusal.{CsvRefusal}
-use Rattle.ds2_csv.proofs.LawCells.{value-read, cell-text}
 use Rattle.ds2_csv.proofs.LawHeading.{heading-begins}
 use Rattle.ds2_csv.proofs.LawHeadings.{heading, headings-read, columns-read, header-text}
 use Rattle.ds2_csv_records.specs.Laws.{HasCell, ReadsRecords}
@@ -43,13 +42,13 @@ row-long [] (v ∷ vs) fit = cc
 row-long (c ∷ cs) [] fit = cc fit
 row-long (c ∷ cs) (v ∷ vs) fit = ap (λ (n : ℕ). suc n) (row-long cs vs (and_parts (fits v c.ty) (row_fits vs cs) fit).1)
 
-row-text : (cs : List Column) (vs : List Value) → AllByRecursion IsHeld vs → AllByRecursion IsUtf8 (cells_text cs vs)
+row-text : CellsAreTexts → (cs : List Column) (vs : List Value) → AllByRecursion IsHeld vs → AllByRecursion IsUtf8 (cells_text cs vs)
 unfolding cells_text
-row-text [] vs held = tt
-row-text (c ∷ cs) [] held = tt
-row-text (c ∷ cs) (v ∷ vs) held = (cell-text c.ty v held.0, row-text cs vs held.1)
+row-text texts [] vs held = tt
+row-text texts (c ∷ cs) [] held = tt
+row-text texts (c ∷ cs) (v ∷ vs) held = (texts c.ty v held.0, row-text texts cs vs held.1)
 
-row-read : ReadsDecimal → (row column : ℕ) (cs : List Column) (vs : List Value) → row_fits vs cs ≡ true → AllByRecursion IsHeld vs
+row-read : ReadsCells → (row column : ℕ) (cs : List Column) (vs : List Value) → row_fits vs cs ≡ true → AllByRecursion IsHeld vs
     → values_from row column cs (cells_text cs vs) ≡ Ok vs
 unfolding values_from cells_text
 row-read law row column [] [] fit held = refl
@@ -57,7 +56,7 @@ row-read law row column [] (v ∷ vs) fit held = cc
 row-read law row column (c ∷ cs) [] fit held = refl
 row-read law row column (c ∷ cs) (v ∷ vs) fit held =
     let f = and_parts (fits v c.ty) (row_fits vs cs) fit in
-    ap (λ (o : Option Value). with_first (value_at row column o) (values_from row (column + 1) cs (cells_text cs vs))) (value-read law c.ty v f.0 held.0)
+    ap (λ (o : Option Value). with_first (value_at row column o) (values_from row (column + 1) cs (cells_text cs vs))) (law c.ty v f.0 held.0)
     ∙ ap (λ (r : Result (List Value) CsvRefusal). with_first (Ok v) r) (row-read law row (column + 1) cs vs f.1 held.1)
 
 -- the same of all rows
@@ -75,11 +74,11 @@ rows-cells cs (vs ∷ rows) some fit =
     let f = and_parts (row_fits vs cs) (rows_fit rows cs) fit in
     (omega (arith, row-long cs vs f.0), rows-cells cs rows some f.1)
 
-rows-texts : (cs : List Column) (rows : List (List Value)) → AllByRecursion (AllByRecursion IsHeld) rows → AllByRecursion (AllByRecursion IsUtf8) (map (cells_text cs) rows)
-rows-texts cs [] held = tt
-rows-texts cs (vs ∷ rows) held = (row-text cs vs held.0, rows-texts cs rows held.1)
+rows-texts : CellsAreTexts → (cs : List Column) (rows : List (List Value)) → AllByRecursion (AllByRecursion IsHeld) rows → AllByRecursion (AllByRecursion IsUtf8) (map (cells_text cs) rows)
+rows-texts texts cs [] held = tt
+rows-texts texts cs (vs ∷ rows) held = (row-text texts cs vs held.0, rows-texts texts cs rows held.1)
 
-rows-read : ReadsDecimal → (cs : List Column) (row : ℕ) (rows : List (List Value)) → rows_fit rows cs ≡ true → AllByRecursion (AllByRecursion IsHeld) rows
+rows-read : ReadsCells → (cs : List Column) (row : ℕ) (rows : List (List Value)) → rows_fit rows cs ≡ true → AllByRecursion (AllByRecursion IsHeld) rows
     → rows_from cs row (map (cells_text cs) rows) ≡ Ok rows
 unfolding rows_from
 rows-read law cs row [] fit held = refl
@@ -91,7 +90,7 @@ rows-read law cs row (vs ∷ rows) fit held =
 -- ---- records
 
 -- the table of even rows under the headings of its columns
-even-read : ReadsDecimal → (cs : List Column) (rows : List (List Value)) → rows_fit rows cs ≡ true → AllByRecursion (AllByRecursion IsHeld) rows
+even-read : ReadsCells → (cs : List Column) (rows : List (List Value)) → rows_fit rows cs ≡ true → AllByRecursion (AllByRecursion IsHeld) rows
     → length rows * length cs ≤ MOST_CELLS → of_even_rows (map heading cs) (map (cells_text cs) rows) ≡ Ok (record { columns = cs; rows = rows })
 unfolding of_even_rows
 even-read law cs rows fit held few =
@@ -102,15 +101,15 @@ even-read law cs rows fit held few =
     ∙ ap (λ (columns : List Column). under_columns columns cells) (columns-read 0 cs cells)
     ∙ ap (λ (r : Result (List (List Value)) CsvRefusal). table_of cs r) (rows-read law cs 1 rows fit held)
 
-records-read : ReadsDecimal → (t : Contents) → IsWritable t → of_records (map heading_text t.columns ∷ map (cells_text t.columns) t.rows) ≡ Ok t
+records-read : ReadsCells → ReadsTypes → (t : Contents) → IsWritable t → of_records (map heading_text t.columns ∷ map (cells_text t.columns) t.rows) ≡ Ok t
 unfolding of_records
-records-read law t w =
+records-read law types t w =
     let cs : List Column = t.columns in
     let cells : Rows = map (cells_text cs) t.rows in
     let s = and_parts (distinct_names cs) (types_in_bounds cs) w.schema in
     let few : nat_lt MOST_COLUMNS (length (map heading_text cs)) ≡ false = ap (λ n. nat_lt MOST_COLUMNS n) (length-map cs heading_text) ∙ le-ltb MOST_COLUMNS (length cs) w.few_columns in
     ap (λ b. if b then Err (of_file TooLarge) else under_header (headings_of (map heading_text cs)) cells) few
-    ∙ ap (λ (r : Result (List Heading) CsvRefusal). under_header r cells) (headings-read cs w.names s.1 s.0)
+    ∙ ap (λ (r : Result (List Heading) CsvRefusal). under_header r cells) (headings-read types cs w.names s.1 s.0)
     ∙ ap (λ n. of_rows (odd_from n 1 cells) (map heading cs) cells) (length-map cs heading)
     ∙ ap (λ (o : Option ℕ). of_rows o (map heading cs) cells) (rows-even cs 1 t.rows w.rows)
     ∙ even-read law cs t.rows w.rows w.values w.few_cells
@@ -123,20 +122,20 @@ plain-start (c ∷ cs) rows some named =
     let b = heading-begins c named.0 in
     no-mark b.first (heading_text c) b.more (map heading_text cs) rows b.text_is b.no_mark
 
-pub tables-read : ReadsDecimal → ReadsRecords → (t : Contents) → IsWritable t → reads (text t) ≡ Ok t
+pub tables-read : ReadsCells → CellsAreTexts → ReadsTypes → ReadsRecords → (t : Contents) → IsWritable t → reads (text t) ≡ Ok t
 unfolding reads text
-tables-read law records_law t w =
+tables-read law texts types records_law t w =
     let cs : List Column = t.columns in
     let records : Rows = map heading_text cs ∷ map (cells_text cs) t.rows in
     let s = and_parts (distinct_names cs) (types_in_bounds cs) w.schema in
     let some : HasCell (map heading_text cs) = let e = length-map cs heading_text in let f = w.some_column in omega arith in
     let full : AllByRecursion HasCell records = (some, rows-cells cs t.rows w.some_column w.rows) in
-    let utf8 : AllByRecursion (AllByRecursion IsUtf8) records = (header-text cs w.names s.1, rows-texts cs t.rows w.values) in
+    let utf8 : AllByRecursion (AllByRecursion IsUtf8) records = (header-text types cs w.names s.1, rows-texts texts cs t.rows w.values) in
     let bytes : List ℕ = text_of_rows records in
     ap (λ b. if b then Err (of_file TooLarge) else if not (is_utf8 bytes) then Err (of_file NotUtf8) else of_records (records_of bytes)) (le-ltb MOST_BYTES (length bytes) w.few_bytes)
     ∙ ap (λ b. if not b then Err (of_file NotUtf8) else of_records (records_of bytes)) (is_utf8-from_IsUtf8 bytes (rows-text records utf8))
     ∙ ap of_records (records_law records (record { full = full; plain = plain-start cs (map (cells_text cs) t.rows) w.some_column w.names }))
-    ∙ records-read law t w
+    ∙ records-read law types t w
 
 -- ---- a table as it is held
 

@@ -1,9 +1,9 @@
 -- The text of rows of texts is a text, and begins with no byte order mark.
 use Rattle.std.proofs.Common.{◌≡◌, ◌≢◌, ◌<◌, ◌≤◌, ◌==◌, ◌∷◌, ◌++◌, [], ℕ, suc, List, Bool, true, false, length, get_or, refl, sym, ap, ◌∙◌, arith, IsUtf8, inl, inr, append_assoc, lit<}
-use Rattle.std.specs.Prelude.{if◌then◌else◌, ◌&&◌, nat_lt}
-use Rattle.std.specs.List.{AllByRecursion, list_all}
+use Rattle.std.specs.Prelude.{if◌then◌else◌, ◌&&◌}
+use Rattle.std.specs.List.{AllByRecursion}
 use Rattle.std.proofs.Math.Utf8.{scalar, scalars, encode, encodes, low_scalar}
-use Rattle.std.proofs.lemmas.Bool.{ne_eqb, cases_lt, eqb-true, ltb-true, and_parts}
+use Rattle.std.proofs.lemmas.Bool.{ne_eqb, cases_lt, eqb-true, and_parts}
 use Rattle.std.proofs.lemmas.List.{append-nil}
 use Rattle.std.proofs.lemmas.Str.{IsUtf8-append, IsUtf8-nil, IsUtf8-encode, encode_ascii, inside_one, encode_same}
 use Rattle.csv.specs.Reading.{strip_bom, is_bom}
@@ -27,12 +27,6 @@ char-high c h = high-list (encode c) (λ k below. elim (cases_lt (get_or (encode
 
 pub one-text : (c : ℕ) → c < 128 → IsUtf8 (c ∷ [])
 one-text c h = rw (← (encode_ascii c h)) (IsUtf8-encode c (low_scalar c (omega arith)))
-
-pub ascii-text : (bs : List ℕ) → list_all (λ c. nat_lt c 128) bs ≡ true → IsUtf8 bs
-ascii-text [] e = IsUtf8-nil
-ascii-text (b ∷ bs) e =
-    let p = and_parts (nat_lt b 128) (list_all (λ c. nat_lt c 128) bs) e in
-    IsUtf8-append (b ∷ []) bs (one-text b (ltb-true b 128 p.0)) (ascii-text bs p.1)
 
 -- a text with its quotes doubled
 high-same : (bs : List ℕ) → AllHigh bs → escaped default_writer bs ≡ bs

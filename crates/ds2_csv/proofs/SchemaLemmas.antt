@@ -15,8 +15,10 @@ use Rattle.ds2_value.specs.Types.{in_bounds, is_from_one}
 use Rattle.ds2_value.specs.declared.schema.Column.{Column}
 use Rattle.ds2_value.specs.declared.ty.Ty.{Ty}
 use Rattle.ds2_value.specs.declared.ty.Ty.TheVariants.{BigInt, Decimal as DecimalOf, Varchar}
-use Rattle.ds2_csv.specs.Columns.{cells_of, greatest, digits_after, precision_of, width_of, some_and_all, given, are_integers, decimals_of, type_of_cells, columns_from}
-use Rattle.ds2_csv.specs.Header.{is_blank, last_place, type_spelled, plain_heading, typed_heading, heading_by, heading_of_text, heading_of, is_taken, distinct_heading, and_headings, headings_after, headings_of}
+use Rattle.ds2_csv_cells.specs.ColumnTypes.{greatest, digits_after, precision_of, width_of, some_and_all, given, are_integers, decimals_of, type_of_cells}
+use Rattle.ds2_csv_cells.specs.Spelling.{is_blank, type_spelled}
+use Rattle.ds2_csv.specs.Columns.{cells_of, columns_from}
+use Rattle.ds2_csv.specs.Header.{last_place, plain_heading, typed_heading, heading_by, heading_of_text, heading_of, is_taken, distinct_heading, and_headings, headings_after, headings_of}
 use Rattle.ds2_csv.specs.Records.{Rows}
 use Rattle.ds2_csv.specs.Refusals.{of_column}
 use Rattle.ds2_csv.specs.Typed.{are_typed}

@@ -6,8 +6,8 @@ use Rattle.ds2_value.specs.Schema.{types_in_bounds, row_fits}
 use Rattle.ds2_value.specs.Types.{in_bounds, fits}
 use Rattle.ds2_value.specs.declared.schema.Column.{Column}
 use Rattle.ds2_value.specs.declared.value.Value.{Value}
-use Rattle.ds2_csv.specs.Added.{IsAdded}
-use Rattle.ds2_csv.specs.Cells.{value_of}
+use Rattle.ds2_csv_cells.specs.Added.{IsAdded}
+use Rattle.ds2_csv_cells.specs.Cells.{value_of}
 use Rattle.ds2_csv.specs.Columns.{cell_at}
 use Rattle.ds2_csv.specs.Refusals.{of_cell, with_first}
 use Rattle.ds2_csv.specs.Values.{value_at, values_from, rows_from}

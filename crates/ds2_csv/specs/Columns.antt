@@ -1,81 +1,21 @@
--- Columns: the types of columns whose header cells tell none, out of all their cells.
-use Rattle.std.specs.Prelude.{ℕ, ◌+◌, Bool, not, ◌&&◌, ◌==◌, nat_lt, nat_le, max, min, List, [], ◌∷◌, length, map, drop, filter, Option, Some, None, slice_get, slice_index, unwrap_or, if◌then◌else◌}
-use Rattle.std.specs.List.{list_all, before_first, after_first}
-use Rattle.std.specs.Option.{is_some, option_map_or}
-use Rattle.ds2_base.specs.Characters.{char_count}
-use Rattle.ds2_decimal.specs.Text.{read, is_point}
+-- Columns: the columns of a header, with the types that their cells have where it tells none.
+use Rattle.std.specs.Prelude.{ℕ, ◌+◌, List, [], ◌∷◌, map, slice_get, unwrap_or}
+use Rattle.ds2_base.specs.Bytes.{Bytes}
 use Rattle.ds2_value.specs.declared.schema.Column.{Column}
-use Rattle.ds2_value.specs.declared.ty.Ty.{Ty}
-use Rattle.ds2_value.specs.declared.ty.Ty.TheVariants.{BigInt, Decimal as DecimalOf, Varchar}
-use Rattle.ds2_csv.specs.Cells.{is_missing, decoded}
-use Rattle.ds2_csv.specs.Number.{integer_of}
+use Rattle.ds2_csv_cells.specs.ColumnTypes.{type_of_cells}
 use Rattle.ds2_csv.specs.Records.{Rows}
 use Rattle.ds2_csv.specs.declared.heading.Heading.{Heading}
 
 -- the cell of a row in a column, which counts from 0
-abbrev pub cell_at : ℕ → List (List ℕ) → List ℕ
+abbrev pub cell_at : ℕ → List Bytes → Bytes
 cell_at column row = unwrap_or (slice_get row column) []
 
 -- the cells of a column
-abbrev pub cells_of : ℕ → Rows → List (List ℕ)
+abbrev pub cells_of : ℕ → Rows → List Bytes
 cells_of column rows = map (cell_at column) rows
 
--- the greatest of the numbers that a rule gives for cells; 0 where there is no cell
-abbrev pub greatest : (List ℕ → ℕ) → List (List ℕ) → ℕ
-greatest number [] = 0
-greatest number (cell ∷ cells) = max (number cell) (greatest number cells)
-
--- a number's text without its sign
-abbrev pub without_sign : List ℕ → List ℕ
-without_sign text = if slice_index text 0 == 45 then drop 1 text else text
-
--- how many digits a whole number has, where `0` has none
-abbrev pub whole_digits : List ℕ → ℕ
-whole_digits whole = if slice_index whole 0 == 48 then 0 else length whole
-
--- how many digits stand before the point of a number's text, where `0` counts none
-abbrev pub digits_before : List ℕ → ℕ
-digits_before text = whole_digits (before_first is_point (without_sign text))
-
--- how many digits stand after the point of a number's text
-abbrev pub digits_after : List ℕ → ℕ
-digits_after text = length (after_first is_point (without_sign text))
-
--- the digits of the decimals that take these cells, at least one
-abbrev pub precision_of : List (List ℕ) → ℕ
-precision_of cells = max 1 (greatest digits_before cells + greatest digits_after cells)
-
--- the number of characters of a cell's text; none where it is null
-abbrev pub text_size : List ℕ → ℕ
-text_size cell = option_map_or char_count (decoded cell) 0
-
--- the characters of the texts that take these cells, at least one and at most 1,024: a longer text is refused at its cell
-abbrev pub width_of : List (List ℕ) → ℕ
-width_of cells = max 1 (min 1024 (greatest text_size cells))
-
--- there is a cell, and each cell passes
-abbrev pub some_and_all : (List ℕ → Bool) → List (List ℕ) → Bool
-some_and_all test cells = nat_lt 0 (length cells) && list_all test cells
-
--- the cells that are not null in a number column
-abbrev pub given : List (List ℕ) → List (List ℕ)
-given cells = filter (λ cell. not (is_missing cell)) cells
-
--- there is such a cell, and each one is an integer
-abbrev pub are_integers : List (List ℕ) → Bool
-are_integers cells = some_and_all (λ cell. is_some (integer_of cell)) cells
-
--- the decimals that take such cells, where there is one, each one is a decimal, and 38 digits take them all
-abbrev pub decimals_of : List (List ℕ) → Option Ty
-decimals_of cells =
-    if some_and_all (λ cell. is_some (read cell)) cells && nat_le (precision_of cells) 38 then Some (DecimalOf (precision_of cells) (greatest digits_after cells)) else None
-
--- the type out of all cells of a column: BIGINT, else DECIMAL, else VARCHAR
-unfoldable pub type_of_cells : List (List ℕ) → Ty
-type_of_cells cells = if are_integers (given cells) then BigInt else unwrap_or (decimals_of (given cells)) (Varchar (width_of cells))
-
 -- the column of a heading over its cells
-abbrev pub column_of : Heading → List (List ℕ) → Column
+abbrev pub column_of : Heading → List Bytes → Column
 column_of heading cells = record { name = heading.name; ty = unwrap_or heading.ty (type_of_cells cells) }
 
 -- the columns of headings over rows, the first of which is this column

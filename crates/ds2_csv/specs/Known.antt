@@ -3,10 +3,10 @@ use Rattle.std.specs.Prelude.{ℕ, ◌≡◌, List, length, Some, slice_get, Res
 use Rattle.ds2_base.specs.declared.stop.Stop.{Stop}
 use Rattle.ds2_base.specs.declared.stop.Stop.TheVariants.{Refused, OutOfMemory}
 use Rattle.ds2_csv.specs.Columns.{cells_of}
-use Rattle.ds2_csv.specs.Inferred.{IsInferred}
+use Rattle.ds2_csv_cells.specs.Inferred.{IsInferred}
 use Rattle.ds2_csv.specs.Records.{Rows}
 use Rattle.ds2_csv.specs.Sheet.{Sheet}
-use Rattle.ds2_csv.specs.declared.inference.Inference.{Inference}
+use Rattle.ds2_csv_cells.specs.declared.inference.Inference.{Inference}
 use Rattle.ds2_csv.specs.declared.refusal.CsvRefusal.{CsvRefusal}
 
 -- of each column what its cells in these rows tell

@@ -1,17 +1,12 @@
-pub mod Added
-pub mod Cells
 pub mod Columns
 pub mod Header
-pub mod Inferred
 pub mod Known
 pub mod Law
 pub mod NextRow
-pub mod Number
 pub mod Reads
 pub mod Records
 pub mod Refusals
 pub mod Sheet
-pub mod Short
 pub mod Text
 pub mod Typed
 pub mod Values

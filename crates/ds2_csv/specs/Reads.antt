@@ -1,9 +1,10 @@
 -- Reads: the table that bytes spell, or the first reason why there is none.
 use Rattle.std.specs.Prelude.{ℕ, ◌*◌, not, nat_lt, List, [], ◌∷◌, length, Option, Some, None, Result, Ok, Err, if◌then◌else◌}
 use Rattle.std.specs.Str.{is_utf8}
+use Rattle.ds2_base.specs.Bytes.{Bytes}
+use Rattle.ds2_value.specs.Row.{Row}
 use Rattle.ds2_table.specs.Table.{Contents}
 use Rattle.ds2_value.specs.declared.schema.Column.{Column}
-use Rattle.ds2_value.specs.declared.value.Value.{Value}
 use Rattle.ds2_csv.specs.Columns.{columns_from}
 use Rattle.ds2_csv.specs.Header.{headings_of}
 use Rattle.ds2_csv.specs.Records.{Rows, records_of, odd_from}
@@ -15,7 +16,7 @@ use Rattle.ds2_csv.specs.declared.refusal.CsvKind.TheVariants.{TooLarge, NotUtf8
 use Rattle.ds2_csv.specs.declared.refusal.CsvRefusal.{CsvRefusal}
 
 -- the table of these columns and rows
-abbrev pub table_of : List Column → Result (List (List Value)) CsvRefusal → Result Contents CsvRefusal
+abbrev pub table_of : List Column → Result (List Row) CsvRefusal → Result Contents CsvRefusal
 table_of columns (Err refusal) = Err refusal
 table_of columns (Ok rows) = Ok (record { columns = columns; rows = rows })
 
@@ -44,7 +45,7 @@ of_records [] = Err (of_file NoHeader)
 of_records (header ∷ rows) = if nat_lt MOST_COLUMNS (length header) then Err (of_file TooLarge) else under_header (headings_of header) rows
 
 -- the table that bytes spell: at most `MOST_BYTES` of them, which are UTF-8
-unfoldable pub reads : List ℕ → Result Contents CsvRefusal
+unfoldable pub reads : Bytes → Result Contents CsvRefusal
 reads bytes =
     if nat_lt MOST_BYTES (length bytes) then Err (of_file TooLarge)
     else if not (is_utf8 bytes) then Err (of_file NotUtf8)

@@ -2,8 +2,9 @@
 use Rattle.std.specs.Prelude.{ℕ, Bool, List, length, Option, Some, None, Result, Ok, Err}
 use Rattle.std.specs.List.{list_all}
 use Rattle.std.specs.Option.{is_some}
+use Rattle.ds2_base.specs.Bytes.{Bytes}
+use Rattle.ds2_value.specs.Row.{Row}
 use Rattle.ds2_table.specs.Table.{Contents, with_row}
-use Rattle.ds2_value.specs.declared.value.Value.{Value}
 use Rattle.ds2_csv.specs.Columns.{columns_from}
 use Rattle.ds2_csv.specs.Reads.{under_columns}
 use Rattle.ds2_csv.specs.Records.{Rows}
@@ -31,11 +32,11 @@ abbrev pub so_far : Typed → Result Contents CsvRefusal
 so_far typed = so_far_by typed.bad typed.table
 
 -- the table with one more row, where the row has values
-abbrev pub with_values : Contents → Result (List Value) CsvRefusal → Result Contents CsvRefusal
+abbrev pub with_values : Contents → Result Row CsvRefusal → Result Contents CsvRefusal
 with_values table (Err refusal) = Err refusal
 with_values table (Ok values) = Ok (with_row table values)
 
 -- the table with one more row of cells, which has this number
-abbrev pub and_row : ℕ → List (List ℕ) → Result Contents CsvRefusal → Result Contents CsvRefusal
+abbrev pub and_row : ℕ → List Bytes → Result Contents CsvRefusal → Result Contents CsvRefusal
 and_row number cells (Err refusal) = Err refusal
 and_row number cells (Ok table) = with_values table (values_from number 1 table.columns cells)

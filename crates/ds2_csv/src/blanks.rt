@@ -1,7 +1,8 @@
 //! Blanks of a header cell.
 ghost use Rattle.std.specs.Prelude.{◌≡◌, ◌-◌, ◌<◌, ◌≤◌, length, take, slice_index, IfSome};
 ghost use Rattle.std.specs.List.{prefix_len};
-ghost use Rattle.ds2_csv.specs.Header.{is_blank, last_place, without_last_blanks, trimmed_cell};
+ghost use Rattle.ds2_csv_cells.specs.Spelling.{is_blank};
+ghost use Rattle.ds2_csv.specs.Header.{last_place, without_last_blanks, trimmed_cell};
 
 fn is_blank(c: u8) -> bool
     ensures { result ≡ is_blank c }

@@ -2,19 +2,20 @@
 ghost use Rattle.std.specs.Prelude.{◌≡◌, ◌∷◌, ◌++◌, ℕ, [], true, length, map, unwrap_or, List as Items, IfOk, OnOk};
 ghost use Rattle.ds2_csv_records.specs.Cells.{spelled, unquoted};
 ghost use Rattle.ds2_csv_records.specs.Reading.{records_left};
-ghost use Rattle.ds2_csv.specs.Columns.{type_of_cells, columns_from};
-ghost use Rattle.ds2_csv.specs.Inferred.{IsInferred};
+ghost use Rattle.ds2_csv_cells.specs.ColumnTypes.{type_of_cells};
+ghost use Rattle.ds2_csv.specs.Columns.{columns_from};
+ghost use Rattle.ds2_csv_cells.specs.Inferred.{IsInferred};
 ghost use Rattle.ds2_csv.specs.Known.{AreInferred, AreKnown};
 ghost use Rattle.ds2_csv.specs.Records.{Rows};
 ghost use Rattle.ds2_csv.specs.Sheet.{sheet_of};
 
 use crate::heading::Heading;
-use crate::inference::Inference;
 use crate::items::item;
 use crate::records::{Next, RowReader, is_large};
 use crate::refusal::{of_file, of_row};
 use crate::{CsvKind, CsvRefusal};
 use ds2_base::{List, OutOfMemory, Stop};
+use ds2_csv_cells::Inference;
 use ds2_csv_records::{Cell, unquoted};
 use ds2_value::{Column, Ty};
 use std::alloc::Global;

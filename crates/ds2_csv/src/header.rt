@@ -10,9 +10,9 @@ ghost use Rattle.ds2_csv.specs.Header.{plain_heading, heading_of_text, heading_o
 use crate::blanks::{last_blank, without_blanks};
 use crate::heading::Heading;
 use crate::items::item;
-use crate::spelling::type_spelled;
 use crate::{CsvKind, CsvRefusal};
 use ds2_base::{BadName, List, Name, Stop};
+use ds2_csv_cells::type_spelled;
 use ds2_csv_records::{Cell, unquoted};
 use std::alloc::Global;
 

@@ -11,20 +11,15 @@
 #![tactic(auto)]
 
 mod blanks;
-mod cell;
 mod column;
-mod decimal;
 mod header;
 mod heading;
-mod inference;
 mod items;
 pub mod laws;
 mod limits;
-mod number;
 mod read;
 mod records;
 mod refusal;
-mod spelling;
 #[cfg(test)]
 mod tests;
 mod typed;

@@ -6,10 +6,10 @@ ghost use Rattle.ds2_csv.specs.declared.limits.TheConstants.{MOST_COLUMNS};
 ghost use Rattle.ds2_csv.specs.Values.{values_from};
 ghost use Rattle.ds2_value.specs.Schema.{types_in_bounds, row_fits};
 
-use crate::cell::add_cell;
 use crate::items::item;
 use crate::{CsvKind, CsvRefusal};
 use ds2_base::{List, Stop};
+use ds2_csv_cells::read_cell;
 use ds2_csv_records::Cell;
 use ds2_value::{Column, Row};
 use std::alloc::Global;
@@ -30,7 +30,7 @@ pub fn row_values(
     let mut values = List::of(Vec::with_capacity(alloc, columns.len())?);
     'cells: for (i, column) in columns.iter().enumerate() {
         let cell = item(cells, i);
-        if !add_cell(alloc, &mut values, column.ty, cell)? {
+        if !read_cell(alloc, &mut values, column.ty, cell)? {
             return Err(Stop::Refused(CsvRefusal {
                 kind: CsvKind::BadCell,
                 row: number,

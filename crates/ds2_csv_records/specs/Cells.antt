@@ -1,6 +1,7 @@
 -- Cells: a cell as it stands in a text, and what it spells.
-use Rattle.std.specs.Prelude.{ℕ, suc, Bool, true, false, not, ◌==◌, ◌||◌, List, [], ◌∷◌, if◌then◌else◌}
+use Rattle.std.specs.Prelude.{ℕ, suc, Bool, true, false, not, ◌==◌, ◌||◌, [], ◌∷◌, if◌then◌else◌}
 use Rattle.std.specs.List.{prefix_len}
+use Rattle.ds2_base.specs.Bytes.{Bytes}
 use Rattle.csv.specs.Reading.{is_bom}
 use Rattle.ds2_csv_records.specs.declared.cell.Cell.{Cell}
 use Rattle.ds2_csv_records.specs.declared.cell.Cell.TheVariants.{Plain, Quoted}
@@ -14,49 +15,49 @@ abbrev pub ends_cell : ℕ → Bool
 ends_cell c = (c == 44) || ends_line c
 
 -- how many bytes stand before the end of a cell without quotes
-abbrev pub bare_len : List ℕ → ℕ
+abbrev pub bare_len : Bytes → ℕ
 bare_len text = prefix_len (λ c. not (ends_cell c)) text
 
 -- a text that begins with a byte order mark
-abbrev pub begins_mark : List ℕ → Bool
+abbrev pub begins_mark : Bytes → Bool
 begins_mark [] = false
 begins_mark (a ∷ []) = false
 begins_mark (a ∷ b ∷ []) = false
 begins_mark (a ∷ b ∷ c ∷ cs) = is_bom a b c
 
 -- how many bytes stand before the first quote
-abbrev pub to_quote : List ℕ → ℕ
+abbrev pub to_quote : Bytes → ℕ
 to_quote text = prefix_len (λ c. not (c == 34)) text
 
 -- a text that begins with a quote
-abbrev pub begins_quoted : List ℕ → Bool
+abbrev pub begins_quoted : Bytes → Bool
 begins_quoted [] = false
 begins_quoted (c ∷ cs) = c == 34
 
 -- a text that begins with a comma
-abbrev pub begins_comma : List ℕ → Bool
+abbrev pub begins_comma : Bytes → Bool
 begins_comma [] = false
 begins_comma (c ∷ cs) = c == 44
 
 -- a text that begins with the end of a cell, or has ended
-abbrev pub begins_end : List ℕ → Bool
+abbrev pub begins_end : Bytes → Bool
 begins_end [] = true
 begins_end (c ∷ cs) = ends_cell c
 
 -- what a cell with quotes spells, from within the quotes or from behind a quote that may close them: a quote that is doubled
 -- stands for one, and what follows the closing quote belongs to the cell as it stands
-unfoldable pub unquoted : Bool → List ℕ → List ℕ
+unfoldable pub unquoted : Bool → Bytes → Bytes
 unquoted within [] = []
 unquoted true (c ∷ cs) = if c == 34 then unquoted false cs else c ∷ unquoted true cs
 unquoted false (c ∷ cs) = if c == 34 then 34 ∷ unquoted true cs else c ∷ cs
 
 -- how many bytes such a cell has in the text
-unfoldable pub quoted_len : Bool → List ℕ → ℕ
+unfoldable pub quoted_len : Bool → Bytes → ℕ
 quoted_len within [] = 0
 quoted_len true (c ∷ cs) = suc (quoted_len (not (c == 34)) cs)
 quoted_len false (c ∷ cs) = if c == 34 then suc (quoted_len true cs) else bare_len (c ∷ cs)
 
 -- what a cell spells
-abbrev pub spelled : Cell → List ℕ
+abbrev pub spelled : Cell → Bytes
 spelled (Plain text) = text.now
 spelled (Quoted text) = unquoted true text.now

@@ -1,12 +1,13 @@
 -- Laws: the text of rows is read as the rows, and is UTF-8 where each cell is.
-use Rattle.std.specs.Prelude.{ℕ, ◌≡◌, ◌≢◌, ◌<◌, ◌∷◌, ◌++◌, List, length}
+use Rattle.std.specs.Prelude.{◌≡◌, ◌≢◌, ◌<◌, ◌∷◌, ◌++◌, List, length}
 use Rattle.std.specs.List.{AllByRecursion}
 use Rattle.std.specs.Str.{IsUtf8}
+use Rattle.ds2_base.specs.Bytes.{Bytes}
 use Rattle.csv.specs.Reading.{strip_bom}
 use Rattle.ds2_csv_records.specs.Records.{Rows, records_of, text_of_rows}
 
 -- a row with at least one cell
-abbrev pub HasCell : List (List ℕ) → Type 0
+abbrev pub HasCell : List Bytes → Type 0
 HasCell row = 0 < length row
 
 -- rows of texts that are read again

@@ -1,6 +1,7 @@
 -- Reading: the records of a text, one after the other, and the cells of a record.
 use Rattle.std.specs.Prelude.{ℕ, ◌≡◌, ◌+◌, ◌<◌, Bool, true, false, List, [], ◌∷◌, ◌++◌, length, map, take, Option, Some, None, option_map, if◌then◌else◌}
 use Rattle.std.specs.Borrow.{Bor}
+use Rattle.ds2_base.specs.Bytes.{Bytes}
 use Rattle.csv.specs.Machine.{Read, next_record}
 use Rattle.csv.specs.Reading.{default_config, records_from}
 use Rattle.csv.specs.declared.parser.State.{State}
@@ -11,36 +12,36 @@ use Rattle.ds2_csv_records.specs.declared.read.Record.{Record}
 use Rattle.ds2_csv_records.specs.declared.taken.Taken.{Taken}
 
 -- the records of a text that stands between two records
-unfoldable pub records_left : List ℕ → Rows
+unfoldable pub records_left : Bytes → Rows
 records_left text = records_from default_config (length text + 1) st.StartRecord text
 
 -- the cells of a record and the text after it
 abbrev pub Finished : Type 0
-Finished = List (List ℕ) × List ℕ
+Finished = List Bytes × Bytes
 
 -- a record without the state after it
 abbrev pub finished : Read → Finished
 finished p = (p.0, p.2)
 
 -- the rest of a record behind these cells and this part of a cell, read on from a state
-unfoldable pub rest_of : State → List (List ℕ) → List ℕ → List ℕ → Option Finished
+unfoldable pub rest_of : State → List Bytes → Bytes → Bytes → Option Finished
 rest_of state cells part text = option_map finished (next_record default_config state cells part text)
 
 -- the rest of a record behind these cells and a cell that was taken
-abbrev pub rest_behind : List (List ℕ) → Taken → Option Finished
+abbrev pub rest_behind : List Bytes → Taken → Option Finished
 rest_behind cells taken =
     if taken.more then rest_of st.StartField (cells ++ spelled taken.cell ∷ []) [] taken.rest.now else Some (cells ++ spelled taken.cell ∷ [], taken.rest.now)
 
 -- a cell was taken from the start of a text
-abbrev pub IsTaken : List ℕ → Taken → Type 0
-IsTaken text taken = (cells : List (List ℕ)) → rest_of st.StartField cells [] text ≡ rest_behind cells taken
+abbrev pub IsTaken : Bytes → Taken → Type 0
+IsTaken text taken = (cells : List Bytes) → rest_of st.StartField cells [] text ≡ rest_behind cells taken
 
 -- a record holds the first of these cells, as many as are kept at most, and counts them all
-pub record Holds (record_now : Record) (most : ℕ) (cells : List (List ℕ)) : Type 0 where
+pub record Holds (record_now : Record) (most : ℕ) (cells : List Bytes) : Type 0 where
   pub kept : map spelled record_now.cells ≡ take most cells
   pub count : record_now.count ≡ length cells
 
 -- what a text has next: a record, of which so many cells at most are kept, and the text behind it; or no record
-abbrev pub IsNext : Option (Bor (List ℕ)) → Record → ℕ → List ℕ → Type 0
+abbrev pub IsNext : Option (Bor Bytes) → Record → ℕ → Bytes → Type 0
 IsNext None row most text = records_left text ≡ []
-IsNext (Some rest) row most text = (cells : List (List ℕ)) × (records_left text ≡ cells ∷ records_left rest.now) × Holds row most cells
+IsNext (Some rest) row most text = (cells : List Bytes) × (records_left text ≡ cells ∷ records_left rest.now) × Holds row most cells

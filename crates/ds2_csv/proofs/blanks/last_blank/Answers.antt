@@ -1,6 +1,7 @@
 use Rattle.std.proofs.Common.{◌≡◌, ◌<◌, Some, length, take, ap, sym, ◌∙◌, add-one}
 use Rattle.std.specs.Prelude.{if◌then◌else◌}
-use Rattle.ds2_csv.specs.Header.{is_blank, last_place}
+use Rattle.ds2_csv_cells.specs.Spelling.{is_blank}
+use Rattle.ds2_csv.specs.Header.{last_place}
 use Rattle.ds2_csv.proofs.BlankLemmas.{last-bounds, last-took, take-whole}
 use Rattle.ds2_csv.proofs.blanks.last_blank.Goals as goal
 use Rattle.ds2_csv.proofs.blanks.last_blank.Goals.{then-is_blank, else-is_blank}

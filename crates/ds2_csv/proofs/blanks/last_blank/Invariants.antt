@@ -1,5 +1,6 @@
 use Rattle.std.proofs.Common.{◌≡◌, take}
-use Rattle.ds2_csv.specs.Header.{is_blank, last_place}
+use Rattle.ds2_csv_cells.specs.Spelling.{is_blank}
+use Rattle.ds2_csv.specs.Header.{last_place}
 use Rattle.ds2_csv.proofs.blanks.last_blank.Given as goal
 
 abbrev pub invariant-bytes : goal.invariant-bytes

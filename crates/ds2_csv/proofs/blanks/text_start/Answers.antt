@@ -1,5 +1,5 @@
 use Rattle.std.proofs.Common.{◌≤◌, sym, ◌∙◌, arith, length}
-use Rattle.ds2_csv.specs.Header.{is_blank}
+use Rattle.ds2_csv_cells.specs.Spelling.{is_blank}
 use Rattle.ds2_csv.proofs.BlankLemmas.{prefix-is}
 use Rattle.ds2_csv.proofs.blanks.text_start.Goals as goal
 

@@ -1,5 +1,5 @@
 use Rattle.std.proofs.Common.{◌≡◌, ◌<◌, ℕ, true, get_or}
-use Rattle.ds2_csv.specs.Header.{is_blank}
+use Rattle.ds2_csv_cells.specs.Spelling.{is_blank}
 use Rattle.ds2_csv.proofs.blanks.text_start.Given as goal
 
 abbrev pub invariant-bytes : goal.invariant-bytes

@@ -1,6 +1,6 @@
 use Rattle.std.proofs.Common.{◌≡◌, ◌∙◌, ap, sym, List, length, arith, ◌≤◌, map}
 use Rattle.ds2_csv_records.specs.Cells.{spelled}
-use Rattle.ds2_csv.specs.declared.inference.Inference.{Inference}
+use Rattle.ds2_csv_cells.specs.declared.inference.Inference.{Inference}
 use Rattle.ds2_csv.proofs.Knowing.{known-took, known-ended, set-length}
 use Rattle.ds2_csv.proofs.column.add_row.Goals as goal
 

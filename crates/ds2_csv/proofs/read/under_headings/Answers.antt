@@ -1,7 +1,7 @@
 use Rattle.std.proofs.Common.{◌≡◌, ◌≤◌, ap, sym, ◌∙◌, arith, length, ℕ, List, []}
 use Rattle.ds2_value.specs.declared.schema.Column.{Column}
 use Rattle.ds2_csv_records.specs.Reading.{records_left}
-use Rattle.ds2_csv.specs.declared.inference.Inference.{Inference}
+use Rattle.ds2_csv_cells.specs.declared.inference.Inference.{Inference}
 use Rattle.ds2_csv.proofs.Knowing.{known-is, known-said}
 use Rattle.ds2_csv.proofs.ReadLemmas.{typed-said}
 use Rattle.ds2_csv.proofs.SchemaLemmas.{columns-count}

@@ -12,4 +12,4 @@ pub returns-in_ok-later_cells-in-len1-up-row : goal.returns-in_ok-later_cells-in
 returns-in_ok-later_cells-in-len1-up-row c =
     first-and-later _ _ _ _ _ (cells_text c.args.columns.now c.args.row.now)
     (row-left _ _ _ _ c.in-len1-up.len_at_least c.column-item.is c.in-len1-up-row.len_at_least c.value-item.is)
-    c.in_ok-add_cell-in-len1-up-row.ensures c.in_ok-later_cells-in-len1-up-row.ensures
+    c.in_ok-write_cell-in-len1-up-row.ensures c.in_ok-later_cells-in-len1-up-row.ensures

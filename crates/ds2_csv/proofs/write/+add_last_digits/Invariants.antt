@@ -1,4 +1,0 @@
-use Rattle.ds2_csv.proofs.write.+add_last_digits.Given as goal
-
-abbrev pub decreases-add_last_digits : goal.decreases-add_last_digits
-decreases-add_last_digits l = l.count

@@ -1,0 +1,14 @@
+pub mod CellLemmas
+pub mod CellWriting
+pub mod ColumnTypeLemmas
+pub mod Front
+pub mod Inferring
+pub mod LawAscii
+pub mod LawCells
+pub mod LawDecimals
+pub mod LawNumbers
+pub mod LawParts
+pub mod LawTypes
+pub mod NumberLemmas
+pub mod ShortLemmas
+pub mod Spellings

@@ -1,0 +1,9 @@
+pub mod Added
+pub mod CellText
+pub mod Cells
+pub mod ColumnTypes
+pub mod Inferred
+pub mod Laws
+pub mod Number
+pub mod Short
+pub mod Spelling
