@@ -15,8 +15,6 @@ mod name;
 mod name_compare;
 mod place;
 mod stop;
-#[cfg(test)]
-mod tests;
 mod text;
 mod text_compare;
 

@@ -20,8 +20,6 @@ mod limits;
 mod read;
 mod records;
 mod refusal;
-#[cfg(test)]
-mod tests;
 mod typed;
 mod values;
 mod write;

@@ -10,8 +10,6 @@ mod inference;
 pub mod laws;
 mod number;
 mod spelling;
-#[cfg(test)]
-mod tests;
 mod text;
 
 pub use cell::read_cell;

@@ -9,8 +9,6 @@ pub mod laws;
 mod part;
 mod read;
 mod taken;
-#[cfg(test)]
-mod tests;
 mod write;
 
 pub use cell::{Cell, unquoted};

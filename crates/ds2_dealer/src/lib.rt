@@ -19,8 +19,6 @@ mod calls;
 mod cutting;
 pub mod laws;
 mod rule;
-#[cfg(test)]
-mod tests;
 mod tickets;
 
 pub use book::{Book, Totals};

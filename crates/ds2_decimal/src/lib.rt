@@ -16,8 +16,6 @@ pub mod laws;
 mod powers;
 mod quotient;
 mod read;
-#[cfg(test)]
-mod tests;
 mod units;
 mod words;
 

@@ -12,7 +12,5 @@
 mod emit;
 mod program;
 mod size;
-#[cfg(test)]
-mod tests;
 
 pub use program::generate;

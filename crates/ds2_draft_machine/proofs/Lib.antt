@@ -2,5 +2,4 @@ pub mod Ends
 pub mod Falls
 pub mod Lists
 pub mod Runs
-pub mod Small
 pub mod Two

@@ -12,8 +12,6 @@
 mod machine;
 mod operands;
 mod state;
-#[cfg(test)]
-mod tests;
 mod unit_end;
 mod values;
 

@@ -20,6 +20,3 @@ mod statement;
 mod token;
 
 pub use program::{Source, read_source};
-
-#[cfg(test)]
-mod tests;

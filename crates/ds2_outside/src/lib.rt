@@ -19,8 +19,6 @@ mod memory_sink;
 mod output;
 mod sink;
 mod store;
-#[cfg(test)]
-mod tests;
 
 pub use folder::FolderStore;
 pub use gate::{Gate, NoGate};

@@ -10,7 +10,5 @@
 
 pub mod laws;
 mod table;
-#[cfg(test)]
-mod tests;
 
 pub use table::Table;

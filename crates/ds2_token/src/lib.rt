@@ -16,8 +16,6 @@ pub mod laws;
 mod lexer;
 mod limits;
 mod scan;
-#[cfg(test)]
-mod tests;
 mod token;
 mod values;
 mod words;

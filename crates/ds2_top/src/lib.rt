@@ -18,8 +18,6 @@ mod report;
 mod run;
 mod status;
 mod steps;
-#[cfg(test)]
-mod tests;
 mod top;
 mod words;
 

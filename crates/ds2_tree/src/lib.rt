@@ -16,8 +16,6 @@ mod globals;
 mod laws;
 mod readings;
 mod statements;
-#[cfg(test)]
-mod tests;
 mod tokens;
 mod units;
 

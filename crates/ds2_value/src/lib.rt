@@ -23,8 +23,6 @@ mod hashing;
 pub mod laws;
 mod order;
 mod schema;
-#[cfg(test)]
-mod tests;
 mod texts;
 mod truth;
 mod ty;

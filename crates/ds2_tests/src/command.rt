@@ -1,8 +1,8 @@
 //! Each public call once with ample memory, over a store and a log in memory. The cases of commands stand in `ds2_cases`.
 
-use crate::{Status, ds2, ds2_alone};
 use ds2_base::{List, OutOfMemory, Text};
 use ds2_outside::{MemSink, MemStore, NoGate};
+use ds2_top::{Status, ds2, ds2_alone};
 use std::alloc::Global;
 use std::test::Fail;
 

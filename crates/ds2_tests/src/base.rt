@@ -1,5 +1,5 @@
 //! Each call that may want memory, once where there is enough, and a tree whose children stand in a list.
-use crate::{List, Name, OutOfMemory, Stop, Text};
+use ds2_base::{List, Name, OutOfMemory, Stop, Text};
 use std::alloc::Global;
 
 #[derive(Debug, Drop, PartialEq, Eq, Hash)]

@@ -1,7 +1,7 @@
 //! A source that is read, and one that is not.
-use crate::laws::keeps_tokens;
-use crate::read_source;
 use ds2_base::OutOfMemory;
+use ds2_draft_source::laws::keeps_tokens;
+use ds2_draft_source::read_source;
 use std::alloc::Global;
 use std::test::Fail;
 

@@ -1,6 +1,6 @@
 //! A table with a row, once with ample memory.
-use crate::Table;
 use ds2_base::{List, Name};
+use ds2_table::Table;
 use ds2_value::{Column, Schema, Ty, Value};
 use std::test::Fail;
 

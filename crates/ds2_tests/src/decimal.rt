@@ -1,5 +1,5 @@
 //! A few numbers that were computed elsewhere; the contracts say all answers.
-use crate::Dec;
+use ds2_decimal::Dec;
 
 fn number(text: &str) -> Option<(i128, u8)> {
     let d = Dec::read(text)?;

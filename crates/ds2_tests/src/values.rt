@@ -1,10 +1,10 @@
 //! Each call that may want memory, once where there is enough.
-use crate::{
+use ds2_base::{List, Name, OutOfMemory, Text};
+use ds2_decimal::Dec;
+use ds2_value::{
     Column, Row, Schema, Ty, Value, assign, assign_owned, coalesce, concat, copy_row, greatest,
     least, substr, trim, write_dec,
 };
-use ds2_base::{List, Name, OutOfMemory, Text};
-use ds2_decimal::Dec;
 use std::alloc::Global;
 use std::test::Fail;
 

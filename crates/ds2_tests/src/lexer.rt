@@ -1,6 +1,6 @@
 //! Calls that allocate, with ample memory.
-use crate::{Token, TokenKind, tokens};
 use ds2_base::{OutOfMemory, Place, Text};
+use ds2_token::{Token, TokenKind, tokens};
 use std::alloc::Global;
 
 fn token(alloc: Global, kind: TokenKind, spelling: &str) -> Result<Token, OutOfMemory> {

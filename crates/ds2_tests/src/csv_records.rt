@@ -1,8 +1,8 @@
 //! Each call that takes memory, with ample memory.
-use crate::{
+use ds2_base::{Bytes, List, OutOfMemory};
+use ds2_csv_records::{
     Cell, Record, add_field, add_separator, end_record, next_record, unquoted, without_mark,
 };
-use ds2_base::{Bytes, List, OutOfMemory};
 use std::alloc::Global;
 
 // Adds a cell of a record that was read.

@@ -2,8 +2,8 @@
 ghost use Rattle.std.specs.Prelude.{IsTrue};
 ghost use Rattle.ds2_value.specs.Types.{in_bounds};
 
-use crate::{read_cell, type_text, write_cell};
 use ds2_base::{Bytes, List, OutOfMemory};
+use ds2_csv_cells::{read_cell, type_text, write_cell};
 use ds2_csv_records::Cell;
 use ds2_value::Ty;
 use itoa::Buffer;

@@ -1,6 +1,6 @@
 //! Each call that takes memory, with ample memory.
-use crate::{TableWriter, read_table, write_rows, write_table};
 use ds2_base::{Bytes, List, OutOfMemory, Stop};
+use ds2_csv::{TableWriter, read_table, write_rows, write_table};
 use std::alloc::Global;
 
 // A table of all four types with a quote and nulls, as it is written.

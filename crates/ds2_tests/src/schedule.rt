@@ -3,8 +3,8 @@ ghost use Rattle.std.specs.Prelude.{ℕ, List, Bool};
 ghost use Rattle.ds2_schedule.specs.Groups.{EveryStage};
 ghost use Rattle.ds2_schedule.specs.Schedule.{EverySchedule};
 
-use crate::laws;
 use ds2_base::List as Items;
+use ds2_schedule::laws;
 
 fn schedule_of_lists()
     ensures { EverySchedule (List ℕ) ℕ Bool ℕ }

@@ -1,6 +1,6 @@
 //! The calls with ample memory.
-use crate::{Book, Draw, TicketSeat, Tickets, Totals};
 use ds2_base::OutOfMemory;
+use ds2_dealer::{Book, Draw, TicketSeat, Tickets, Totals};
 use std::alloc::Global;
 
 fn first_draws(alloc: Global) -> Result<bool, OutOfMemory> {

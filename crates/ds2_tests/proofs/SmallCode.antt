@@ -10,7 +10,7 @@ use Rattle.ds2_draft_code.specs.declared.program.ProgramCode.{ProgramCode}
 use Rattle.ds2_draft_code.specs.Machine.{Slots}
 use Rattle.ds2_draft_code.specs.Unit.{RunsUnit}
 use Rattle.ds2_draft_code.specs.Valid.{IsSound, IsValidCode}
-use Rattle.ds2_draft_machine.specs.Small.{small_place, small_code}
+use Rattle.ds2_tests.specs.SmallCode.{small_place, small_code}
 
 no_jump : (at target : ℕ) → slice_get small_code.instrs at ≡ Some (Jump target) → ⊥
 no_jump zero target h = cc

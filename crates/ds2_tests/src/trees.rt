@@ -1,10 +1,10 @@
 //! The tokens of a small source, once with enough memory.
-use crate::{
+use ds2_base::{List, OutOfMemory, Place, Text};
+use ds2_token::{Token, TokenKind};
+use ds2_tree::{
     DataProgram, ElseIf, Expression, GlobalItem, Method, Otherwise, OutputTable, Parameters,
     Source, SourcePart, Statement,
 };
-use ds2_base::{List, OutOfMemory, Place, Text};
-use ds2_token::{Token, TokenKind};
 use std::alloc::Global;
 
 fn at(column: u32) -> Place {

@@ -1,7 +1,7 @@
 //! A small program and its code.
-use crate::generate;
 use ds2_base::{List, Name, OutOfMemory, Place};
 use ds2_draft_code::{Instr, ProgramCode, Role};
+use ds2_draft_gen::generate;
 use ds2_draft_layout::{first_unknown, lay_out};
 use ds2_draft_meaning::{Expr, Sign, Stmt, Term, TypedData};
 use ds2_value::{Column, Ty, Value};

@@ -1,10 +1,10 @@
 //! A small code, run once where its budget is enough and once where it is not.
 ghost use Rattle.std.specs.Prelude.{IfOk, ◌≡◌};
-ghost use Rattle.ds2_draft_machine.specs.Small.{small_code};
+ghost use Rattle.ds2_tests.specs.SmallCode.{small_code};
 
-use crate::{Machine, UnitEnd};
 use ds2_base::{List, OutOfMemory, Place};
 use ds2_draft_code::{Instr, ProgramCode, Role};
+use ds2_draft_machine::{Machine, UnitEnd};
 use ds2_value::{Ending, Fault, Value};
 use std::alloc::Global;
 

@@ -1,10 +1,10 @@
 //! Each call once with ample memory: over memory with chosen faults, and over a real file.
 ghost use Rattle.std.specs.Prelude.{◌^◌, ◌<◌};
 
-use crate::{
+use ds2_base::{Bytes, List, OutOfMemory, Text};
+use ds2_outside::{
     FolderStore, Gate, MemSink, MemStore, NoGate, ReadStop, Sink, StdSink, Store, WriteStop,
 };
-use ds2_base::{Bytes, List, OutOfMemory, Text};
 use std::alloc::Global;
 use std::cell::Cell;
 use std::fmt::Display;

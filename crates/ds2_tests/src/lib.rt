@@ -1,0 +1,38 @@
+//! Each call that takes memory, once where there is enough, and generic code at types of its callers.
+//!
+//! Contracts say what each call answers, but each may answer want of memory: these tests see that it does not where there is memory.
+//! They stand in one crate above all others, since a crate with tests of its own is proved twice.
+#![tactic(auto)]
+
+#[cfg(test)]
+mod base;
+#[cfg(test)]
+mod command;
+#[cfg(test)]
+mod csv_cells;
+#[cfg(test)]
+mod csv_files;
+#[cfg(test)]
+mod csv_records;
+#[cfg(test)]
+mod dealer;
+#[cfg(test)]
+mod decimal;
+#[cfg(test)]
+mod draft_code;
+#[cfg(test)]
+mod draft_machine;
+#[cfg(test)]
+mod draft_source;
+#[cfg(test)]
+mod lexer;
+#[cfg(test)]
+mod outside;
+#[cfg(test)]
+mod schedule;
+#[cfg(test)]
+mod tables;
+#[cfg(test)]
+mod trees;
+#[cfg(test)]
+mod values;
