@@ -23,8 +23,6 @@ mod draft_code;
 #[cfg(test)]
 mod draft_machine;
 #[cfg(test)]
-mod draft_source;
-#[cfg(test)]
 mod lexer;
 #[cfg(test)]
 mod outside;

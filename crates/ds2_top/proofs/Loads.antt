@@ -8,7 +8,13 @@ use Rattle.std.specs.Cmp.{tied_itself}
 use Rattle.std.specs.FinMap.{empty, get-empty, get-insert, slice_cmp-IsAntisymmetric, nat_cmp-IsAntisymmetric}
 use Rattle.std.proofs.lemmas.Bool.{le-ltb, lt-ltb}
 use Rattle.ds2_csv.specs.Reads.{reads}
-use Rattle.ds2_draft_source.specs.Source.{Source}
+use Rattle.ds2_base.specs.Bytes.{Bytes}
+use Rattle.ds2_base.specs.Text.{text_of}
+use Rattle.ds2_tree.specs.Units.{SourcePart}
+use Rattle.ds2_compile.specs.declared.kinds.SourceRefusal.{SourceRefusal}
+use Rattle.ds2_compile.specs.Laws.{OneSourceAnswer, SourcesRead}
+use Rattle.ds2_compile.specs.SourceAnswer.{SourceAnswer, IsSourceAnswer}
+use Rattle.ds2_draft_forms.specs.Forms.{DataForm, source_form}
 use Rattle.ds2_outside.specs.declared.store.ReadStop.{ReadStop}
 use Rattle.ds2_outside.specs.declared.store.ReadStop.TheVariants as stops
 use Rattle.ds2_outside.specs.Files as store
@@ -16,15 +22,15 @@ use Rattle.ds2_outside.specs.Files.{Files, file, with_file}
 use Rattle.ds2_top.specs.declared.halt.Halt.{Halt}
 use Rattle.ds2_top.specs.declared.halt.Halt.TheVariants.{Ended, OutOfMemory}
 use Rattle.ds2_top.specs.declared.load.FileKind.{FileKind}
-use Rattle.ds2_top.specs.declared.load.FileKind.TheVariants.{Absent, TooLarge}
+use Rattle.ds2_top.specs.declared.load.FileKind.TheVariants.{Absent, TooLarge, NotUtf8}
 use Rattle.ds2_top.specs.declared.run.TheConstants.{TABLE_LIMIT}
 use Rattle.ds2_top.specs.declared.status.Status.TheVariants.{Done, File, Read}
 use Rattle.ds2_top.specs.declared.status.Status.TheVariants as refused
 use Rattle.ds2_top.specs.declared.words.Command.{Command}
-use Rattle.ds2_top.specs.declared.lines.SourceKind.TheVariants.{NotBuilt}
+use Rattle.ds2_top.specs.declared.lines.SourceReason.TheVariants as reason
 use Rattle.ds2_base.specs.Place.{start_place}
 use Rattle.ds2_base.specs.declared.place.Place.{Place}
-use Rattle.ds2_top.specs.Answer.{answer, on_command, on_source, on_table, table_file}
+use Rattle.ds2_top.specs.Answer.{answer, on_command, on_form, on_source, on_table, on_text, table_file}
 use Rattle.ds2_top.specs.Halt.{DoesAll, EndsAs, Halts}
 use Rattle.ds2_top.specs.Lines.{fault_line, file_line, source_line, usage_line}
 use Rattle.ds2_top.specs.Load.{Loads, OverFiles, load_one, next_file, within_limit}
@@ -84,13 +90,24 @@ table_is_no_source table is =
     not_csv (subst (λ (end : List ℕ). IsTrue (pointwise nat_eq (codes ".ds2") end)) tail ends)
 
 -- the table of a source is read from the same bytes, whatever the file of the source holds
-pub same_table : (source : Option Source) (budget : ℕ) (files : Files) (name bytes : List ℕ) → IsTrue (is_source name)
-    → on_source source budget (with_file files name bytes) ≡ on_source source budget files
+same_table : (source : Option DataForm) (budget : ℕ) (files : Files) (name bytes : List ℕ) → IsTrue (is_source name)
+    → on_form source budget (with_file files name bytes) ≡ on_form source budget files
 same_table None budget files name bytes named = refl
 same_table (Some source) budget files name bytes named =
     let differ : table_file source.table ≢ name = λ is. table_is_no_source source.table (subst (λ (n : List ℕ). IsTrue (is_source n)) (sym is) named) in
     ap (λ (f : Option (List ℕ)). Reads (table_file source.table) (next_file (table_file source.table) (within_limit TABLE_LIMIT f) (λ bytes. on_table source budget (reads bytes))))
     (other_bytes files name (table_file source.table) bytes differ)
+
+same_source : (answer : SourceAnswer) (budget : ℕ) (files : Files) (name bytes : List ℕ) → IsTrue (is_source name)
+    → on_source answer budget (with_file files name bytes) ≡ on_source answer budget files
+same_source (Err refusal) budget files name bytes named = refl
+same_source (Ok parts) budget files name bytes named = same_table (source_form parts) budget files name bytes named
+
+-- what a text is run over is read from the same bytes, whatever the file of the source holds
+pub same_text : (sources : SourcesRead) (text : Option Bytes) (budget : ℕ) (files : Files) (name bytes : List ℕ) → IsTrue (is_source name)
+    → on_text sources name text budget (with_file files name bytes) ≡ on_text sources name text budget files
+same_text sources None budget files name bytes named = refl
+same_text sources (Some text) budget files name bytes named = same_source (sources.answer_for text) budget files name bytes named
 
 -- a command that finds no memory has left what stood before
 pub over_halted : (told : Option Files) (script : Files → Script) (said log : List ℕ) (result : Result (Unit {0}) Halt) → IsErrAnd result (λ e. e ≡ OutOfMemory)
@@ -201,18 +218,44 @@ load_failed told now limit name said halt log ends same =
     over_all told (λ files. (go : List ℕ → Script) → Halts (load_one limit name files go) said told halt log now)
     (λ files go. failed_halts name (next_file name (within_limit limit (file files name)) go) said told now halt log ends same)
 
--- a source of other forms is refused
-pub no_source : (told : Option Files) (source : Option Source) (budget : ℕ) (said log : List ℕ) (place : Place) → None ≡ source → place ≡ start_place → log ≡ said ++ source_line NotBuilt place
-    → OverFiles told (λ files. DoesAll (on_source source budget files) said told (Err (Ended refused.Source)) log told)
-no_source told source budget said log place is at_start log_is =
-    subst (λ (s : Option Source). OverFiles told (λ files. DoesAll (on_source s budget files) said told (Err (Ended refused.Source)) log told)) is
-    (over_all told (λ files. DoesAll (on_source None budget files) said told (Err (Ended refused.Source)) log told)
-    (λ files. (record { status_is = refl; log_is = log_is ∙ ap (λ (p : Place). said ++ source_line NotBuilt p) at_start; files = refl }, tt)))
+-- a source of another form is refused
+pub no_form : (told : Option Files) (source : Option DataForm) (budget : ℕ) (said log : List ℕ) (place : Place) → None ≡ source → place ≡ start_place → log ≡ said ++ source_line reason.NotBuilt place
+    → OverFiles told (λ files. DoesAll (on_form source budget files) said told (Err (Ended refused.Source)) log told)
+no_form told source budget said log place is at_start log_is =
+    subst (λ (s : Option DataForm). OverFiles told (λ files. DoesAll (on_form s budget files) said told (Err (Ended refused.Source)) log told)) is
+    (over_all told (λ files. DoesAll (on_form None budget files) said told (Err (Ended refused.Source)) log told)
+    (λ files. (record { status_is = refl; log_is = log_is ∙ ap (λ (p : Place). said ++ source_line reason.NotBuilt p) at_start; files = refl }, tt)))
+
+-- a text that is no source is refused
+pub no_source : OneSourceAnswer → (sources : SourcesRead) (told : Option Files) (text : Bytes) (refusal : SourceRefusal) (budget : ℕ) (said log : List ℕ) → IsSourceAnswer text (Err refusal)
+    → log ≡ said ++ source_line (reason.Text refusal.kind) refusal.place
+    → OverFiles told (λ files. DoesAll (on_source (sources.answer_for text) budget files) said told (Err (Ended refused.Source)) log told)
+no_source one sources told text refusal budget said log is log_is =
+    subst (λ (answer : SourceAnswer). OverFiles told (λ files. DoesAll (on_source answer budget files) said told (Err (Ended refused.Source)) log told))
+    (one text (Err refusal) (sources.answer_for text) is (sources.is_answer text))
+    (over_all told (λ files. DoesAll (on_source (Err refusal) budget files) said told (Err (Ended refused.Source)) log told)
+    (λ files. (record { status_is = refl; log_is = log_is; files = refl }, tt)))
+
+-- a text that is a source does what its tree does
+pub of_tree : OneSourceAnswer → (sources : SourcesRead) (told : Option Files) (text : Bytes) (parts : List SourcePart) (budget : ℕ) (said : List ℕ) (result : Result (Unit {0}) Halt) (log : List ℕ) (now : Option Files)
+    → IsSourceAnswer text (Ok parts) → OverFiles told (λ files. DoesAll (on_form (source_form parts) budget files) said told result log now)
+    → OverFiles told (λ files. DoesAll (on_source (sources.answer_for text) budget files) said told result log now)
+of_tree one sources told text parts budget said result log now is does =
+    subst (λ (answer : SourceAnswer). OverFiles told (λ files. DoesAll (on_source answer budget files) said told result log now))
+    (one text (Ok parts) (sources.answer_for text) is (sources.is_answer text)) does
+
+-- a file that is no text is refused
+pub no_text : (sources : SourcesRead) (told : Option Files) (name : List ℕ) (text : Option Bytes) (budget : ℕ) (said log : List ℕ) → None ≡ text → log ≡ said ++ file_line name NotUtf8
+    → OverFiles told (λ files. DoesAll (on_text sources name text budget files) said told (Err (Ended refused.File)) log told)
+no_text sources told name text budget said log is log_is =
+    subst (λ (t : Option Bytes). OverFiles told (λ files. DoesAll (on_text sources name t budget files) said told (Err (Ended refused.File)) log told)) is
+    (over_all told (λ files. DoesAll (on_text sources name None budget files) said told (Err (Ended refused.File)) log told)
+    (λ files. (record { status_is = refl; log_is = log_is; files = refl }, tt)))
 
 -- words that are no command are refused
-pub no_command : (told : Option Files) (words : List (List ℕ)) (said log : List ℕ) → None ≡ command_of words → log ≡ said ++ usage_line
-    → OverFiles told (λ files. DoesAll (answer words files) said told (Err (Ended refused.Usage)) log told)
-no_command told words said log is log_is =
-    subst (λ (c : Option Command). OverFiles told (λ files. DoesAll (on_command c files) said told (Err (Ended refused.Usage)) log told)) is
-    (over_all told (λ files. DoesAll (on_command None files) said told (Err (Ended refused.Usage)) log told)
+pub no_command : (sources : SourcesRead) (told : Option Files) (words : List (List ℕ)) (said log : List ℕ) → None ≡ command_of words → log ≡ said ++ usage_line
+    → OverFiles told (λ files. DoesAll (answer sources words files) said told (Err (Ended refused.Usage)) log told)
+no_command sources told words said log is log_is =
+    subst (λ (c : Option Command). OverFiles told (λ files. DoesAll (on_command sources c files) said told (Err (Ended refused.Usage)) log told)) is
+    (over_all told (λ files. DoesAll (on_command sources None files) said told (Err (Ended refused.Usage)) log told)
     (λ files. (record { status_is = refl; log_is = log_is; files = refl }, tt)))

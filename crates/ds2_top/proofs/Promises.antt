@@ -1,6 +1,7 @@
 -- The promises of the top call, each from what a command leaves.
 use Rattle.std.proofs.Common.{◌≡◌, ◌⊎◌, ◌∙◌, ◌++◌, inl, inr, ℕ, List, [], length, refl, sym, ap, subst, arith, ◌≤◌, Option, Some, None, IfSome, IsSome, Result, Ok, Err}
 use Rattle.std.proofs.lemmas.List.{take_all}
+use Rattle.ds2_compile.specs.Laws.{SourcesRead}
 use Rattle.ds2_outside.specs.Files.{Files}
 use Rattle.ds2_top.specs.declared.halt.Halt.{Halt}
 use Rattle.ds2_top.specs.declared.halt.Halt.TheVariants.{Ended, OutOfMemory}
@@ -29,17 +30,17 @@ gained_whole : (x : List ℕ) (before now : Outside) → Gained x before now →
 gained_whole x before now (inl whole) sound = whole
 gained_whole x before now (inr (rose, part)) sound = absurd (sound rose)
 
-module _ (before now : Outside) where
-  of_did : (words : List (List ℕ)) (files : Files) (status : Status) → Did (answer words files) files before now status → Gained (log_text (actions (answer words files))) before now → IsRefusal status
-      → LeavesRefusal (answer words files) files before now status
+module _ (sources : SourcesRead) (before now : Outside) where
+  of_did : (words : List (List ℕ)) (files : Files) (status : Status) → Did (answer sources words files) files before now status → Gained (log_text (actions (answer sources words files))) before now → IsRefusal status
+      → LeavesRefusal (answer sources words files) files before now status
   of_did words files status did gained is =
       record {
         status_is = did.status_is;
-        files_are = λ tells. did.files_are tells ∙ ap (λ (f : Files). Some f) (refusal_keeps words files (subst IsRefusal did.status_is is));
+        files_are = λ tells. did.files_are tells ∙ ap (λ (f : Files). Some f) (refusal_keeps sources words files (subst IsRefusal did.status_is is));
         gained = gained;
       }
 
-  refusal_left : (words : List (List ℕ)) (files : Files) (status : Status) → Leaves (answer words files) files before now status → IsRefusal status → LeavesRefusal (answer words files) files before now status
+  refusal_left : (words : List (List ℕ)) (files : Files) (status : Status) → Leaves (answer sources words files) files before now status → IsRefusal status → LeavesRefusal (answer sources words files) files before now status
   refusal_left words files ended.Done left is = absurd is
   refusal_left words files ended.Usage left is = of_did words files ended.Usage left.0 left.1 is
   refusal_left words files ended.Source left is = of_did words files ended.Source left.0 left.1 is
@@ -70,21 +71,22 @@ module _ (before now : Outside) where
   all_answered script files ended.Memory left r w l = inr refl
 
   -- each promise follows from what the command leaves, but that words that are no command are refused
-  promises : (words : List (List ℕ)) (files : Files) (status : Status) → IfSome before.files (λ held. held ≡ files) → Leaves (answer words files) files before now status
+  promises : (words : List (List ℕ)) (files : Files) (status : Status) → IfSome before.files (λ held. held ≡ files) → Leaves (answer sources words files) files before now status
       → (command_of words ≡ None → (status ≡ ended.Usage) ⊎ (status ≡ ended.Memory)) → Headline words before now status
   promises words files status told left back =
-      let at : (s : Status) → status ≡ s → Leaves (answer words files) files before now s = λ s is. subst (Leaves (answer words files) files before now) is left in
+      let at : (s : Status) → status ≡ s → Leaves (answer sources words files) files before now s = λ s is. subst (Leaves (answer sources words files) files before now) is left in
       record {
+        sources = sources;
         files = files;
         told = told;
         leaves = left;
-        fault = λ is. fault_left words files before now (at ended.Fault is);
+        fault = λ is. fault_left sources words files before now (at ended.Fault is);
         refused = λ is. refusal_left words files status left is;
-        usage = (λ is. usage_only words files (sym (at ended.Usage is).0.status_is), back);
+        usage = (λ is. usage_only sources words files (sym (at ended.Usage is).0.status_is), back);
         read_fault = λ is. (at ended.Read is).cause;
         write_fault = λ is. (at ended.Write is).cause;
         log_fault = λ is. (at ended.Log is).1;
-        answered = λ r w l. all_answered (answer words files) files status left r w l;
+        answered = λ r w l. all_answered (answer sources words files) files status left r w l;
       }
 
 done_no_read : {P : Type 0} → ended.Done ≡ ended.Read → P
@@ -97,8 +99,8 @@ linked : (told : Option Files) (files : Files) → IfSome told (λ held. held �
 linked None files is tells = absurd (cc)
 linked (Some held) files is tells = ap (λ (f : Files). Some f) is
 
-usage_came : (words : List (List ℕ)) (files : Files) (told now : Option Files) (status : Status) (x : List ℕ) → command_of words ≡ None → CameOf (answer words files) [] told status x now → status ≡ ended.Usage
-usage_came words files told now status x is came = (subst (λ (c : Option Command). CameOf (on_command c files) [] told status x now) is came).0.status_is
+usage_came : (sources : SourcesRead) (words : List (List ℕ)) (files : Files) (told now : Option Files) (status : Status) (x : List ℕ) → command_of words ≡ None → CameOf (answer sources words files) [] told status x now → status ≡ ended.Usage
+usage_came sources words files told now status x is came = (subst (λ (c : Option Command). CameOf (on_command sources c files) [] told status x now) is came).0.status_is
 
 usage_reported : (status : Status) (x : List ℕ) (rose : Type 0) (result : Status) (before logged : Option (List ℕ)) → Reported status x rose result before logged → status ≡ ended.Usage
     → (result ≡ ended.Usage) ⊎ (result ≡ ended.Memory)
@@ -107,36 +109,36 @@ usage_reported status x rose result before logged (inr (inl (r, b, p))) is = inl
 usage_reported status x rose result before logged (inr (inr (r, p))) is = inr r
 
 -- a command that has come to an end with a status
-ended_headline : (words : List (List ℕ)) (before now : Outside) (status result : Status) (said x : List ℕ) → said ≡ []
+ended_headline : (sources : SourcesRead) (words : List (List ℕ)) (before now : Outside) (status result : Status) (said x : List ℕ) → said ≡ []
     → (status ≡ ended.Read → ReadsRose before now) → (status ≡ ended.Write → WritesRose before now)
-    → OverFiles before.files (λ files. DoesAll (answer words files) said before.files (Err (Ended status)) x now.files)
+    → OverFiles before.files (λ files. DoesAll (answer sources words files) said before.files (Err (Ended status)) x now.files)
     → Reported status x (LogRose before now) result before.log now.log → Headline words before now result
-ended_headline words before now status result said x empty read write o r =
-    let came : CameOf (answer words o.files) [] before.files status x now.files = subst (λ (s : List ℕ). CameOf (answer words o.files) s before.files status x now.files) empty o.holds in
-    promises before now words o.files result o.told_is
-    (ended_leaves before now (answer words o.files) o.files status x result (linked before.files o.files o.told_is) read write came r)
-    (λ none. usage_reported status x (LogRose before now) result before.log now.log r (usage_came words o.files before.files now.files status x none came))
+ended_headline sources words before now status result said x empty read write o r =
+    let came : CameOf (answer sources words o.files) [] before.files status x now.files = subst (λ (s : List ℕ). CameOf (answer sources words o.files) s before.files status x now.files) empty o.holds in
+    promises sources before now words o.files result o.told_is
+    (ended_leaves before now (answer sources words o.files) o.files status x result (linked before.files o.files o.told_is) read write came r)
+    (λ none. usage_reported status x (LogRose before now) result before.log now.log r (usage_came sources words o.files before.files now.files status x none came))
 
 -- a command that has ended before its last step
-pub halted_headline : (words : List (List ℕ)) (before now : Outside) (status result : Status) (said x : List ℕ) (ran : Result (Unit {0}) Halt) (halt : Halt) → ran ≡ Err halt → halt ≡ Ended status → said ≡ []
+pub halted_headline : (sources : SourcesRead) (words : List (List ℕ)) (before now : Outside) (status result : Status) (said x : List ℕ) (ran : Result (Unit {0}) Halt) (halt : Halt) → ran ≡ Err halt → halt ≡ Ended status → said ≡ []
     → Caused ended.Read ran before.read_faults now.read_faults → Caused ended.Write ran before.write_faults now.write_faults
-    → OverFiles before.files (λ files. DoesAll (answer words files) said before.files ran x now.files)
+    → OverFiles before.files (λ files. DoesAll (answer sources words files) said before.files ran x now.files)
     → Reported status x (LogRose before now) result before.log now.log → Headline words before now result
-halted_headline words before now status result said x ran halt ran_is halt_is empty read write o r =
+halted_headline sources words before now status result said x ran halt ran_is halt_is empty read write o r =
     let is : ran ≡ Err (Ended status) = ran_is ∙ ap (λ (h : Halt). Err h) halt_is in
     let reads : Caused {T = Unit {0}} ended.Read (Err (Ended status)) before.read_faults now.read_faults =
     subst (λ (ran : Result (Unit {0}) Halt). Caused ended.Read ran before.read_faults now.read_faults) is read in
     let writes : Caused {T = Unit {0}} ended.Write (Err (Ended status)) before.write_faults now.write_faults =
     subst (λ (ran : Result (Unit {0}) Halt). Caused ended.Write ran before.write_faults now.write_faults) is write in
-    ended_headline words before now status result said x empty reads.rose writes.rose
-    (subst (λ (ran : Result (Unit {0}) Halt). OverFiles before.files (λ files. DoesAll (answer words files) said before.files ran x now.files)) is o) r
+    ended_headline sources words before now status result said x empty reads.rose writes.rose
+    (subst (λ (ran : Result (Unit {0}) Halt). OverFiles before.files (λ files. DoesAll (answer sources words files) said before.files ran x now.files)) is o) r
 
 -- a command that was done
-pub done_headline : (words : List (List ℕ)) (before now : Outside) (result : Status) (said x : List ℕ) → said ≡ []
-    → OverFiles before.files (λ files. DoesAll (answer words files) said before.files (Ok tt) x now.files)
+pub done_headline : (sources : SourcesRead) (words : List (List ℕ)) (before now : Outside) (result : Status) (said x : List ℕ) → said ≡ []
+    → OverFiles before.files (λ files. DoesAll (answer sources words files) said before.files (Ok tt) x now.files)
     → Reported ended.Done x (LogRose before now) result before.log now.log → Headline words before now result
-done_headline words before now result said x empty o r =
-    ended_headline words before now ended.Done result said x empty done_no_read done_no_write
+done_headline sources words before now result said x empty o r =
+    ended_headline sources words before now ended.Done result said x empty done_no_read done_no_write
     (record { files = o.files; told_is = o.told_is; holds = o.holds.ends ended.Done x now.files (record { status_is = refl; log_is = refl; files = refl }, tt) }) r
 
 part_of_taken : (line : List ℕ) (before logged : Option (List ℕ)) → TakesLine line before logged → TakesSome line before logged
@@ -148,12 +150,12 @@ part_of_taken line (Some held) logged (inr (inl is)) =
 part_of_taken line (Some held) logged (inr (inr part)) = part
 
 -- a command that has found no memory
-pub memory_headline : (words : List (List ℕ)) (before now : Outside) (result : Status) (said x : List ℕ) (ran : Result (Unit {0}) Halt) (halt : Halt) → ran ≡ Err halt → halt ≡ OutOfMemory
-    → OverFiles before.files (λ files. DoesAll (answer words files) said before.files ran x now.files)
+pub memory_headline : (sources : SourcesRead) (words : List (List ℕ)) (before now : Outside) (result : Status) (said x : List ℕ) (ran : Result (Unit {0}) Halt) (halt : Halt) → ran ≡ Err halt → halt ≡ OutOfMemory
+    → OverFiles before.files (λ files. DoesAll (answer sources words files) said before.files ran x now.files)
     → result ≡ ended.Memory → TakesLine memory_line before.log now.log → Headline words before now result
-memory_headline words before now result said x ran halt ran_is halt_is o is taken =
-    let short : Short (answer words o.files) before.files now.files =
-    subst (λ (r : Result (Unit {0}) Halt). DoesAll (answer words o.files) said before.files r x now.files) (ran_is ∙ ap (λ (h : Halt). Err h) halt_is) o.holds in
-    let left : Leaves (answer words o.files) o.files before now ended.Memory =
-    memory_leaves before now (answer words o.files) o.files (linked before.files o.files o.told_is) short (part_of_taken memory_line before.log now.log taken) in
-    promises before now words o.files result o.told_is (subst (Leaves (answer words o.files) o.files before now) (sym is) left) (λ none. inr is)
+memory_headline sources words before now result said x ran halt ran_is halt_is o is taken =
+    let short : Short (answer sources words o.files) before.files now.files =
+    subst (λ (r : Result (Unit {0}) Halt). DoesAll (answer sources words o.files) said before.files r x now.files) (ran_is ∙ ap (λ (h : Halt). Err h) halt_is) o.holds in
+    let left : Leaves (answer sources words o.files) o.files before now ended.Memory =
+    memory_leaves before now (answer sources words o.files) o.files (linked before.files o.files o.told_is) short (part_of_taken memory_line before.log now.log taken) in
+    promises sources before now words o.files result o.told_is (subst (Leaves (answer sources words o.files) o.files before now) (sym is) left) (λ none. inr is)

@@ -1,6 +1,8 @@
 -- The answer of a line of words over the files of a store: a script.
 use Rattle.std.specs.Prelude.{◌≡◌, ℕ, Bool, true, false, List, [], ◌∷◌, ◌++◌, length, map, codes, Option, Some, None, Result, Ok, Err}
+use Rattle.ds2_base.specs.Bytes.{Bytes}
 use Rattle.ds2_base.specs.Place.{start_place}
+use Rattle.ds2_base.specs.Text.{text_of}
 use Rattle.ds2_base.specs.declared.place.Place.{Place}
 use Rattle.ds2_value.specs.declared.fault.Ending.{Ending}
 use Rattle.ds2_value.specs.declared.fault.Ending.TheVariants.{Normal, Faulted}
@@ -15,9 +17,11 @@ use Rattle.ds2_csv.specs.Text as csv
 use Rattle.ds2_csv.specs.declared.refusal.CsvRefusal.{CsvRefusal}
 use Rattle.ds2_draft_meaning.specs.Names.{first_unknown}
 use Rattle.ds2_draft_meaning.specs.Program.{Program, variables, one_thread_answer}
-use Rattle.ds2_draft_source.specs.Source.{Source, source_of}
+use Rattle.ds2_draft_forms.specs.Forms.{DataForm, source_form}
+use Rattle.ds2_compile.specs.SourceAnswer.{SourceAnswer}
+use Rattle.ds2_compile.specs.Laws.{SourcesRead}
 use Rattle.ds2_outside.specs.Files.{Files}
-use Rattle.ds2_top.specs.declared.lines.SourceKind.TheVariants.{NotBuilt, UnknownName}
+use Rattle.ds2_top.specs.declared.lines.SourceReason.TheVariants.{Text, NotBuilt, UnknownName}
 use Rattle.ds2_top.specs.declared.load.FileKind.TheVariants as file
 use Rattle.ds2_top.specs.declared.program.OneThreadEnd.{OneThreadEnd}
 use Rattle.ds2_top.specs.declared.run.TheConstants.{SOURCE_LIMIT, TABLE_LIMIT}
@@ -82,25 +86,35 @@ abbrev pub on_program : List ℕ → Program → List (List Value) → ℕ → S
 on_program name program rows budget = on_built (is_built program) name program rows budget
 
 -- the program of a source over the columns of its table; what a source declares is BIGINT
-abbrev pub program_over : Source → List Column → Program
+abbrev pub program_over : DataForm → List Column → Program
 program_over source columns =
     record { declared = map (λ name. record { name = name; ty = BigInt }) source.declared; columns = columns; body = source.body }
 
 -- a table is refused, or its rows are read
-abbrev pub on_table : Source → ℕ → Result Contents CsvRefusal → Script
+abbrev pub on_table : DataForm → ℕ → Result Contents CsvRefusal → Script
 on_table source budget (Err refusal) = Says (file_line (table_file source.table) (file.Table refusal)) (Ends ended.File)
 on_table source budget (Ok table) = on_program source.output (program_over source table.columns) table.rows budget
 
--- a source is refused, or its table is read
-abbrev pub on_source : Option Source → ℕ → Files → Script
-on_source None budget files = Says (source_line NotBuilt start_place) (Ends ended.Source)
-on_source (Some source) budget files = load_one TABLE_LIMIT (table_file source.table) files (λ bytes. on_table source budget (reads bytes))
+-- a source of another form is refused, or its table is read
+abbrev pub on_form : Option DataForm → ℕ → Files → Script
+on_form None budget files = Says (source_line NotBuilt start_place) (Ends ended.Source)
+on_form (Some source) budget files = load_one TABLE_LIMIT (table_file source.table) files (λ bytes. on_table source budget (reads bytes))
 
--- words that are no command are refused, or the source is read
-abbrev pub on_command : Option Command → Files → Script
-on_command None files = Says usage_line (Ends ended.Usage)
-on_command (Some (Run name budget)) files = load_one SOURCE_LIMIT name files (λ text. on_source (source_of text) budget files)
+-- a text that is no source is refused, or the form of its tree is looked at
+abbrev pub on_source : SourceAnswer → ℕ → Files → Script
+on_source (Err refusal) budget files = Says (source_line (Text refusal.kind) refusal.place) (Ends ended.Source)
+on_source (Ok parts) budget files = on_form (source_form parts) budget files
 
--- the answer of a line of words over these files
-abbrev pub answer : List (List ℕ) → Files → Script
-answer words files = on_command (command_of words) files
+-- a file of a source that is no text is refused, or its text is read
+abbrev pub on_text : SourcesRead → List ℕ → Option Bytes → ℕ → Files → Script
+on_text sources name None budget files = Says (file_line name file.NotUtf8) (Ends ended.File)
+on_text sources name (Some text) budget files = on_source (sources.answer_for text) budget files
+
+-- words that are no command are refused, or the file of the source is read
+abbrev pub on_command : SourcesRead → Option Command → Files → Script
+on_command sources None files = Says usage_line (Ends ended.Usage)
+on_command sources (Some (Run name budget)) files = load_one SOURCE_LIMIT name files (λ bytes. on_text sources name (text_of bytes) budget files)
+
+-- the answer of a line of words over these files, where sources are read as they are
+abbrev pub answer : SourcesRead → List (List ℕ) → Files → Script
+answer sources words files = on_command sources (command_of words) files

@@ -1,5 +1,7 @@
 -- A runtime fault of a command: the first of the one-thread meaning.
 use Rattle.std.specs.Prelude.{◌≡◌, ℕ, true, List, Some, None, Ok}
+use Rattle.ds2_base.specs.Bytes.{Bytes}
+use Rattle.ds2_base.specs.Text.{text_of}
 use Rattle.ds2_base.specs.declared.place.Place.{Place}
 use Rattle.ds2_value.specs.declared.fault.Fault.{Fault}
 use Rattle.ds2_value.specs.declared.fault.Ending.TheVariants.{Faulted}
@@ -7,7 +9,9 @@ use Rattle.ds2_table.specs.Table.{Contents}
 use Rattle.ds2_csv.specs.Reads.{reads}
 use Rattle.ds2_draft_meaning.specs.Names.{first_unknown}
 use Rattle.ds2_draft_meaning.specs.Program.{one_thread_answer}
-use Rattle.ds2_draft_source.specs.Source.{Source, source_of}
+use Rattle.ds2_tree.specs.Units.{SourcePart}
+use Rattle.ds2_compile.specs.SourceAnswer.{IsSourceAnswer}
+use Rattle.ds2_draft_forms.specs.Forms.{DataForm, source_form}
 use Rattle.ds2_outside.specs.Files.{Files, file}
 use Rattle.ds2_top.specs.declared.words.Command.TheVariants.{Run}
 use Rattle.ds2_top.specs.declared.run.TheConstants.{SOURCE_LIMIT, TABLE_LIMIT}
@@ -22,13 +26,17 @@ use Rattle.ds2_top.specs.Words.{command_of}
 pub record FirstFault (words : List (List ℕ)) (files : Files) (fault : Fault) (place : Place) : Type 0 where
   pub name : List ℕ
   pub budget : ℕ
-  pub text : List ℕ
-  pub source : Source
-  pub bytes : List ℕ
+  pub held : Bytes
+  pub text : Bytes
+  pub parts : List SourcePart
+  pub source : DataForm
+  pub bytes : Bytes
   pub table : Contents
   pub command_is : command_of words ≡ Some (Run name budget)
-  pub text_is : within_limit SOURCE_LIMIT (file files name) ≡ Ok text
-  pub source_is : source_of text ≡ Some source
+  pub held_is : within_limit SOURCE_LIMIT (file files name) ≡ Ok held
+  pub text_is : text_of held ≡ Some text
+  pub parts_are : IsSourceAnswer text (Ok parts)
+  pub source_is : source_form parts ≡ Some source
   pub bytes_are : within_limit TABLE_LIMIT (file files (table_file source.table)) ≡ Ok bytes
   pub table_is : reads bytes ≡ Ok table
   pub built : is_built (program_over source table.columns) ≡ true

@@ -1,5 +1,6 @@
 -- What the top call promises.
 use Rattle.std.specs.Prelude.{◌≡◌, ◌⊎◌, ℕ, List, None, IfSome}
+use Rattle.ds2_compile.specs.Laws.{SourcesRead}
 use Rattle.ds2_outside.specs.Files.{Files}
 use Rattle.ds2_top.specs.declared.status.Status.{Status}
 use Rattle.ds2_top.specs.declared.status.Status.TheVariants as ended
@@ -25,15 +26,17 @@ pub record IsAnswered (answer : Script) (files : Files) (before now : Outside) (
 
 -- what a command leaves that ends with this status: the tables, the log and the status of the one-thread meaning of its source
 pub record Headline (words : List (List ℕ)) (before now : Outside) (status : Status) : Type 0 where
+  -- what sources are read as: each text has exactly one answer
+  pub sources : SourcesRead
   -- the files that the store tells or, where it tells none, some files
   pub files : Files
   pub told : IfSome before.files (λ held. held ≡ files)
   -- files and log are those of the answer, or of the answer up to a call that failed
-  pub leaves : Leaves (answer words files) files before now status
+  pub leaves : Leaves (answer sources words files) files before now status
   -- a runtime fault is the first of the one-thread meaning, and its program has written nothing
   pub fault : status ≡ ended.Fault → LeavesFault words files before now
   -- a refusal leaves each file as it was, and its line in the log
-  pub refused : IsRefusal status → LeavesRefusal (answer words files) files before now status
+  pub refused : IsRefusal status → LeavesRefusal (answer sources words files) files before now status
   -- words that are no command are refused, and no others
   pub usage : (status ≡ ended.Usage → command_of words ≡ None) × (command_of words ≡ None → (status ≡ ended.Usage) ⊎ (status ≡ ended.Memory))
   -- a fault of the outside has a cause
@@ -41,4 +44,4 @@ pub record Headline (words : List (List ℕ)) (before now : Outside) (status : S
   pub write_fault : status ≡ ended.Write → WritesRose before now
   pub log_fault : status ≡ ended.Log → LogRose before now
   -- where no call has failed, all is as in the answer, but for want of memory
-  pub answered : (ReadsRose before now → ⊥) → (WritesRose before now → ⊥) → (LogRose before now → ⊥) → IsAnswered (answer words files) files before now status ⊎ (status ≡ ended.Memory)
+  pub answered : (ReadsRose before now → ⊥) → (WritesRose before now → ⊥) → (LogRose before now → ⊥) → IsAnswered (answer sources words files) files before now status ⊎ (status ≡ ended.Memory)

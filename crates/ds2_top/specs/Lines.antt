@@ -6,8 +6,13 @@ use Rattle.ds2_value.specs.declared.fault.Fault.{Fault}
 use Rattle.ds2_value.specs.declared.fault.Fault.TheVariants.{Overflow, DivideByZero, Range, NoWhen, BudgetSpent, DepthReached}
 use Rattle.ds2_csv.specs.declared.refusal.CsvKind.{CsvKind}
 use Rattle.ds2_csv.specs.declared.refusal.CsvKind.TheVariants as csv
-use Rattle.ds2_top.specs.declared.lines.SourceKind.{SourceKind}
-use Rattle.ds2_top.specs.declared.lines.SourceKind.TheVariants.{NotBuilt, UnknownName}
+use Rattle.ds2_token.specs.declared.kinds.LexKind.{LexKind}
+use Rattle.ds2_token.specs.declared.kinds.LexKind.TheVariants.{BadCharacter, OpenText, OpenComment, NumberTooLong, DoubleConstant, BadName, TextTooLong}
+use Rattle.ds2_grammar.specs.declared.kind.ParseKind.{ParseKind}
+use Rattle.ds2_grammar.specs.declared.kind.ParseKind.TheVariants.{Unexpected, TooDeep}
+use Rattle.ds2_compile.specs.declared.kinds.SourceKind.TheVariants.{Lex, Parse}
+use Rattle.ds2_top.specs.declared.lines.SourceReason.{SourceReason}
+use Rattle.ds2_top.specs.declared.lines.SourceReason.TheVariants.{Text, NotBuilt, UnknownName}
 use Rattle.ds2_top.specs.declared.load.FileKind.{FileKind}
 use Rattle.ds2_top.specs.declared.load.FileKind.TheVariants as file
 
@@ -49,6 +54,7 @@ table_place csv.BadCell row column = codes " at row " ++ (decimal row ++ (codes 
 abbrev pub kind_text : FileKind → List ℕ
 kind_text file.Absent = codes "Absent.\n"
 kind_text file.TooLarge = codes "TooLarge.\n"
+kind_text file.NotUtf8 = codes "NotUtf8.\n"
 kind_text (file.Table refusal) = table_kind_text refusal.kind ++ table_place refusal.kind refusal.row refusal.column
 
 -- a file is refused
@@ -59,14 +65,31 @@ file_line name kind = codes "ERROR: File " ++ (name ++ (codes " refused: " ++ ki
 abbrev pub at_place : Place → List ℕ → List ℕ
 at_place place rest = codes " at " ++ (decimal place.line ++ (codes ":" ++ (decimal place.column ++ rest)))
 
--- the name of a kind
-abbrev pub source_kind_text : SourceKind → List ℕ
-source_kind_text NotBuilt = codes "NotBuilt"
-source_kind_text UnknownName = codes "UnknownName"
+-- the name of a lexer's kind
+abbrev pub lex_kind_text : LexKind → List ℕ
+lex_kind_text BadCharacter = codes "BadCharacter"
+lex_kind_text OpenText = codes "OpenText"
+lex_kind_text OpenComment = codes "OpenComment"
+lex_kind_text NumberTooLong = codes "NumberTooLong"
+lex_kind_text DoubleConstant = codes "DoubleConstant"
+lex_kind_text BadName = codes "BadName"
+lex_kind_text TextTooLong = codes "TextTooLong"
+
+-- the name of a parser's kind
+abbrev pub parse_kind_text : ParseKind → List ℕ
+parse_kind_text Unexpected = codes "Unexpected"
+parse_kind_text TooDeep = codes "TooDeep"
+
+-- the name of the reason why a source is refused
+abbrev pub reason_text : SourceReason → List ℕ
+reason_text (Text (Lex kind)) = lex_kind_text kind
+reason_text (Text (Parse kind)) = parse_kind_text kind
+reason_text NotBuilt = codes "NotBuilt"
+reason_text UnknownName = codes "UnknownName"
 
 -- a source is refused
-abbrev pub source_line : SourceKind → Place → List ℕ
-source_line kind place = codes "ERROR: Source refused: " ++ (source_kind_text kind ++ at_place place (codes ".\n"))
+abbrev pub source_line : SourceReason → Place → List ℕ
+source_line reason place = codes "ERROR: Source refused: " ++ (reason_text reason ++ at_place place (codes ".\n"))
 
 -- the name of a fault
 abbrev pub fault_text : Fault → List ℕ

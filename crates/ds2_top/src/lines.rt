@@ -1,17 +1,22 @@
 //! The lines of the log. Each ends with a line feed. A new line touches the files that docs/ARCHITECTURE.md lists under 'To add a
 //! log line'.
 ghost use Rattle.std.specs.Prelude.{◌≡◌, ◌++◌, IfOk, OnOk, string_bytes};
-ghost use Rattle.ds2_top.specs.Lines.{error_line, fault_line, fault_text, file_line, source_kind_text, source_line, table_kind_text, table_line};
+ghost use Rattle.ds2_top.specs.Lines.{error_line, fault_line, fault_text, file_line, lex_kind_text, parse_kind_text, reason_text, source_line, table_kind_text, table_line};
 
 use crate::load::FileKind;
 use ds2_base::{Bytes, OutOfMemory, Place, Text};
+use ds2_compile::SourceKind;
 use ds2_csv::{CsvKind, CsvRefusal};
+use ds2_grammar::ParseKind;
+use ds2_token::LexKind;
 use ds2_value::Fault;
 use std::alloc::{AllocError, Global};
 
 /// Why a source is refused. A new reason touches the files that docs/ARCHITECTURE.md lists under 'To add a refusal'.
 #[derive(Clone, Copy, Debug, PartialEq, Eq)]
-pub enum SourceKind {
+pub enum SourceReason {
+    /// Its text is no source.
+    Text(SourceKind),
     /// It is in a form that isn't built yet.
     NotBuilt,
     /// A name is neither declared nor a column.
@@ -69,25 +74,51 @@ fn file_line(alloc: Global, name: &str, kind: FileKind) -> Result<String, AllocE
     match kind {
         FileKind::Absent => format!(in alloc; "ERROR: File {name} refused: Absent.\n"),
         FileKind::TooLarge => format!(in alloc; "ERROR: File {name} refused: TooLarge.\n"),
+        FileKind::NotUtf8 => format!(in alloc; "ERROR: File {name} refused: NotUtf8.\n"),
         FileKind::Table(refusal) => refused_table_line(alloc, name, refusal),
     }
 }
 
-fn source_kind_text(kind: SourceKind) -> &'static str
-    ensures { result.now ≡ source_kind_text kind }
+fn lex_kind_text(kind: LexKind) -> &'static str
+    ensures { result.now ≡ lex_kind_text kind }
 {
     match kind {
-        SourceKind::NotBuilt => "NotBuilt",
-        SourceKind::UnknownName => "UnknownName",
+        LexKind::BadCharacter => "BadCharacter",
+        LexKind::OpenText => "OpenText",
+        LexKind::OpenComment => "OpenComment",
+        LexKind::NumberTooLong => "NumberTooLong",
+        LexKind::DoubleConstant => "DoubleConstant",
+        LexKind::BadName => "BadName",
+        LexKind::TextTooLong => "TextTooLong",
+    }
+}
+
+fn parse_kind_text(kind: ParseKind) -> &'static str
+    ensures { result.now ≡ parse_kind_text kind }
+{
+    match kind {
+        ParseKind::Unexpected => "Unexpected",
+        ParseKind::TooDeep => "TooDeep",
+    }
+}
+
+fn reason_text(reason: SourceReason) -> &'static str
+    ensures { result.now ≡ reason_text reason }
+{
+    match reason {
+        SourceReason::Text(SourceKind::Lex(kind)) => lex_kind_text(kind),
+        SourceReason::Text(SourceKind::Parse(kind)) => parse_kind_text(kind),
+        SourceReason::NotBuilt => "NotBuilt",
+        SourceReason::UnknownName => "UnknownName",
     }
 }
 
 /// `ERROR: Source refused: KIND at L:C.`
-fn source_line(alloc: Global, kind: SourceKind, place: Place) -> Result<String, AllocError>
-    ensures { IfOk result (λ line. string_bytes line ≡ source_line kind place) }
+fn source_line(alloc: Global, reason: SourceReason, place: Place) -> Result<String, AllocError>
+    ensures { IfOk result (λ line. string_bytes line ≡ source_line reason place) }
 {
     let Place { line, column } = place;
-    let kind = source_kind_text(kind);
+    let kind = reason_text(reason);
     format!(in alloc; "ERROR: Source refused: {kind} at {line}:{column}.\n")
 }
 
@@ -135,13 +166,13 @@ pub(crate) fn say_refused(
 /// Adds the line on a source that is refused.
 pub(crate) fn say_source_refused(
     alloc: Global,
-    kind: SourceKind,
+    reason: SourceReason,
     place: Place,
     log: &mut Bytes,
 ) -> Result<(), OutOfMemory>
-    ensures { OnOk result (log.new ≡ log.old ++ source_line kind place) }
+    ensures { OnOk result (log.new ≡ log.old ++ source_line reason place) }
 {
-    let line = source_line(alloc, kind, place)?;
+    let line = source_line(alloc, reason, place)?;
     log.append(line.as_str().as_bytes())
 }
 

@@ -19,6 +19,8 @@ pub enum FileKind {
     Absent,
     /// It is longer than its limit.
     TooLarge,
+    /// It is a source, and its bytes are not UTF-8.
+    NotUtf8,
     /// Its bytes are no table.
     Table(CsvRefusal),
 }

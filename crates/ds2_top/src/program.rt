@@ -5,16 +5,16 @@ ghost use Rattle.ds2_draft_meaning.specs.Names.{AllKnown};
 ghost use Rattle.ds2_draft_meaning.specs.Program.{one_thread_answer};
 ghost use Rattle.ds2_draft_meaning.specs.View.{program_of};
 ghost use Rattle.ds2_draft_layout.specs.Slots.{slot_names};
-ghost use Rattle.ds2_draft_source.specs.Source.{tree_of};
+ghost use Rattle.ds2_draft_forms.specs.Forms.{form_tree};
 ghost use Rattle.ds2_top.specs.declared.words.TheConstants.{MOST_BUDGET};
 ghost use Rattle.ds2_top.specs.Answer.{IsEndOf, program_over};
 
 use crate::output_text::OutputText;
 use ds2_base::{Bytes, List, Name, OutOfMemory};
+use ds2_draft_forms::DataForm;
 use ds2_draft_gen::generate;
 use ds2_draft_layout::{Layout, variables};
 use ds2_draft_meaning::TypedData;
-use ds2_draft_source::Source;
 use ds2_draft_unit::run_into;
 use ds2_value::{Column, Ending, Row, Ty};
 use std::alloc::Global;
@@ -36,14 +36,14 @@ fn bigint_columns(alloc: Global, names: &[Name]) -> Result<List<Column>, OutOfMe
 /// The program of a source over the columns of its table.
 pub(crate) fn program_over(
     alloc: Global,
-    source: Source,
+    source: DataForm,
     columns: List<Column>,
 ) -> Result<TypedData, OutOfMemory>
-    ensures program { IfOk result (λ program. program_of program ≡ program_over (tree_of source) columns) }
+    ensures program { IfOk result (λ program. program_of program ≡ program_over (form_tree source) columns) }
     ensures output { IfOk result (λ program. program.output ≡ source.output) }
 {
     let declared = bigint_columns(alloc, source.declared.as_slice())?;
-    let Source {
+    let DataForm {
         output,
         table,
         body,

@@ -3,29 +3,35 @@ ghost use Rattle.std.specs.Prelude.{◌≡◌, ◌≤◌, true, All, IfOk, IsTru
 ghost use Rattle.ds2_draft_meaning.specs.Names.{AllKnown};
 ghost use Rattle.ds2_draft_meaning.specs.View.{program_of};
 ghost use Rattle.ds2_draft_layout.specs.Slots.{slot_names};
-ghost use Rattle.ds2_draft_source.specs.Source.{source_of, tree_of};
+ghost use Rattle.ds2_base.specs.Text.{text_of};
+ghost use Rattle.ds2_compile.specs.Laws.{SourcesRead};
+ghost use Rattle.ds2_draft_forms.specs.Forms.{form_tree, source_form};
+ghost use Rattle.ds2_tree.specs.UnitViews.{source_tree};
 ghost use Rattle.ds2_csv.specs.Reads.{reads};
 ghost use Rattle.ds2_top.specs.declared.words.Command.TheVariants.{Run};
 ghost use Rattle.ds2_top.specs.declared.words.TheConstants.{MOST_BUDGET};
-ghost use Rattle.ds2_top.specs.Answer.{answer, on_built, on_command, on_names, on_program, on_source, on_table};
+ghost use Rattle.ds2_top.specs.Answer.{answer, on_built, on_command, on_form, on_names, on_program, on_source, on_table, on_text};
 ghost use Rattle.ds2_top.specs.Halt.{Caused, DoesAll};
 ghost use Rattle.ds2_top.specs.Load.{OverFiles};
 ghost use Rattle.ds2_top.specs.Words.{budget_in, is_source, source_in};
 
 use crate::built::is_built;
-use crate::lines::{SourceKind, say_refused, say_source_refused};
+use crate::lines::{SourceReason, say_refused, say_source_refused};
 use crate::load::{FileKind, load_one};
 use crate::outputs::{finish, table_file};
 use crate::program::{one_thread_end, program_over};
 use crate::words::{Command, read_words};
 use crate::{Halt, Status};
 use ds2_base::{Bytes, Place, Stop, Text};
+use ds2_compile::laws::one_source_answer;
+use ds2_compile::{SourceRefusal, read_source};
 use ds2_csv::{MOST_BYTES, read_table};
+use ds2_draft_forms::{DataForm, read_form};
 use ds2_draft_layout::{Layout, first_unknown, lay_out};
 use ds2_draft_meaning::TypedData;
-use ds2_draft_source::{Source, read_source};
 use ds2_outside::Store;
 use ds2_table::Table;
+use ds2_tree::Source;
 use ds2_value::{Row, copy_columns};
 use std::alloc::Global;
 
@@ -76,7 +82,7 @@ fn run_built<S: Store>(
     match first_unknown(&layout, program) {
         None => run_known(alloc, program, &layout, rows, budget, log, store),
         Some(place) => {
-            say_source_refused(alloc, SourceKind::UnknownName, place, log)?;
+            say_source_refused(alloc, SourceReason::UnknownName, place, log)?;
             Err(Halt::Ended(Status::Source))
         }
     }
@@ -100,7 +106,7 @@ fn run_program<S: Store>(
     if is_built(alloc, program)? {
         run_built(alloc, program, rows, budget, log, store)
     } else {
-        say_source_refused(alloc, SourceKind::NotBuilt, Place::start(), log)?;
+        say_source_refused(alloc, SourceReason::NotBuilt, Place::start(), log)?;
         Err(Halt::Ended(Status::Source))
     }
 }
@@ -108,14 +114,14 @@ fn run_program<S: Store>(
 // Runs a source over its table.
 fn run_table<S: Store>(
     alloc: Global,
-    source: Source,
+    source: DataForm,
     table: &Table,
     budget: u64,
     log: &mut Bytes,
     store: &mut S,
 ) -> Result<(), Halt>
     requires budget { budget ≤ MOST_BUDGET }
-    ensures does { DoesAll (on_table (tree_of source) budget (Ok table.now)) log.old (S.files store.old) result log.new (S.files store.new) }
+    ensures does { DoesAll (on_table (form_tree source) budget (Ok table.now)) log.old (S.files store.old) result log.new (S.files store.new) }
     ensures read { Caused Status.Read result (S.read_faults store.old) (S.read_faults store.new) }
     ensures write { Caused Status.Write result (S.write_faults store.old) (S.write_faults store.new) }
 {
@@ -127,14 +133,14 @@ fn run_table<S: Store>(
 // Runs a source over the bytes of its table, or refuses them.
 fn run_bytes<S: Store>(
     alloc: Global,
-    source: Source,
+    source: DataForm,
     bytes: &Bytes,
     budget: u64,
     log: &mut Bytes,
     store: &mut S,
 ) -> Result<(), Halt>
     requires { budget ≤ MOST_BUDGET }
-    ensures does { DoesAll (on_table (tree_of source) budget (reads bytes.now)) log.old (S.files store.old) result log.new (S.files store.new) }
+    ensures does { DoesAll (on_table (form_tree source) budget (reads bytes.now)) log.old (S.files store.old) result log.new (S.files store.new) }
     ensures read { Caused Status.Read result (S.read_faults store.old) (S.read_faults store.new) }
     ensures write { Caused Status.Write result (S.write_faults store.old) (S.write_faults store.new) }
 {
@@ -152,13 +158,13 @@ fn run_bytes<S: Store>(
 // Reads the table of a source, and goes on.
 fn run_source<S: Store>(
     alloc: Global,
-    source: Source,
+    source: DataForm,
     budget: u64,
     log: &mut Bytes,
     store: &mut S,
 ) -> Result<(), Halt>
     requires { budget ≤ MOST_BUDGET }
-    ensures does { OverFiles (S.files store.old) (λ files. DoesAll (on_source (Some (tree_of source)) budget files) log.old (S.files store.old) result log.new (S.files store.new)) }
+    ensures does { OverFiles (S.files store.old) (λ files. DoesAll (on_form (Some (form_tree source)) budget files) log.old (S.files store.old) result log.new (S.files store.new)) }
     ensures read { Caused Status.Read result (S.read_faults store.old) (S.read_faults store.new) }
     ensures write { Caused Status.Write result (S.write_faults store.old) (S.write_faults store.new) }
 {
@@ -167,24 +173,71 @@ fn run_source<S: Store>(
     run_bytes(alloc, source, &bytes, budget, log, store)
 }
 
-// Runs the source of a text, or refuses it.
-fn run_text<S: Store>(
+// Runs the tree of a source, or refuses it where it has a form that isn't built yet.
+fn run_tree<S: Store>(
     alloc: Global,
-    text: &Bytes,
+    tree: &Source,
     budget: u64,
     log: &mut Bytes,
     store: &mut S,
 ) -> Result<(), Halt>
     requires { budget ≤ MOST_BUDGET }
-    ensures does { OverFiles (S.files store.old) (λ files. DoesAll (on_source (source_of text.now) budget files) log.old (S.files store.old) result log.new (S.files store.new)) }
+    ensures does { OverFiles (S.files store.old) (λ files. DoesAll (on_form (source_form (source_tree tree.now)) budget files) log.old (S.files store.old) result log.new (S.files store.new)) }
     ensures read { Caused Status.Read result (S.read_faults store.old) (S.read_faults store.new) }
     ensures write { Caused Status.Write result (S.write_faults store.old) (S.write_faults store.new) }
 {
-    match read_source(alloc, text.as_slice())? {
+    match read_form(alloc, tree)? {
         Some(source) => run_source(alloc, source, budget, log, store),
         None => {
-            say_source_refused(alloc, SourceKind::NotBuilt, Place::start(), log)?;
+            say_source_refused(alloc, SourceReason::NotBuilt, Place::start(), log)?;
             Err(Halt::Ended(Status::Source))
+        }
+    }
+}
+
+// Runs the source of a text, or refuses it.
+fn run_text<S: Store>(
+    alloc: Global,
+    text: &Text,
+    budget: u64,
+    log: &mut Bytes,
+    store: &mut S,
+) -> Result<(), Halt>
+    requires { budget ≤ MOST_BUDGET }
+    ensures does { (sources : SourcesRead) → OverFiles (S.files store.old) (λ files. DoesAll (on_source (sources.answer_for text.now) budget files) log.old (S.files store.old) result log.new (S.files store.new)) }
+    ensures read { Caused Status.Read result (S.read_faults store.old) (S.read_faults store.new) }
+    ensures write { Caused Status.Write result (S.write_faults store.old) (S.write_faults store.new) }
+{
+    one_source_answer();
+    match read_source(alloc, text) {
+        Ok(tree) => run_tree(alloc, &tree, budget, log, store),
+        Err(Stop::Refused(SourceRefusal { kind, place })) => {
+            say_source_refused(alloc, SourceReason::Text(kind), place, log)?;
+            Err(Halt::Ended(Status::Source))
+        }
+        Err(Stop::OutOfMemory) => Err(Halt::OutOfMemory),
+    }
+}
+
+// Runs the source of a file's bytes, or refuses the file where they are no text.
+fn run_file<S: Store>(
+    alloc: Global,
+    name: &Text,
+    bytes: Bytes,
+    budget: u64,
+    log: &mut Bytes,
+    store: &mut S,
+) -> Result<(), Halt>
+    requires { budget ≤ MOST_BUDGET }
+    ensures does { (sources : SourcesRead) → OverFiles (S.files store.old) (λ files. DoesAll (on_text sources name.now (text_of bytes) budget files) log.old (S.files store.old) result log.new (S.files store.new)) }
+    ensures read { Caused Status.Read result (S.read_faults store.old) (S.read_faults store.new) }
+    ensures write { Caused Status.Write result (S.write_faults store.old) (S.write_faults store.new) }
+{
+    match Text::from_bytes(bytes) {
+        Some(text) => run_text(alloc, &text, budget, log, store),
+        None => {
+            say_refused(alloc, name, FileKind::NotUtf8, log)?;
+            Err(Halt::Ended(Status::File))
         }
     }
 }
@@ -199,12 +252,12 @@ fn run_command<S: Store>(
 ) -> Result<(), Halt>
     requires budget { budget ≤ MOST_BUDGET }
     requires named { IsTrue (is_source name.now) }
-    ensures does { OverFiles (S.files store.old) (λ files. DoesAll (on_command (Some (Run name.now budget)) files) log.old (S.files store.old) result log.new (S.files store.new)) }
+    ensures does { (sources : SourcesRead) → OverFiles (S.files store.old) (λ files. DoesAll (on_command sources (Some (Run name.now budget)) files) log.old (S.files store.old) result log.new (S.files store.new)) }
     ensures read { Caused Status.Read result (S.read_faults store.old) (S.read_faults store.new) }
     ensures write { Caused Status.Write result (S.write_faults store.old) (S.write_faults store.new) }
 {
-    let text = load_one(alloc, name, SOURCE_LIMIT, log, store)?;
-    run_text(alloc, &text, budget, log, store)
+    let bytes = load_one(alloc, name, SOURCE_LIMIT, log, store)?;
+    run_file(alloc, name, bytes, budget, log, store)
 }
 
 // Does a command.
@@ -216,7 +269,7 @@ fn do_command<S: Store>(
 ) -> Result<(), Halt>
     requires budget { budget_in command.now ≤ MOST_BUDGET }
     requires named { IsTrue (is_source (source_in command.now)) }
-    ensures does { OverFiles (S.files store.old) (λ files. DoesAll (on_command (Some command.now) files) log.old (S.files store.old) result log.new (S.files store.new)) }
+    ensures does { (sources : SourcesRead) → OverFiles (S.files store.old) (λ files. DoesAll (on_command sources (Some command.now) files) log.old (S.files store.old) result log.new (S.files store.new)) }
     ensures read { Caused Status.Read result (S.read_faults store.old) (S.read_faults store.new) }
     ensures write { Caused Status.Write result (S.write_faults store.old) (S.write_faults store.new) }
 {
@@ -230,7 +283,7 @@ pub(crate) fn run<S: Store>(
     log: &mut Bytes,
     store: &mut S,
 ) -> Result<(), Halt>
-    ensures does { OverFiles (S.files store.old) (λ files. DoesAll (answer words.now files) log.old (S.files store.old) result log.new (S.files store.new)) }
+    ensures does { (sources : SourcesRead) → OverFiles (S.files store.old) (λ files. DoesAll (answer sources words.now files) log.old (S.files store.old) result log.new (S.files store.new)) }
     ensures read { Caused Status.Read result (S.read_faults store.old) (S.read_faults store.new) }
     ensures write { Caused Status.Write result (S.write_faults store.old) (S.write_faults store.new) }
 {

@@ -6,6 +6,7 @@ use crate::report::{report, report_memory};
 use crate::run::run;
 use crate::{Halt, Status};
 use ds2_base::{List, Text};
+use ds2_compile::laws::sources_are_read;
 use ds2_outside::{Gate, Sink, Store};
 use std::alloc::Global;
 use std::sync::Wait;
@@ -26,6 +27,7 @@ pub fn ds2_alone<T: Store, L: Sink>(
         (record { files = T.files store.new; log = L.written log.new; read_faults = T.read_faults store.new; write_faults = T.write_faults store.new; log_faults = L.faults log.new })
         result }
 {
+    sources_are_read();
     let mut text = List::new(alloc);
     match run(alloc, words, &mut text, store) {
         Ok(()) => report(Status::Done, &text, log),

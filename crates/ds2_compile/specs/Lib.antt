@@ -1,0 +1,2 @@
+pub mod SourceAnswer
+pub mod Laws

@@ -1,0 +1,37 @@
+//! The tree of a source.
+ghost use Rattle.ds2_compile.specs.SourceAnswer.{GivesAnswerForTokens, GivesSourceAnswer};
+
+use crate::{SourceKind, SourceRefusal};
+use ds2_base::{List, Place, Refusal, Stop, Text};
+use ds2_parse::parse;
+use ds2_token::{Token, end_place, tokens};
+use ds2_tree::Source;
+use std::alloc::Global;
+
+// The tree of the tokens of a text that ends at `end`.
+fn parsed(alloc: Global, tokens: &List<Token>, end: Place) -> Result<Source, Stop<SourceRefusal>>
+    ensures { GivesAnswerForTokens end tokens.now result }
+{
+    match parse(alloc, tokens, end) {
+        Ok(source) => Ok(source),
+        Err(Stop::Refused(Refusal { kind, place })) => Err(Stop::Refused(SourceRefusal {
+            kind: SourceKind::Parse(kind),
+            place,
+        })),
+        Err(Stop::OutOfMemory) => Err(Stop::OutOfMemory),
+    }
+}
+
+/// The syntax tree of a text. It is refused with the lexer's first refusal or, where all of it is tokens, with the parser's.
+pub fn read_source(alloc: Global, text: &Text) -> Result<Source, Stop<SourceRefusal>>
+    ensures { GivesSourceAnswer text.now result }
+{
+    match tokens(alloc, text) {
+        Ok(tokens) => parsed(alloc, &tokens, end_place(text)),
+        Err(Stop::Refused(Refusal { kind, place })) => Err(Stop::Refused(SourceRefusal {
+            kind: SourceKind::Lex(kind),
+            place,
+        })),
+        Err(Stop::OutOfMemory) => Err(Stop::OutOfMemory),
+    }
+}

@@ -1,6 +1,0 @@
-pub mod LexerLemmas
-pub mod Examples
-pub mod RepeatedLemmas
-pub mod TreeLemmas
-pub mod ProgramLemmas
-pub mod SpellingLemmas

@@ -1,7 +1,0 @@
-use Rattle.std.proofs.Common.{rules}
-use Rattle.ds2_draft_source.proofs.RepeatedLemmas.{one_read}
-use Rattle.ds2_draft_source.proofs.statement.+statement.Goals as goal
-
-pub else_ifs-loop-alloc-preserved : goal.else_ifs-loop-alloc-preserved
-else_ifs-loop-alloc-preserved t c =
-    one_read _ _ _ _ _ _ _ _ c.in_ok-next.next c.loop-alloc.invariant (search rules) c.in_ok-next.ensures.reads c.in_ok-next.ensures.shorter c.in_ok-push.ensures.ok
