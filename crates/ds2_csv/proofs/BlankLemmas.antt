@@ -2,11 +2,9 @@
 use Rattle.std.proofs.Common.{◌≡◌, ◌≤◌, ◌<◌, ◌+◌, ℕ, zero, suc, Bool, true, false, List, [], ◌∷◌, ◌++◌, ◌-◌, Option, Some, None, length, get_or, take, refl, sym, ap, ◌∙◌, arith, length-append}
 use Rattle.std.specs.Prelude.{if◌then◌else◌, not, option_map, ◌||◌, ◌==◌, IfSome}
 use Rattle.std.specs.Option.{option_map_or, option_or}
-use Rattle.std.specs.List.{prefix_len}
-use Rattle.std.specs.Str.{IsUtf8, IsCharBoundary}
+use Rattle.std.specs.Str.{IsCharBoundary}
 use Rattle.std.proofs.Math.Seq.{take-suc}
 use Rattle.std.proofs.lemmas.Bool.{eqb-true}
-use Rattle.std.proofs.lemmas.Str.{IsCharBoundary-after_ascii, IsCharBoundary-start}
 use Rattle.ds2_csv_cells.specs.Spelling.{is_blank}
 use Rattle.ds2_csv.specs.Header.{last_place, without_last_blanks}
 
@@ -106,25 +104,6 @@ end-found xs whole n m some within is text before =
     ap (λ k. take k xs) e ∙ take-suc xs m 0 (omega arith) ∙ sym (ends-text (take m xs) (get_or xs m 0) text) ∙ ap without_last_blanks (sym (take-suc xs m 0 (omega arith)))
     ∙ ap (λ k. without_last_blanks (take k xs)) (sym e) ∙ before
 
--- so many items pass, and no more
-pub prefix-is : (test : ℕ → Bool) (xs : List ℕ) (i : ℕ) → i ≤ length xs → ((k : ℕ) → k < i → test (get_or xs k 0) ≡ true) → (i < length xs → test (get_or xs i 0) ≡ false) → prefix_len test xs ≡ i
-prefix-is test [] zero h pass stop = refl
-prefix-is test [] (suc i) h pass stop = absurd (omega arith)
-prefix-is test (x ∷ xs) zero h pass stop = rw (stop (omega arith)) refl
-prefix-is test (x ∷ xs) (suc i) h pass stop =
-    let more = prefix-is test xs i (omega arith) (λ k l. pass (suc k) (omega arith)) (λ l. stop (omega arith)) in
-    rw (pass 0 (omega arith), more) (omega arith)
-
 -- a text may be cut at its blanks
 pub cut-end : (xs : List ℕ) (i : ℕ) → i ≤ length xs → (i < length xs → get_or xs i 0 < 128) → IsCharBoundary xs i
 cut-end xs i within blank = (within, λ l g. absurd (let b = blank l in omega arith))
-
-pub cut-start : (xs : List ℕ) (i : ℕ) → IsUtf8 xs → i ≤ length xs → (0 < i → get_or xs (i - 1) 0 < 128) → IsCharBoundary xs i
-cut-start xs zero u within blank = IsCharBoundary-start xs u
-cut-start xs (suc i) u within blank =
-    let b : get_or xs i 0 < 128 = by (blank (omega arith)) in
-    let e : i + 1 ≡ suc i = omega arith in
-    rw e at (IsCharBoundary-after_ascii xs i u (omega arith) b)
-  where
-    by : get_or xs (suc i - 1) 0 < 128 → get_or xs i 0 < 128
-    by h = let e : suc i - 1 ≡ i = omega arith in rw e at h

@@ -1,7 +1,5 @@
 -- A column's cells, one after the other.
-use Rattle.std.proofs.Common.{drop, get_or, append_assoc, ◌≡◌, ◌≤◌, ◌<◌, ◌+◌, ℕ, zero, suc, Bool, true, false, List, [], ◌∷◌, ◌++◌, length, take, max, refl, sym, ap, ◌∙◌, arith, unwrap_or, slice_get, length-append}
-use Rattle.std.specs.Prelude.{not, nat_lt, cond}
-use Rattle.std.proofs.lemmas.Bool.Decides.{nat_tests}
+use Rattle.std.proofs.Common.{drop, get_or, append_assoc, ◌≡◌, ◌≤◌, ◌<◌, ◌+◌, ℕ, zero, suc, List, [], ◌∷◌, ◌++◌, length, take, refl, sym, ap, ◌∙◌, arith, unwrap_or, slice_get}
 use Rattle.ds2_csv.specs.Columns.{cell_at, cells_of, column_of, columns_from}
 use Rattle.ds2_csv.specs.declared.heading.Heading.{Heading}
 use Rattle.ds2_value.specs.declared.schema.Column.{Column}

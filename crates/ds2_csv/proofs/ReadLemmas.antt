@@ -23,7 +23,7 @@ use Rattle.std.specs.Borrow.{Bor}
 use Rattle.std.proofs.lemmas.List.{length-map, take_all}
 use Rattle.csv.specs.Reading.{strip_bom}
 use Rattle.ds2_csv_records.specs.Cells.{spelled}
-use Rattle.ds2_csv_records.specs.Reading.{records_left, IsNext, Holds}
+use Rattle.ds2_csv_records.specs.Reading.{records_left, IsNext}
 use Rattle.ds2_csv_records.specs.declared.cell.Cell.{Cell}
 use Rattle.ds2_csv_records.specs.declared.read.Record.{Record}
 use Rattle.ds2_csv.proofs.Reading.{sheet-large, sheet-whole}

@@ -1,11 +1,11 @@
 -- Rows that were taken from a text, one after the other.
-use Rattle.std.proofs.Common.{◌≡◌, ◌≢◌, ◌+◌, ◌-◌, ◌*◌, ◌<◌, ◌≤◌, ◌==◌, ◌∷◌, ◌++◌, [], ℕ, zero, suc, List, Bool, true, false, Option, Some, None, length, take, refl, sym, ap, ◌∙◌, arith, append_assoc, length-append}
+use Rattle.std.proofs.Common.{◌≡◌, ◌≢◌, ◌+◌, ◌-◌, ◌*◌, ◌≤◌, ◌==◌, ◌∷◌, ◌++◌, [], ℕ, suc, List, Bool, true, false, Some, None, length, refl, sym, ap, ◌∙◌, arith, append_assoc, length-append}
 use Rattle.std.proofs.lemmas.Bool.{ne_eqb, ltb-false, eqb-true, eq-eqb}
 use Rattle.std.proofs.lemmas.List.{append-nil, take_all}
 use Rattle.std.specs.Prelude.{if◌then◌else◌, map, nat_lt, Ok, Err}
 use Rattle.std.specs.Borrow.{Bor}
 use Rattle.ds2_csv_records.specs.Cells.{spelled}
-use Rattle.ds2_csv_records.specs.Reading.{records_left, Holds, IsNext}
+use Rattle.ds2_csv_records.specs.Reading.{records_left, IsNext}
 use Rattle.ds2_csv_records.specs.declared.read.Record.{Record}
 use Rattle.ds2_csv.specs.NextRow.{IsNextRow, row_read}
 use Rattle.ds2_csv.specs.declared.records.RowReader.{RowReader}
@@ -14,7 +14,6 @@ use Rattle.ds2_csv.specs.Refusals.{of_file, of_row}
 use Rattle.ds2_csv.specs.Sheet.{sheet_of}
 use Rattle.ds2_csv.specs.declared.limits.TheConstants.{MOST_CELLS}
 use Rattle.ds2_csv.specs.declared.refusal.CsvKind.TheVariants.{TooLarge, BadRecord}
-use Rattle.ds2_csv.specs.declared.records.Next.{Next}
 use Rattle.ds2_csv.specs.declared.records.Next.TheVariants.{Row, Odd, End}
 
 odd-more : (n i : ℕ) (rs : Rows) (f : List (List ℕ)) → odd_from n i rs ≡ None → length f ≡ n → odd_from n i (rs ++ (f ∷ [])) ≡ None

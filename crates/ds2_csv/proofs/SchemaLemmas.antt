@@ -10,8 +10,10 @@ use Rattle.std.proofs.lemmas.List.Folds.{list_all-append}
 use Rattle.ds2_base.specs.Name.{name_of}
 use Rattle.ds2_base.specs.declared.name.BadName.{BadName}
 use Rattle.ds2_decimal.specs.Text.{read}
+use Rattle.ds2_decimal.specs.declared.dec.TheConstants.{MOST_DIGITS}
 use Rattle.ds2_value.specs.Schema.{has_column, distinct_names, types_in_bounds, is_schema, schema_of}
 use Rattle.ds2_value.specs.Types.{in_bounds, is_from_one}
+use Rattle.ds2_value.specs.declared.ty.TheConstants.{TEXT_CHARACTERS}
 use Rattle.ds2_value.specs.declared.schema.Column.{Column}
 use Rattle.ds2_value.specs.declared.ty.Ty.{Ty}
 use Rattle.ds2_value.specs.declared.ty.Ty.TheVariants.{BigInt, Decimal as DecimalOf, Varchar}
@@ -40,13 +42,13 @@ from-one n limit some few = and_from (nat_le 1 n) (nat_le n limit) (le-leb 1 n s
 
 -- a type out of cells is in bounds
 decimals-bounds : (cells : List (List ℕ)) (other : Ty) → in_bounds other ≡ true → in_bounds (unwrap_or (decimals_of cells) other) ≡ true
-decimals-bounds cells other h = by (some_and_all (λ cell. is_some (read cell)) cells && nat_le (precision_of cells) 38) refl
+decimals-bounds cells other h = by (some_and_all (λ cell. is_some (read cell)) cells && nat_le (precision_of cells) MOST_DIGITS) refl
   where
-    by : (t : Bool) → (some_and_all (λ cell. is_some (read cell)) cells && nat_le (precision_of cells) 38) ≡ t
+    by : (t : Bool) → (some_and_all (λ cell. is_some (read cell)) cells && nat_le (precision_of cells) MOST_DIGITS) ≡ t
         → in_bounds (unwrap_or (if t then Some (DecimalOf (precision_of cells) (greatest digits_after cells)) else None) other) ≡ true
     by true e =
-        let few = leb-true (precision_of cells) 38 (both (some_and_all (λ cell. is_some (read cell)) cells) (nat_le (precision_of cells) 38) e).1 in
-        and_from (is_from_one (precision_of cells) 38) (nat_le (greatest digits_after cells) (precision_of cells)) (from-one (precision_of cells) 38 (omega arith) few)
+        let few = leb-true (precision_of cells) MOST_DIGITS (both (some_and_all (λ cell. is_some (read cell)) cells) (nat_le (precision_of cells) MOST_DIGITS) e).1 in
+        and_from (is_from_one (precision_of cells) MOST_DIGITS) (nat_le (greatest digits_after cells) (precision_of cells)) (from-one (precision_of cells) MOST_DIGITS (omega arith) few)
         (le-leb (greatest digits_after cells) (precision_of cells) (omega arith))
     by false e = h
 
@@ -56,7 +58,7 @@ type-bounds cells = by (are_integers (given cells))
   where
     by : (t : Bool) → in_bounds (if t then BigInt else unwrap_or (decimals_of (given cells)) (Varchar (width_of cells))) ≡ true
     by true = refl
-    by false = decimals-bounds (given cells) (Varchar (width_of cells)) (from-one (width_of cells) 1024 (omega arith) (omega arith))
+    by false = decimals-bounds (given cells) (Varchar (width_of cells)) (from-one (width_of cells) TEXT_CHARACTERS (omega arith) (omega arith))
 
 -- the type that a heading tells, if any, is in bounds
 abbrev is_bounded : Heading → Bool

@@ -1,5 +1,5 @@
 -- The cells of a record, and what they spell.
-use Rattle.std.proofs.Common.{◌≡◌, ◌<◌, ◌+◌, ◌≤◌, ℕ, zero, suc, List, [], ◌∷◌, ◌++◌, Option, Some, None, length, get_or, map, refl, sym, ap, ◌∙◌, arith, unwrap_or, slice_get}
+use Rattle.std.proofs.Common.{◌≡◌, ℕ, zero, suc, List, [], ◌∷◌, Option, Some, map, refl, sym, ap, ◌∙◌, unwrap_or, slice_get}
 use Rattle.csv.specs.Records.{field_at}
 use Rattle.ds2_csv_records.specs.Cells.{spelled}
 use Rattle.ds2_csv_records.specs.declared.cell.Cell.{Cell}

@@ -1,5 +1,5 @@
 -- A table whose text is read back.
-use Rattle.std.specs.Prelude.{◌≡◌, IsTrue, ◌≤◌, ◌*◌, length, Ok}
+use Rattle.std.specs.Prelude.{IsTrue, ◌≤◌, ◌*◌, length}
 use Rattle.std.specs.List.{AllByRecursion}
 use Rattle.std.specs.Str.{IsUtf8}
 use Rattle.ds2_base.specs.Name.{IsOwnName}
@@ -26,9 +26,9 @@ pub record IsWritable (t : Contents) : Type 0 where
   pub rows : IsTrue (rows_fit t.rows t.columns)
   -- there is a column: a header without cells is written like one with an empty cell
   pub some_column : 1 ≤ length t.columns
-  -- at most 256 columns
+  -- at most `MOST_COLUMNS` columns
   pub few_columns : length t.columns ≤ MOST_COLUMNS
   -- at most 4,000,000 cells
   pub few_cells : length t.rows * length t.columns ≤ MOST_CELLS
-  -- at most 67,108,864 bytes
+  -- at most `MOST_BYTES` bytes
   pub few_bytes : length (text t) ≤ MOST_BYTES

@@ -1,8 +1,9 @@
 //! Blanks of a header cell.
-ghost use Rattle.std.specs.Prelude.{◌≡◌, ◌-◌, ◌<◌, ◌≤◌, length, take, slice_index, IfSome};
-ghost use Rattle.std.specs.List.{prefix_len};
+ghost use Rattle.std.specs.Prelude.{◌≡◌, ◌<◌, ◌≤◌, length, take, slice_index, IfSome};
 ghost use Rattle.ds2_csv_cells.specs.Spelling.{is_blank};
 ghost use Rattle.ds2_csv.specs.Header.{last_place, without_last_blanks, trimmed_cell};
+
+use ds2_csv_records::without_front;
 
 fn is_blank(c: u8) -> bool
     ensures { result ≡ is_blank c }
@@ -41,24 +42,10 @@ fn text_end(bytes: &[u8]) -> usize
     0
 }
 
-// How many blanks stand at the start.
-fn text_start(bytes: &[u8]) -> usize
-    ensures place { result ≡ prefix_len is_blank bytes.now }
-    ensures within { result ≤ length bytes.now }
-    ensures blank { 0 < result → slice_index bytes.now (result - 1) < 128 }
-{
-    'bytes: for (i, c) in bytes.iter().enumerate() {
-        if !is_blank(*c) {
-            return i;
-        }
-    }
-    bytes.len()
-}
-
 /// The cell without the blanks at its ends.
 pub fn without_blanks(cell: &str) -> &str
     ensures { result.now ≡ trimmed_cell cell.now }
 {
     let front = cell.split_at(text_end(cell.as_bytes())).0;
-    front.split_at(text_start(front.as_bytes())).1
+    without_front(front, b' ', b'\t')
 }

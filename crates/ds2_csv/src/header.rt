@@ -113,7 +113,7 @@ fn cell_heading(
     }
 }
 
-/// The headings of header cells, at most 256, or the first refusal from the left.
+/// The headings of header cells, at most `MOST_COLUMNS`, or the first refusal from the left.
 pub fn headings(alloc: Global, header: &[Cell]) -> Result<List<Heading>, Stop<CsvRefusal>>
     requires { length header.now ≤ MOST_COLUMNS }
     ensures { Says result (headings_of (map spelled header.now)) }

@@ -5,6 +5,7 @@ use Rattle.std.specs.List.{list_all}
 use Rattle.std.specs.Option.{is_some}
 use Rattle.std.proofs.lemmas.List.Folds.{list_all-append}
 use Rattle.ds2_decimal.specs.Text.{read}
+use Rattle.ds2_value.specs.declared.ty.TheConstants.{TEXT_CHARACTERS}
 use Rattle.ds2_value.specs.declared.ty.Ty.{Ty}
 use Rattle.ds2_value.specs.declared.ty.Ty.TheVariants.{BigInt, Varchar}
 use Rattle.ds2_csv_cells.specs.Cells.{is_missing}
@@ -98,7 +99,7 @@ unfolding type_of_cells
 type-integers i cells is some all = rw (sym is.some ∙ some, sym is.integers ∙ all) refl
 
 pub type-others : (i : Inference) (cells : List (List ℕ)) (found : Option Ty) (longest : ℕ) → IsInferred i cells → (i.given ≡ false) ⊎ (i.integers ≡ false) → found ≡ decimals_of (given cells)
-    → longest ≡ max 1 (min 1024 i.longest) → unwrap_or found (Varchar longest) ≡ type_of_cells cells
+    → longest ≡ max 1 (min TEXT_CHARACTERS i.longest) → unwrap_or found (Varchar longest) ≡ type_of_cells cells
 unfolding type_of_cells
 type-others i cells found longest is odd numbers size =
     let text : longest ≡ width_of cells = omega (arith, size, is.longest) in

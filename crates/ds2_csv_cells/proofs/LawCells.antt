@@ -26,7 +26,7 @@ use Rattle.ds2_value.specs.declared.ty.Ty.{Ty}
 use Rattle.ds2_value.specs.declared.ty.Ty.TheVariants.{BigInt, Decimal as DecimalOf, Char, Varchar}
 use Rattle.ds2_value.specs.declared.value.Value.{Value}
 use Rattle.ds2_value.specs.declared.value.Value.TheVariants.{Null, Int, Dec, Txt}
-use Rattle.ds2_csv_cells.specs.Cells.{is_missing, decoded, decimal_in, filled, char_value, varchar_value, value_of}
+use Rattle.ds2_csv_cells.specs.Cells.{is_missing, decoded, decimal_in, filled, text_value, value_of}
 use Rattle.ds2_csv_cells.specs.Number.{size_of, below_zero, not_below_zero, integer_of}
 use Rattle.ds2_csv_cells.specs.CellText.{null_text, escaped, cell_text}
 use Rattle.ds2_csv_cells.proofs.LawDecimals.{written-ascii}
@@ -54,14 +54,14 @@ text-back (c ∷ cs) = by (c == 92) refl
     by true e = subst (λ (k : ℕ). decoded (92 ∷ k ∷ cs) ≡ Some (k ∷ cs)) (sym (eqb-true c 92 e)) (slashes cs)
     by false e = plain c cs e
 
-char-read : (n : ℕ) (t : List ℕ) → (char_count t == n) ≡ true → char_value n (Some t) ≡ Some (Txt t)
+char-read : (n : ℕ) (t : List ℕ) → (char_count t == n) ≡ true → text_value n true (Some t) ≡ Some (Txt t)
 char-read n t e =
     let same : char_count t ≡ n = eqb-true (char_count t) n e in
     let fits : nat_le (char_count t) n ≡ true = le-leb (char_count t) n (omega arith) in
     let none : n - char_count t ≡ 0 = omega arith in
     ap (λ b. if b then Some (Txt (filled n t)) else None) fits ∙ ap (λ (k : ℕ). Some (Txt (t ++ replicate k 32))) none ∙ ap (λ (x : List ℕ). Some (Txt x)) (append-nil t)
 
-varchar-read : (n : ℕ) (t : List ℕ) → nat_le (char_count t) n ≡ true → varchar_value n (Some t) ≡ Some (Txt t)
+varchar-read : (n : ℕ) (t : List ℕ) → nat_le (char_count t) n ≡ true → text_value n false (Some t) ≡ Some (Txt t)
 varchar-read n t e = ap (λ b. if b then Some (Txt t) else None) e
 
 -- ---- integers
@@ -166,8 +166,8 @@ value-read law (Char n) (Dec d) fit held = cc fit
 value-read law (Varchar n) (Dec d) fit held = cc fit
 value-read law BigInt (Txt t) fit held = cc fit
 value-read law (DecimalOf p s) (Txt t) fit held = cc fit
-value-read law (Char n) (Txt t) fit held = ap (char_value n) (text-back t) ∙ char-read n t (and_parts (is_utf8 t) (char_count t == n) fit).1
-value-read law (Varchar n) (Txt t) fit held = ap (varchar_value n) (text-back t) ∙ varchar-read n t (and_parts (is_utf8 t) (nat_le (char_count t) n) fit).1
+value-read law (Char n) (Txt t) fit held = ap (text_value n true) (text-back t) ∙ char-read n t (and_parts (is_utf8 t) (char_count t == n) fit).1
+value-read law (Varchar n) (Txt t) fit held = ap (text_value n false) (text-back t) ∙ varchar-read n t (and_parts (is_utf8 t) (nat_le (char_count t) n) fit).1
 
 -- ---- cells are texts
 

@@ -1,22 +1,20 @@
 -- The text of a decimal is ASCII.
-use Rattle.std.proofs.Common.{◌≡◌, ◌+◌, ◌*◌, ◌-◌, ◌/◌, ◌%◌, ◌^◌, ◌<◌, ◌≤◌, ◌⊎◌, inl, inr, ℕ, zero, suc, Bool, true, false, List, [], ◌∷◌, ◌++◌, length, refl, sym, ap, ◌∙◌, arith, length-append, append_assoc}
-use Rattle.std.specs.Prelude.{◌==◌, ◌&&◌, nat_lt, replicate, if◌then◌else◌, pos, unsigned_abs, int_lt}
+use Rattle.std.proofs.Common.{◌≡◌, ◌+◌, ◌/◌, ◌%◌, ◌^◌, ◌<◌, ◌≤◌, ℕ, zero, suc, Bool, true, false, [], ◌∷◌, ◌++◌, refl, ◌∙◌, arith}
+use Rattle.std.specs.Prelude.{◌==◌, ◌&&◌, nat_lt, if◌then◌else◌, pos, unsigned_abs, int_lt}
 use Rattle.std.specs.Fmt.{decimal}
-use Rattle.std.specs.Int.{is_negative}
 use Rattle.std.specs.List.{list_all}
-use Rattle.std.proofs.Math.Nat.{pow-zero, pow-succ', div-le_self}
-use Rattle.std.proofs.lemmas.Bool.{cases_lt, and_from, ltb-true}
+use Rattle.std.proofs.Math.Nat.{div-le_self}
+use Rattle.std.proofs.lemmas.Bool.{and_from, ltb-true}
 use Rattle.std.proofs.lemmas.Bool.Decides.{nat_tests}
-use Rattle.std.proofs.lemmas.Fmt.{decimal_digit, decimal_step_wide}
-use Rattle.std.proofs.lemmas.List.{replicate-append-replicate}
 use Rattle.std.proofs.lemmas.List.Folds.{list_all-append}
-use Rattle.std.proofs.lemmas.Nat.{div-add-mod', div-mul-add, mod-mul-add, mod_below}
+use Rattle.std.proofs.lemmas.Nat.{mod_below}
 use Rattle.ds2_decimal.specs.Decimal.{Decimal, IsDecimal}
+use Rattle.ds2_decimal.specs.declared.dec.TheConstants.{MOST_DIGITS}
 use Rattle.ds2_decimal.specs.Text.{last_digits, decimal_text, written_magnitude}
 use Rattle.ds2_csv_cells.proofs.LawNumbers.{spells, ascii-digits}
 
 small-units : (d : Decimal) → IsDecimal d → unsigned_abs d.units < 10 ^ 64
-small-units d valid = let h = ltb-true (unsigned_abs d.units) (10 ^ 38) valid.digits in omega arith
+small-units d valid = let h = ltb-true (unsigned_abs d.units) (10 ^ MOST_DIGITS) valid.digits in omega arith
 
 -- it is ASCII
 last-ascii : (k n : ℕ) → list_all (λ c. nat_lt c 128) (last_digits k n) ≡ true

@@ -9,7 +9,9 @@ use Rattle.std.proofs.lemmas.Bool.{and_from, and_parts, leb-true, or_from}
 use Rattle.std.proofs.lemmas.Bool.Decides.{nat_tests}
 use Rattle.std.proofs.lemmas.List.{map-append}
 use Rattle.std.proofs.lemmas.List.Folds.{list_all-append, list_any-append}
+use Rattle.ds2_decimal.specs.declared.dec.TheConstants.{MOST_DIGITS}
 use Rattle.ds2_value.specs.Types.{in_bounds, is_from_one}
+use Rattle.ds2_value.specs.declared.ty.TheConstants.{TEXT_CHARACTERS}
 use Rattle.ds2_value.specs.declared.ty.Ty.{Ty}
 use Rattle.ds2_value.specs.declared.ty.Ty.TheVariants.{BigInt, Decimal as DecimalOf, Char, Varchar}
 use Rattle.ds2_csv_cells.specs.Spelling.{is_blank, before_close, number_of, decimal_of, char_of, varchar_of, type_spelled}
@@ -67,12 +69,12 @@ spelled-bigint = refl
 spelled : (ty : Ty) → in_bounds ty ≡ true → type_spelled (type_text ty) ≡ Some ty
 spelled BigInt e = spelled-bigint
 spelled (DecimalOf p s) e =
-    let b = and_parts (is_from_one p 38) (nat_le s p) e in
-    let few = leb-true p 38 (and_parts (nat_le 1 p) (nat_le p 38) b.0).1 in
+    let b = and_parts (is_from_one p MOST_DIGITS) (nat_le s p) e in
+    let few = leb-true p MOST_DIGITS (and_parts (nat_le 1 p) (nat_le p MOST_DIGITS) b.0).1 in
     let fewer = leb-true s p b.1 in
     spelled-decimal p s (omega arith) (omega arith)
-spelled (Char n) e = spelled-char n (within n 1024 (omega arith) e)
-spelled (Varchar n) e = spelled-varchar n (within n 1024 (omega arith) e)
+spelled (Char n) e = spelled-char n (within n TEXT_CHARACTERS (omega arith) e)
+spelled (Varchar n) e = spelled-varchar n (within n TEXT_CHARACTERS (omega arith) e)
 
 -- a text in ASCII, its letters in lower case, without blanks
 record IsPlainWord (text : List ℕ) : Type 0 where
@@ -101,13 +103,13 @@ type-word : (ty : Ty) → in_bounds ty ≡ true → IsPlainWord (type_text ty)
 unfolding type_text
 type-word BigInt e = record { ascii = refl; lower = refl; free = refl }
 type-word (DecimalOf p s) e =
-    let b = and_parts (is_from_one p 38) (nat_le s p) e in
-    let few = leb-true p 38 (and_parts (nat_le 1 p) (nat_le p 38) b.0).1 in
+    let b = and_parts (is_from_one p MOST_DIGITS) (nat_le s p) e in
+    let few = leb-true p MOST_DIGITS (and_parts (nat_le 1 p) (nat_le p MOST_DIGITS) b.0).1 in
     let fewer = leb-true s p b.1 in
     join (codes "decimal(") (decimal p ++ (44 ∷ (decimal s ++ codes ")"))) (record { ascii = refl; lower = refl; free = refl })
     (join (decimal p) (44 ∷ (decimal s ++ codes ")")) (digits-word p (omega arith)) (in-parentheses (44 ∷ []) (decimal s) (record { ascii = refl; lower = refl; free = refl }) (digits-word s (omega arith))))
-type-word (Char n) e = in-parentheses (codes "char(") (decimal n) (record { ascii = refl; lower = refl; free = refl }) (digits-word n (within n 1024 (omega arith) e))
-type-word (Varchar n) e = in-parentheses (codes "varchar(") (decimal n) (record { ascii = refl; lower = refl; free = refl }) (digits-word n (within n 1024 (omega arith) e))
+type-word (Char n) e = in-parentheses (codes "char(") (decimal n) (record { ascii = refl; lower = refl; free = refl }) (digits-word n (within n TEXT_CHARACTERS (omega arith) e))
+type-word (Varchar n) e = in-parentheses (codes "varchar(") (decimal n) (record { ascii = refl; lower = refl; free = refl }) (digits-word n (within n TEXT_CHARACTERS (omega arith) e))
 
 type-some : (ty : Ty) → 0 < length (type_text ty)
 unfolding type_text

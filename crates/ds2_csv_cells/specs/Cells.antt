@@ -42,19 +42,18 @@ decimal_in p s d = if nat_le d.scale s then option_map (λ e. Dec e) (result_ok 
 abbrev pub filled : ℕ → Bytes → Bytes
 filled n text = text ++ replicate (n - char_count text) 32
 
--- the value of a text in CHAR(n) and in VARCHAR(n), where it has at most n characters
-abbrev pub char_value : ℕ → Option Bytes → Option Value
-char_value n None = Some Null
-char_value n (Some text) = if nat_le (char_count text) n then Some (Txt (filled n text)) else None
+-- a text in a column where each text has exactly n characters, or not
+abbrev pub column_text : ℕ → Bool → Bytes → Bytes
+column_text n exact text = if exact then filled n text else text
 
--- the value of a cell's text in a column of at most n characters; None where it has more
-abbrev pub varchar_value : ℕ → Option Bytes → Option Value
-varchar_value n None = Some Null
-varchar_value n (Some text) = if nat_le (char_count text) n then Some (Txt text) else None
+-- the value of a cell's text in a column of exactly, or at most, n characters; None where it has more
+abbrev pub text_value : ℕ → Bool → Option Bytes → Option Value
+text_value n exact None = Some Null
+text_value n exact (Some text) = if nat_le (char_count text) n then Some (Txt (column_text n exact text)) else None
 
 -- the value of a cell in a column of a type; None where it has none
 unfoldable pub value_of : Ty → Bytes → Option Value
 value_of BigInt cell = if is_missing cell then Some Null else option_map (λ i. Int i) (integer_of cell)
 value_of (DecimalOf p s) cell = if is_missing cell then Some Null else option_and_then (decimal_in p s) (read cell)
-value_of (Char n) cell = char_value n (decoded cell)
-value_of (Varchar n) cell = varchar_value n (decoded cell)
+value_of (Char n) cell = text_value n true (decoded cell)
+value_of (Varchar n) cell = text_value n false (decoded cell)

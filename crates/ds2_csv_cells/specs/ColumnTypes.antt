@@ -5,6 +5,8 @@ use Rattle.std.specs.Option.{is_some, option_map_or}
 use Rattle.ds2_base.specs.Bytes.{Bytes}
 use Rattle.ds2_base.specs.Characters.{char_count}
 use Rattle.ds2_decimal.specs.Text.{read, is_point}
+use Rattle.ds2_decimal.specs.declared.dec.TheConstants.{MOST_DIGITS}
+use Rattle.ds2_value.specs.declared.ty.TheConstants.{TEXT_CHARACTERS}
 use Rattle.ds2_value.specs.declared.ty.Ty.{Ty}
 use Rattle.ds2_value.specs.declared.ty.Ty.TheVariants.{BigInt, Decimal as DecimalOf, Varchar}
 use Rattle.ds2_csv_cells.specs.Cells.{is_missing, decoded}
@@ -39,9 +41,9 @@ precision_of cells = max 1 (greatest digits_before cells + greatest digits_after
 abbrev pub text_size : Bytes → ℕ
 text_size cell = option_map_or char_count (decoded cell) 0
 
--- the characters of the texts that take these cells, at least one and at most 1,024: a longer text is refused at its cell
+-- the characters of the texts that take these cells, at least one and at most `TEXT_CHARACTERS`: a longer text is refused at its cell
 abbrev pub width_of : List Bytes → ℕ
-width_of cells = max 1 (min 1024 (greatest text_size cells))
+width_of cells = max 1 (min TEXT_CHARACTERS (greatest text_size cells))
 
 -- there is a cell, and each cell passes
 abbrev pub some_and_all : (Bytes → Bool) → List Bytes → Bool
@@ -55,10 +57,10 @@ given cells = filter (λ cell. not (is_missing cell)) cells
 abbrev pub are_integers : List Bytes → Bool
 are_integers cells = some_and_all (λ cell. is_some (integer_of cell)) cells
 
--- the decimals that take such cells, where there is one, each one is a decimal, and 38 digits take them all
+-- the decimals that take such cells, where there is one, each one is a decimal, and `MOST_DIGITS` digits take them all
 abbrev pub decimals_of : List Bytes → Option Ty
 decimals_of cells =
-    if some_and_all (λ cell. is_some (read cell)) cells && nat_le (precision_of cells) 38 then Some (DecimalOf (precision_of cells) (greatest digits_after cells)) else None
+    if some_and_all (λ cell. is_some (read cell)) cells && nat_le (precision_of cells) MOST_DIGITS then Some (DecimalOf (precision_of cells) (greatest digits_after cells)) else None
 
 -- the type out of all cells of a column: BIGINT, else DECIMAL, else VARCHAR
 unfoldable pub type_of_cells : List Bytes → Ty

@@ -1,7 +1,7 @@
 //! The value of a cell.
 ghost use Rattle.ds2_csv_cells.specs.Added.{IsAdded};
-ghost use Rattle.std.specs.Prelude.{◌≡◌, ◌≤◌, IfOk, IfSome, IsTrue, true, nat_le, option_map};
-ghost use Rattle.ds2_csv_cells.specs.Cells.{is_null_mark, is_missing, unescaped, decoded, decimal_in, filled, char_value, varchar_value, value_of};
+ghost use Rattle.std.specs.Prelude.{◌≡◌, ◌≤◌, IfOk, IfSome, IsTrue, true, nat_le, option_map, if◌then◌else◌};
+ghost use Rattle.ds2_csv_cells.specs.Cells.{is_null_mark, is_missing, unescaped, decoded, decimal_in, filled, column_text, text_value, value_of};
 ghost use Rattle.std.specs.Str.{is_utf8};
 ghost use Rattle.ds2_value.specs.declared.value.Value.TheVariants as Value;
 ghost use Rattle.ds2_base.specs.Characters.{char_count};
@@ -36,22 +36,22 @@ pub fn decoded(cell: &str) -> Option<&str>
     }
 }
 
-// The text with blanks behind it, n characters in all, of which it has `count`.
-fn filled(alloc: Global, text: &str, n: usize, count: usize) -> Result<Text, OutOfMemory>
-    requires characters { count ≡ char_count text.now }
-    requires short { count ≤ n }
+// The text, which has at most n characters, with blanks behind it, n characters in all.
+fn filled(alloc: Global, text: &str, n: usize) -> Result<Text, OutOfMemory>
+    requires { char_count text.now ≤ n }
     ensures value { IfOk result (λ t. t ≡ filled n text.now) }
     ensures full { IfOk result (λ t. char_count t ≡ n) }
     ensures utf8 { IfOk result (λ t. IsTrue (is_utf8 t)) }
 {
     let mut filled = String::from_str(alloc, text)?;
+    let count = char_count(text);
     'blanks: for i in count..n {
         filled.push(' ')?;
     }
     Ok(Text::from_string(filled))
 }
 
-fn text_value(text: Text) -> Value
+fn of_text(text: Text) -> Value
     ensures value { result ≡ Value.Txt text }
     ensures utf8 { is_utf8 text ≡ true }
 {
@@ -59,21 +59,17 @@ fn text_value(text: Text) -> Value
     Value::Txt(text)
 }
 
+// A text of at most n characters as a column holds it, where each text has exactly n of them, or not.
 #[tactic(auto, using(crate::proofs::CellLemmas::both_hold))]
-fn char_value(alloc: Global, n: u16, cell: &str) -> Result<Option<Value>, OutOfMemory>
-    ensures value { IfOk result (λ v. v ≡ char_value n (decoded cell.now)) }
-    ensures fit { IfOk result (λ v. IfSome v (λ x. IsTrue (fits x (Ty.Char n)))) }
+fn column_text(alloc: Global, n: u16, exact: bool, text: &str) -> Result<Value, OutOfMemory>
+    requires { char_count text.now ≤ n }
+    ensures value { IfOk result (λ v. v ≡ Value.Txt (column_text n exact text.now)) }
+    ensures fit { IfOk result (λ v. IsTrue (fits v (if exact then Ty.Char n else Ty.Varchar n))) }
 {
-    match decoded(cell) {
-        None => Ok(Some(Value::Null)),
-        Some(text) => {
-            let count = char_count(text);
-            if count <= n as usize {
-                Ok(Some(text_value(filled(alloc, text, n as usize, count)?)))
-            } else {
-                Ok(None)
-            }
-        }
+    if exact {
+        Ok(of_text(filled(alloc, text, n as usize)?))
+    } else {
+        Ok(of_text(Text::of(alloc, text)?))
     }
 }
 
@@ -84,20 +80,18 @@ fn is_short(text: &str, n: usize) -> bool
     text.len() <= n || char_count(text) <= n
 }
 
-#[tactic(auto, using(crate::proofs::CellLemmas::both_hold))]
-fn varchar_value(alloc: Global, n: u16, cell: &str) -> Result<Option<Value>, OutOfMemory>
-    ensures value { IfOk result (λ v. v ≡ varchar_value n (decoded cell.now)) }
-    ensures fit { IfOk result (λ v. IfSome v (λ x. IsTrue (fits x (Ty.Varchar n)))) }
+// The value of a cell's text in a column of at most, or exactly, n characters.
+fn text_value(alloc: Global, n: u16, exact: bool, cell: &str) -> Result<Option<Value>, OutOfMemory>
+    ensures value { IfOk result (λ v. v ≡ text_value n exact (decoded cell.now)) }
+    ensures fit { IfOk result (λ v. IfSome v (λ x. IsTrue (fits x (if exact then Ty.Char n else Ty.Varchar n)))) }
 {
-    match decoded(cell) {
-        None => Ok(Some(Value::Null)),
-        Some(text) => {
-            if is_short(text, n as usize) {
-                Ok(Some(text_value(Text::of(alloc, text)?)))
-            } else {
-                Ok(None)
-            }
-        }
+    let Some(text) = decoded(cell) else {
+        return Ok(Some(Value::Null));
+    };
+    if is_short(text, n as usize) {
+        Ok(Some(column_text(alloc, n, exact, text)?))
+    } else {
+        Ok(None)
     }
 }
 
@@ -168,8 +162,8 @@ fn add_value(alloc: Global, values: &mut Row, ty: Ty, cell: &str) -> Result<bool
     match ty {
         Ty::BigInt => add_bigint(values, cell.as_bytes()),
         Ty::Decimal { p, s } => add_decimal(values, p, s, cell),
-        Ty::Char { n } => add(values, char_value(alloc, n, cell)?),
-        Ty::Varchar { n } => add(values, varchar_value(alloc, n, cell)?),
+        Ty::Char { n } => add(values, text_value(alloc, n, true, cell)?),
+        Ty::Varchar { n } => add(values, text_value(alloc, n, false, cell)?),
     }
 }
 

@@ -12,7 +12,8 @@ use crate::decimal::decimal;
 use crate::number::integer;
 use ds2_base::char_count;
 use ds2_csv_records::cut;
-use ds2_value::Ty;
+use ds2_decimal::MOST_DIGITS;
+use ds2_value::{TEXT_CHARACTERS, Ty};
 
 /// What is known of a column's cells.
 #[derive(Clone, Copy)]
@@ -155,7 +156,7 @@ impl Inference {
             return None;
         }
         let digits = self.before.saturating_add(self.after).max(1);
-        if digits <= 38 {
+        if digits <= MOST_DIGITS as usize {
             Some(Ty::Decimal {
                 p: digits as u8,
                 s: self.after as u8,
@@ -175,7 +176,7 @@ impl Inference {
         match self.decimal_type() {
             Some(ty) => ty,
             None => Ty::Varchar {
-                n: self.longest.min(1024).max(1) as u16,
+                n: self.longest.min(TEXT_CHARACTERS as usize).max(1) as u16,
             },
         }
     }

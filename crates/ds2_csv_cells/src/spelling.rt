@@ -1,14 +1,19 @@
 //! The spelling of a type.
 ghost use Rattle.std.specs.Prelude.{◌≡◌, ◌≤◌, min, option_map, IfSome};
 ghost use Rattle.ds2_csv_cells.specs.Spelling.{inside, number_of, decimal_of, char_of, varchar_of, bounded, type_spelled};
+ghost use Rattle.ds2_csv_cells.specs.declared.spelling.TheConstants.{TOO_MANY};
 
 use ds2_csv_records::cut;
-use ds2_value::Ty;
+use ds2_decimal::MOST_DIGITS;
+use ds2_value::{TEXT_CHARACTERS, Ty};
 
-// The number that digits spell, and 1,025 for every greater one.
+// What is too many for each number of a type.
+const TOO_MANY: u16 = TEXT_CHARACTERS + 1;
+
+// The number that digits spell, and `TOO_MANY` for every greater one.
 fn number(digits: &[u8]) -> Option<u16>
-    ensures value { result ≡ option_map (λ n. min n 1025) (number_of digits.now) }
-    ensures bound { IfSome result (λ n. n ≤ 1025) }
+    ensures value { result ≡ option_map (λ n. min n TOO_MANY) (number_of digits.now) }
+    ensures bound { IfSome result (λ n. n ≤ TOO_MANY) }
 {
     if digits.is_empty() {
         return None;
@@ -19,7 +24,7 @@ fn number(digits: &[u8]) -> Option<u16>
         if !c.is_ascii_digit() {
             return None;
         }
-        n = (n * 10 + (*c - b'0') as u16).min(1025);
+        n = (n * 10 + (*c - b'0') as u16).min(TOO_MANY);
         rest = after;
     }
     Some(n)
@@ -38,7 +43,7 @@ fn decimal(text: &[u8]) -> Option<Option<Ty>>
     let (digits, scale) = cut(text, b',');
     let p = number(digits)?;
     let s = number(scale)?;
-    if 1 <= p && p <= 38 && s <= p {
+    if 1 <= p && p <= MOST_DIGITS as u16 && s <= p {
         Some(Some(Ty::Decimal {
             p: p as u8,
             s: s as u8,
@@ -52,7 +57,7 @@ fn char(digits: &[u8]) -> Option<Option<Ty>>
     ensures { result ≡ option_map bounded (char_of digits.now) }
 {
     let n = number(digits)?;
-    if 1 <= n && n <= 1024 {
+    if 1 <= n && n <= TEXT_CHARACTERS {
         Some(Some(Ty::Char { n }))
     } else {
         Some(None)
@@ -63,7 +68,7 @@ fn varchar(digits: &[u8]) -> Option<Option<Ty>>
     ensures { result ≡ option_map bounded (varchar_of digits.now) }
 {
     let n = number(digits)?;
-    if 1 <= n && n <= 1024 {
+    if 1 <= n && n <= TEXT_CHARACTERS {
         Some(Some(Ty::Varchar { n }))
     } else {
         Some(None)

@@ -1,17 +1,16 @@
 -- Where the cells of a text end, and what they spell.
-use Rattle.std.proofs.Common.{◌≡◌, ◌≢◌, ◌+◌, ◌-◌, ◌<◌, ◌≤◌, ◌==◌, ◌∷◌, ◌++◌, [], ℕ, zero, suc, List, Bool, true, false, length, get_or, drop, take, append_assoc, length-drop, ◌⊎◌, refl, sym, ap, ◌∙◌, arith, inl, inr}
+use Rattle.std.proofs.Common.{◌≡◌, ◌+◌, ◌-◌, ◌<◌, ◌≤◌, ◌==◌, ◌∷◌, ◌++◌, [], ℕ, zero, suc, List, Bool, true, false, length, get_or, drop, take, append_assoc, length-drop, ◌⊎◌, refl, sym, ap, ◌∙◌, arith, inl, inr}
 use Rattle.std.specs.Prelude.{not, ◌||◌, ◌&&◌, if◌then◌else◌}
 use Rattle.std.specs.List.{prefix_len}
 use Rattle.std.specs.Str.{IsUtf8, IsCharBoundary}
 use Rattle.csv.specs.Reading.{strip_bom, is_bom}
-use Rattle.csv.specs.Writing.{default_writer, needs_byte}
 use Rattle.std.proofs.Math.Utf8.{encode}
 use Rattle.std.proofs.lemmas.Bool.{and_parts}
 use Rattle.std.proofs.lemmas.List.{append-nil}
 use Rattle.std.proofs.lemmas.List.Sums.{prefix_len_is}
 use Rattle.std.proofs.lemmas.Str.{IsCharBoundary-start, IsCharBoundary-after_ascii, IsCharBoundary-at_seam, IsUtf8-past_char}
-use Rattle.std.proofs.lemmas.Bool.{eqb-true, cases_Bool, ne_eqb}
-use Rattle.ds2_csv_records.specs.Cells.{begins_mark, begins_quoted, ends_line, ends_cell, bare_len, begins_end, quoted_len, to_quote, unquoted}
+use Rattle.std.proofs.lemmas.Bool.{eqb-true}
+use Rattle.ds2_csv_records.specs.Cells.{begins_mark, begins_quoted, ends_cell, bare_len, begins_end, quoted_len, to_quote, unquoted}
 
 -- the end of a cell is ASCII
 pub end-ascii : (c : ℕ) → ends_cell c ≡ true → c < 128

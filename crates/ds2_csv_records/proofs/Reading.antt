@@ -1,5 +1,5 @@
 -- The cells and the records of a text, one after the other.
-use Rattle.std.proofs.Common.{◌≡◌, ◌≢◌, ◌+◌, ◌<◌, ◌≤◌, ◌==◌, ◌∷◌, ◌++◌, ◌⊎◌, [], ℕ, zero, suc, List, Bool, true, false, Option, Some, None, length, drop, take, refl, sym, ap, inl, inr, ◌∙◌, arith, append_assoc, length-append}
+use Rattle.std.proofs.Common.{◌≡◌, ◌+◌, ◌<◌, ◌≤◌, ◌==◌, ◌∷◌, ◌++◌, ◌⊎◌, [], ℕ, zero, suc, List, Bool, true, false, Option, Some, None, length, drop, take, refl, sym, ap, inl, inr, ◌∙◌, arith, append_assoc, length-append}
 use Rattle.std.specs.Prelude.{not, ◌||◌, map, option_map, if◌then◌else◌}
 use Rattle.std.proofs.lemmas.List.{append-nil}
 use Rattle.std.proofs.lemmas.Bool.{eqb-true}
@@ -18,7 +18,7 @@ use Rattle.csv.specs.declared.parser.Terminator.{Terminator}
 use Rattle.csv.specs.declared.parser.Terminator.TheVariants as term
 use Rattle.std.specs.List.{prefix_len}
 use Rattle.std.proofs.lemmas.List.{take_all}
-use Rattle.ds2_csv_records.specs.Reading.{Finished, finished, rest_of, records_left, rest_behind, Holds, IsNext}
+use Rattle.ds2_csv_records.specs.Reading.{Finished, finished, rest_of, records_left, rest_behind, Holds}
 use Rattle.ds2_csv_records.specs.Records.{Rows}
 use Rattle.ds2_csv_records.specs.declared.cell.Cell.{Cell}
 use Rattle.ds2_csv_records.specs.declared.read.Record.{Record}
@@ -480,9 +480,6 @@ pub goes-out : (whole : Option Finished) (cells : List (List ℕ)) (taken : Take
     → whole ≡ Some (cells ++ (spelled taken.cell ∷ []), taken.rest.now)
 goes-out whole cells taken done before =
     before ∙ ap (λ b. if b then rest_of st.StartField (cells ++ (spelled taken.cell ∷ [])) [] taken.rest.now else Some (cells ++ (spelled taken.cell ∷ []), taken.rest.now)) done
-
-pub start-is : (text start bytes : List ℕ) (n : ℕ) → n ≡ prefix_len ends_line bytes → bytes ≡ text → start ≡ drop n text → start ≡ drop (prefix_len ends_line text) text
-start-is text start bytes n is same e = e ∙ ap (λ k. drop k text) (is ∙ ap (λ (t : List ℕ). prefix_len ends_line t) same)
 
 pub no-more : (text start : List ℕ) (b : Bool) → start ≡ drop (prefix_len ends_line text) text → b ≡ (length start == 0) → b ≡ true → records_left text ≡ []
 no-more text start b is e f =

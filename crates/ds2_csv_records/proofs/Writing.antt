@@ -1,5 +1,5 @@
 -- The text of a cell between quotes, byte by byte.
-use Rattle.std.proofs.Common.{◌≡◌, ◌∷◌, ◌++◌, [], ℕ, List, length, drop, take, get_or, ◌-◌, refl, sym, ap, ◌∙◌, append_assoc, arith}
+use Rattle.std.proofs.Common.{◌≡◌, ◌∷◌, ◌++◌, [], ℕ, List, length, drop, take, get_or, ◌-◌, sym, ap, ◌∙◌, append_assoc, arith}
 use Rattle.std.specs.Prelude.{◌≤◌, ◌<◌}
 use Rattle.std.proofs.lemmas.List.{append-nil, take_all}
 use Rattle.csv.specs.Writing.{default_writer, escaped}

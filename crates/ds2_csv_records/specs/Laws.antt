@@ -1,7 +1,6 @@
 -- Laws: the text of rows is read as the rows, and is UTF-8 where each cell is.
-use Rattle.std.specs.Prelude.{◌≡◌, ◌≢◌, ◌<◌, ◌∷◌, ◌++◌, List, length}
+use Rattle.std.specs.Prelude.{◌≡◌, ◌<◌, List, length}
 use Rattle.std.specs.List.{AllByRecursion}
-use Rattle.std.specs.Str.{IsUtf8}
 use Rattle.ds2_base.specs.Bytes.{Bytes}
 use Rattle.csv.specs.Reading.{strip_bom}
 use Rattle.ds2_csv_records.specs.Records.{Rows, records_of, text_of_rows}

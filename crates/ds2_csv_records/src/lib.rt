@@ -12,6 +12,6 @@ mod taken;
 mod write;
 
 pub use cell::{Cell, unquoted};
-pub use part::cut;
+pub use part::{cut, without_front};
 pub use read::{Record, next_record, without_mark};
 pub use write::{add_field, add_separator, end_record};

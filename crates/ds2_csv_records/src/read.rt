@@ -1,11 +1,11 @@
 //! The records of a text, one after the other.
-ghost use Rattle.std.specs.Prelude.{◌≡◌, ◌∷◌, ◌++◌, ◌<◌, ◌≤◌, ◌-◌, ℕ, List as Items, [], length, slice_index, drop, IfOk, OnOk};
-ghost use Rattle.std.specs.List.{prefix_len};
+ghost use Rattle.std.specs.Prelude.{◌≡◌, ◌∷◌, ◌++◌, ℕ, List as Items, [], IfOk, OnOk};
 ghost use Rattle.csv.specs.Reading.{strip_bom};
-ghost use Rattle.ds2_csv_records.specs.Cells.{begins_mark, ends_line, spelled};
+ghost use Rattle.ds2_csv_records.specs.Cells.{begins_mark, spelled};
 ghost use Rattle.ds2_csv_records.specs.Reading.{Holds, IsNext, records_left};
 
 use crate::cell::Cell;
+use crate::part::without_front;
 use crate::taken::take_cell;
 use ds2_base::{List, OutOfMemory};
 use std::alloc::Global;
@@ -64,26 +64,6 @@ pub fn without_mark(text: &str) -> &str
     }
 }
 
-fn ends_line(c: u8) -> bool
-    ensures { result ≡ ends_line c }
-{
-    c == b'\r' || c == b'\n'
-}
-
-// How many ends of lines stand at the start.
-fn line_ends(text: &[u8]) -> usize
-    ensures len { result ≡ prefix_len ends_line text.now }
-    ensures within { result ≤ length text.now }
-    ensures mark { 0 < result → slice_index text.now (result - 1) < 128 }
-{
-    'bytes: for (i, c) in text.iter().enumerate() {
-        if !ends_line(*c) {
-            return i;
-        }
-    }
-    text.len()
-}
-
 /// Reads the next record of a text into `row`, of which the first `most` cells are kept, and gives the text behind it; None
 /// where there is no more record. The text stands between two records.
 pub fn next_record<'t>(
@@ -95,7 +75,7 @@ pub fn next_record<'t>(
 {
     row.cells.truncate(0);
     row.count = 0;
-    let start = text.split_at(line_ends(text.as_bytes())).1;
+    let start = without_front(text, b'\r', b'\n');
     if start.is_empty() {
         return Ok(None);
     }

@@ -1,4 +1,4 @@
-use Rattle.std.proofs.Common.{◌≡◌, ◌∙◌, ap, sym, List, length, arith, ◌≤◌, map}
+use Rattle.std.proofs.Common.{◌∙◌, ap, List, length, arith, ◌≤◌, map}
 use Rattle.ds2_csv_records.specs.Cells.{spelled}
 use Rattle.ds2_csv_cells.specs.declared.inference.Inference.{Inference}
 use Rattle.ds2_csv.proofs.Knowing.{known-took, known-ended, set-length}

@@ -1,11 +1,11 @@
-use Rattle.std.proofs.Common.{◌≡◌, ◌++◌, ◌∷◌, [], List, length, ap, sym, ◌∙◌}
-use Rattle.std.specs.Prelude.{Ok, Err}
+use Rattle.std.proofs.Common.{◌++◌, ◌∷◌, [], ap, sym, ◌∙◌}
+use Rattle.std.specs.Prelude.{Err}
 use Rattle.ds2_csv_records.specs.Reading.{records_left}
 use Rattle.ds2_csv.specs.NextRow.{IsNextRow, row_read}
 use Rattle.ds2_csv.specs.declared.records.Next.TheVariants.{Row, Odd, End}
 use Rattle.ds2_csv.specs.declared.refusal.CsvRefusal.{CsvRefusal}
 use Rattle.ds2_csv.proofs.Knowing.{sheet-known}
-use Rattle.ds2_csv.proofs.Reading.{took-none, took-row, took-wide, took-odd, took-all, sheet-odd, sheet-large, sheet-whole}
+use Rattle.ds2_csv.proofs.Reading.{took-none, took-row, took-odd, took-all, sheet-odd, sheet-large, sheet-whole}
 use Rattle.ds2_csv.proofs.column.known_columns.Goals as goal
 
 pub rows-init : goal.rows-init

@@ -1,4 +1,4 @@
-use Rattle.std.proofs.Common.{◌≡◌, ◌∙◌, ◌∷◌, [], ap, List, length, arith, length-append}
+use Rattle.std.proofs.Common.{◌∷◌, [], ap, List, length, arith, length-append}
 use Rattle.ds2_csv_cells.specs.declared.inference.Inference.{Inference}
 use Rattle.ds2_csv.proofs.Knowing.{none-counted, known-more}
 use Rattle.ds2_csv.proofs.column.nothing_known.Goals as goal

@@ -1,9 +1,8 @@
-use Rattle.std.proofs.Common.{◌≡◌, ◌≤◌, ap, sym, ◌∙◌, arith, length, map, ℕ, List, Some, None}
+use Rattle.std.proofs.Common.{◌≡◌, ap, sym, ◌∙◌, arith, length, map, List, Some, None}
 use Rattle.std.specs.Prelude.{Err}
 use Rattle.std.proofs.lemmas.Bool.{ltb-true, ltb-false}
 use Rattle.ds2_csv_records.specs.Cells.{spelled}
 use Rattle.ds2_csv_records.specs.Reading.{IsNext, records_left}
-use Rattle.ds2_csv_records.specs.declared.cell.Cell.{Cell}
 use Rattle.ds2_csv.specs.Reads.{of_records}
 use Rattle.ds2_csv.specs.Records.{records_of}
 use Rattle.ds2_csv.specs.declared.heading.Heading.{Heading}

@@ -1,8 +1,6 @@
-use Rattle.std.proofs.Common.{◌≡◌, ◌∙◌, ap, sym, List, true}
-use Rattle.std.specs.Prelude.{◌&&◌, IsTrue}
+use Rattle.std.proofs.Common.{◌∙◌, sym}
 use Rattle.std.proofs.lemmas.Bool.{and_parts}
-use Rattle.ds2_value.specs.Schema.{distinct_names, types_in_bounds, is_schema}
-use Rattle.ds2_value.specs.declared.schema.Column.{Column}
+use Rattle.ds2_value.specs.Schema.{distinct_names, types_in_bounds}
 use Rattle.ds2_csv.specs.Columns.{columns_from}
 use Rattle.ds2_csv.proofs.SchemaLemmas.{schema-some}
 use Rattle.ds2_csv.proofs.read.schema.Goals as goal

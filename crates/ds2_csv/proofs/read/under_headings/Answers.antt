@@ -1,4 +1,4 @@
-use Rattle.std.proofs.Common.{◌≡◌, ◌≤◌, ap, sym, ◌∙◌, arith, length, ℕ, List, []}
+use Rattle.std.proofs.Common.{◌≡◌, ap, sym, ◌∙◌, arith, length, List, []}
 use Rattle.ds2_value.specs.declared.schema.Column.{Column}
 use Rattle.ds2_csv_records.specs.Reading.{records_left}
 use Rattle.ds2_csv_cells.specs.declared.inference.Inference.{Inference}

@@ -1,4 +1,4 @@
-use Rattle.std.proofs.Common.{◌≡◌, ◌≤◌, true, Some, None, ◌+◌, List, ℕ, ◌∙◌, ap, length, map, arith}
+use Rattle.std.proofs.Common.{◌≡◌, ◌≤◌, true, Some, None, List, ℕ, ◌∙◌, ap, length, map, arith}
 use Rattle.std.proofs.lemmas.List.{length-map}
 use Rattle.ds2_csv_records.specs.Cells.{spelled}
 use Rattle.ds2_csv_cells.specs.Cells.{value_of}

@@ -1,4 +1,4 @@
-use Rattle.std.proofs.Common.{◌≡◌, ◌∙◌, ◌++◌, ap, sym, List, ℕ, map}
+use Rattle.std.proofs.Common.{◌∙◌, ◌++◌, ap, List, ℕ, map}
 use Rattle.ds2_csv_records.specs.Records.{field_of}
 use Rattle.ds2_csv.specs.Text.{heading_text}
 use Rattle.ds2_csv.proofs.Writing.{none-written, one-written, all-written, header-left, header-none}

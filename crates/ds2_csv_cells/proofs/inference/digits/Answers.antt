@@ -1,4 +1,4 @@
-use Rattle.std.proofs.Common.{◌≡◌, ◌∙◌, ap, sym, List, ℕ, length}
+use Rattle.std.proofs.Common.{◌∙◌, ap, sym, List, ℕ, length}
 use Rattle.ds2_csv_cells.specs.ColumnTypes.{whole_digits}
 use Rattle.ds2_csv_cells.proofs.ShortLemmas.{integer-whole}
 use Rattle.ds2_csv_cells.proofs.inference.digits.Goals as goal

@@ -1,4 +1,4 @@
-use Rattle.std.proofs.Common.{◌≡◌, ◌∙◌, ap, sym, List, ℕ, ◌++◌, ◌∷◌, []}
+use Rattle.std.proofs.Common.{◌∙◌, ap, sym, List, ℕ, ◌++◌, ◌∷◌, []}
 use Rattle.ds2_csv_records.specs.Cells.{to_quote, begins_quoted}
 use Rattle.ds2_csv_records.proofs.Cells.{part-last, part-quote, part-rest, behind-quoted, none-shorter, two-shorter}
 use Rattle.ds2_csv_records.proofs.cell.add_part.Goals as goal

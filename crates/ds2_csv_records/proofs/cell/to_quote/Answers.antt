@@ -1,4 +1,4 @@
-use Rattle.std.proofs.Common.{◌==◌, sym, ap, ◌∙◌, eq-eqb}
+use Rattle.std.proofs.Common.{◌==◌, ap, eq-eqb}
 use Rattle.std.specs.Prelude.{not}
 use Rattle.std.proofs.lemmas.Bool.{ne_eqb}
 use Rattle.ds2_csv_records.proofs.Cells.{prefix-stops, prefix-whole}

@@ -1,24 +1,17 @@
-use Rattle.std.proofs.Common.{◌≡◌, ◌∙◌, ◌++◌, ◌∷◌, ◌<◌, ap, sym, List, ℕ, length, drop, arith, [], refl}
-use Rattle.std.specs.List.{prefix_len}
+use Rattle.std.proofs.Common.{◌∙◌, ◌++◌, ◌∷◌, ap, sym, List, ℕ, length, []}
 use Rattle.csv.specs.declared.parser.State.TheVariants as st
-use Rattle.ds2_csv_records.specs.Cells.{ends_line, spelled}
-use Rattle.ds2_csv_records.specs.Reading.{rest_of, rest_behind}
-use Rattle.ds2_csv_records.proofs.Cells.{lines-cut}
-use Rattle.ds2_csv_records.proofs.Reading.{start-is, no-more, some-more, still-left, record-ends, holds-none, goes-on, goes-out}
+use Rattle.ds2_csv_records.specs.Cells.{spelled}
+use Rattle.ds2_csv_records.specs.Reading.{rest_of}
+use Rattle.ds2_csv_records.proofs.Reading.{no-more, some-more, still-left, record-ends, holds-none, goes-on, goes-out}
 use Rattle.ds2_csv_records.proofs.read.next_record.Goals as goal
-
-pub split_at-requires : goal.split_at-requires
-split_at-requires c = rw (← c.as_bytes.ensures.value) (lines-cut c.as_bytes.result.now c.line_ends.result c.as_bytes.ensures.utf8 c.line_ends.ensures.within c.line_ends.ensures.mark)
 
 pub returns-then-is_empty : goal.returns-then-is_empty
 returns-then-is_empty c =
-    let start = start-is c.args.text.now c.split_at.result.1.now c.as_bytes.result.now c.line_ends.result c.line_ends.ensures.len c.as_bytes.ensures.value c.split_at.ensures.back in
-    no-more c.args.text.now c.split_at.result.1.now c.is_empty.result start c.is_empty.ensures c.if-is_empty.true
+    no-more c.args.text.now c.without_front-start.result.now c.is_empty.result c.without_front-start.ensures c.is_empty.ensures c.if-is_empty.true
 
 pub cells-init : goal.cells-init
 cells-init c =
-    let start = start-is c.args.text.now c.split_at.result.1.now c.as_bytes.result.now c.line_ends.result c.line_ends.ensures.len c.as_bytes.ensures.value c.split_at.ensures.back in
-    ([], rw c.truncate.ensures (holds-none c.args.most), ap (λ (t : List ℕ). rest_of st.StartField [] [] t) (sym start) ∙ c.take_cell-taken.ensures.taken [])
+    ([], rw c.truncate.ensures (holds-none c.args.most), ap (λ (t : List ℕ). rest_of st.StartField [] [] t) (sym c.without_front-start.ensures) ∙ c.take_cell-taken.ensures.taken [])
 
 pub cells-preserved : goal.cells-preserved
 cells-preserved c =
@@ -35,7 +28,6 @@ cells-smaller c = still-left c.cells.taken.more c.take_cell-taken-in-cells.resul
 pub returns : goal.returns
 returns c =
     let inv = c.cells.invariant in
-    let start = start-is c.args.text.now c.split_at.result.1.now c.as_bytes.result.now c.line_ends.result c.line_ends.ensures.len c.as_bytes.ensures.value c.split_at.ensures.back in
     record-ends c.args.text.now c.cells.taken.rest.now (inv.0 ++ (spelled c.cells.taken.cell ∷ [])) c.add-2.new.self c.args.most
-    (some-more c.args.text.now c.split_at.result.1.now c.is_empty.result start c.is_empty.ensures c.if-is_empty.false)
+    (some-more c.args.text.now c.without_front-start.result.now c.is_empty.result c.without_front-start.ensures c.is_empty.ensures c.if-is_empty.false)
     (goes-out _ inv.0 c.cells.taken c.cells-test.false inv.2) (c.in_ok-add-2.ensures inv.0 inv.1)

@@ -1,7 +1,5 @@
-use Rattle.std.proofs.Common.{◌≡◌, ◌∙◌, ap, sym, List, ℕ, drop, take, []}
-use Rattle.csv.specs.declared.parser.State.TheVariants as st
+use Rattle.std.proofs.Common.{◌∙◌, ap, List, ℕ}
 use Rattle.ds2_csv_records.specs.Cells.{bare_len}
-use Rattle.ds2_csv_records.specs.Reading.{rest_of}
 use Rattle.ds2_csv_records.proofs.Reading.{bare-taken}
 use Rattle.ds2_csv_records.proofs.taken.bare.Goals as goal
 

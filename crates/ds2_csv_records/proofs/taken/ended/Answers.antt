@@ -1,8 +1,5 @@
-use Rattle.std.proofs.Common.{◌≡◌, ◌∙◌, ◌<◌, ap, sym, List, ℕ, length, arith, drop}
-use Rattle.std.specs.Prelude.{if◌then◌else◌, Some, [], ◌∷◌, ◌++◌}
-use Rattle.csv.specs.declared.parser.State.TheVariants as st
-use Rattle.ds2_csv_records.specs.Cells.{begins_comma, spelled}
-use Rattle.ds2_csv_records.specs.Reading.{rest_of}
+use Rattle.std.proofs.Common.{arith}
+use Rattle.ds2_csv_records.specs.Cells.{spelled}
 use Rattle.ds2_csv_records.proofs.Cells.{end-cut}
 use Rattle.ds2_csv_records.proofs.Reading.{ended-here, ended-mark, some-left}
 use Rattle.ds2_csv_records.proofs.taken.ended.Goals as goal

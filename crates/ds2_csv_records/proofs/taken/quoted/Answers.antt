@@ -1,4 +1,4 @@
-use Rattle.std.proofs.Common.{◌≡◌, ◌∙◌, ap, sym, List, ℕ, true, drop, take, []}
+use Rattle.std.proofs.Common.{◌∙◌, ap, sym, List, ℕ, true}
 use Rattle.ds2_csv_records.specs.Cells.{to_quote, quoted_len, begins_end}
 use Rattle.ds2_csv_records.proofs.Reading.{quote-open, quote-closed, quote-inside, none-left}
 use Rattle.ds2_csv_records.proofs.taken.quoted.Goals as goal

@@ -1,4 +1,4 @@
-use Rattle.std.proofs.Common.{◌≡◌, ◌∙◌, ap, sym, List, ℕ, []}
+use Rattle.std.proofs.Common.{◌∙◌, ap, sym, List, ℕ, []}
 use Rattle.csv.specs.declared.parser.State.TheVariants as st
 use Rattle.ds2_csv_records.specs.Cells.{begins_quoted}
 use Rattle.ds2_csv_records.specs.Reading.{rest_of}

@@ -1,4 +1,4 @@
-use Rattle.std.proofs.Common.{◌≡◌, ◌++◌, ◌∙◌, ap, sym, List, ℕ}
+use Rattle.std.proofs.Common.{◌++◌, ◌∙◌, ap, sym, List, ℕ}
 use Rattle.csv.specs.Writing.{default_writer, row_text}
 use Rattle.ds2_csv.specs.Text.{cells_text}
 use Rattle.ds2_csv.proofs.Writing.{text_after}
