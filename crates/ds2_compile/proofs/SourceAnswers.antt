@@ -13,7 +13,7 @@ use Rattle.ds2_grammar.specs.Parsers.{ParserOutcome, Read, Unexpected, TooDeep, 
 use Rattle.ds2_grammar.specs.Promise.{place_of}
 use Rattle.ds2_tree.specs.Units.{SourcePart}
 use Rattle.ds2_parse.specs.ParseAnswer.{source_symbol, most_levels, SourcesAreReadExactly}
-use Rattle.ds2_parse.specs.UnitGrammar.{parse_source}
+use Rattle.ds2_parse_rules.specs.UnitGrammar.{parse_source}
 use Rattle.ds2_compile.specs.declared.kinds.SourceKind.{SourceKind}
 use Rattle.ds2_compile.specs.declared.kinds.SourceKind.TheVariants.{Lex, Parse}
 use Rattle.ds2_compile.specs.Laws.{OneSourceAnswer, SourcesRead}

@@ -19,17 +19,16 @@ use Rattle.ds2_tree.specs.Lists.{if_any, one_token, all_spelled, IfAny, SomeOf, 
 use Rattle.ds2_tree.specs.Statements.{Statement, statement_spelling, IsStatement, statement_opens, statements_opens}
 use Rattle.ds2_tree.specs.Readings.{reading_spelling, IsReading}
 use Rattle.ds2_tree.specs.Globals.{Method, GlobalItem, Declared, Listed, Defined, type_spelling, variables_spelling, declaration_spelling, parameter_spelling, parameters_spelling, returns_spelling, method_spelling, global_spelling, is_dcl, is_list_keyword, IsType, IsVariables, IsDeclaration, IsParameter, AreParameters, IsReturns, IsMethod, IsGlobal, global_opens}
-use Rattle.ds2_parse.specs.GrammarTokens.{mark_rule, word_rule, starts}
-use Rattle.ds2_parse.specs.StatementGrammar.{statement_words, begins_statement, listed_statements, statement_rule}
-use Rattle.ds2_parse.specs.ReadingGrammar.{begins_reading, reading_rule}
-use Rattle.ds2_parse.specs.GlobalGrammar.{begins_type, declaration_rule, ParameterTree, begins_parameter, parameter_rule, parameter_behind, parameters_of, parameters_rule, returns_of, returns_rule, BodyRead, body_rule, MethodRead, method_of, method_rule, ListedTree, listed_rule, GlobalTree, global_of_kind, begins_global, global_rule}
-use Rattle.ds2_parse.proofs.GrammarTokenLaws.{apart, within, word_value, others, reserved_is_no_name, among_more, mark_law, place_part}
-use Rattle.ds2_parse.proofs.ExpressionLaws.{Behind, word_token, or_last}
-use Rattle.ds2_parse.proofs.StatementLaws.{statement_part, statement_starts, statement_closes, begins_none}
-use Rattle.ds2_parse.proofs.StatementSumLaws.{statement_list, statements_list, statements_flat, each_statements, statements_each, statement_law}
-use Rattle.ds2_parse.proofs.PlainLaws.{alike_law, plain_part, Anything, plain_law, followed, chosen, mark_then, word_then, name_then, kept_then, name_law, any_law, any_word, all_law, comma_law}
-use Rattle.ds2_parse.proofs.ReadingLaws.{AfterReading, reading_law}
-use Rattle.ds2_parse.proofs.DeclarationLaws.{type_law, type_begins, type_none, names_law, variables_law, declaration_law}
+use Rattle.ds2_parse_rules.specs.GrammarTokens.{mark_rule, word_rule, starts}
+use Rattle.ds2_parse_rules.specs.StatementGrammar.{statement_words, begins_statement, listed_statements, statement_rule}
+use Rattle.ds2_parse_rules.specs.ReadingGrammar.{begins_reading, reading_rule}
+use Rattle.ds2_parse_rules.specs.GlobalGrammar.{begins_type, declaration_rule, ParameterTree, begins_parameter, parameter_rule, parameter_behind, parameters_of, parameters_rule, returns_of, returns_rule, BodyRead, body_rule, MethodRead, method_of, method_rule, ListedTree, listed_rule, GlobalTree, global_of_kind, begins_global, global_rule}
+use Rattle.ds2_parse_rules.proofs.GrammarTokenLaws.{apart, within, word_value, others, reserved_is_no_name, among_more, mark_law, place_part, Behind, word_token, or_last}
+use Rattle.ds2_parse_statements.proofs.StatementLaws.{statement_part, statement_starts, statement_closes, begins_none}
+use Rattle.ds2_parse_statements.proofs.StatementSumLaws.{statement_list, statements_list, statements_flat, each_statements, statements_each, statement_law}
+use Rattle.ds2_parse_rules.proofs.PlainLaws.{alike_law, plain_part, Anything, plain_law, followed, chosen, mark_then, word_then, name_then, kept_then, name_law, any_law, any_word, all_law, comma_law}
+use Rattle.ds2_parse_declarations.proofs.ReadingLaws.{AfterReading, reading_law}
+use Rattle.ds2_parse_declarations.proofs.DeclarationLaws.{type_law, type_begins, type_none, names_law, variables_law, declaration_law}
 
 -- ---- parameters
 

@@ -6,7 +6,7 @@ use Rattle.ds2_tree.specs.declared.statements.Statement as code
 use Rattle.ds2_tree.specs.Globals.{Method}
 use Rattle.ds2_tree.specs.Statements.{Statements, Then}
 use Rattle.ds2_tree.specs.StatementViews.{statement_tree, statements_of}
-use Rattle.ds2_parse.specs.StatementGrammar.{listed_statements}
+use Rattle.ds2_parse_rules.specs.StatementGrammar.{listed_statements}
 
 statements_same : (ss : List code.Statement) → listed_statements (map statement_tree ss) ≡ statements_of ss
 statements_same [] = refl

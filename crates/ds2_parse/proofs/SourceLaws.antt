@@ -8,7 +8,7 @@ use Rattle.ds2_grammar.proofs.Rules.{Rule, no_rule, pure_rule, sub_rule}
 use Rattle.ds2_grammar.proofs.Words.{sym as symbol}
 use Rattle.ds2_grammar.proofs.Theorem.{whole, exactly}
 use Rattle.ds2_tree.specs.Units.{SourcePart, source_spelling, IsSource, source_opens}
-use Rattle.ds2_parse.specs.UnitGrammar.{parts_rule, at_the_end, source_rule}
+use Rattle.ds2_parse_rules.specs.UnitGrammar.{parts_rule, at_the_end, source_rule}
 use Rattle.ds2_parse.specs.ParseAnswer.{source_symbol, SourcesAreReadExactly}
 use Rattle.ds2_parse.proofs.UnitLaws.{parts_part, parts_law}
 use Rattle.ds2_parse.proofs.SteadyUnitLaws.{steady_source}

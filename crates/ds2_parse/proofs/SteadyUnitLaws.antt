@@ -6,12 +6,12 @@ use Rattle.ds2_grammar.specs.Parsers.{One, Two, peek}
 use Rattle.ds2_grammar.proofs.Steady.{Steady, Steadily, steady_pure, steady_no, steady_then, steady_peek, by_to, by_seq, by_choose, by_optional, by_many}
 use Rattle.ds2_tree.specs.Globals.{is_dcl, is_list_keyword, is_decimal_keyword, is_text_keyword}
 use Rattle.ds2_tree.specs.Units.{SourcePart, is_kept_or_dropped, is_answer}
-use Rattle.ds2_parse.specs.GrammarTokens.{is_open_mark, is_comma_mark, starts, one_or_more}
-use Rattle.ds2_parse.specs.StatementGrammar.{begins_statement, statement_rule}
-use Rattle.ds2_parse.specs.ReadingGrammar.{input_flag_of, input_flag_rule, input_read, inputs_rule, begins_by_variable, by_variable_of, by_of, by_rule, threads_of, threads_rule, set_from_rule, set_tables_rule, is_slash_mark, merge_retain_of, merge_rule, reading_of_kind, begins_reading, reading_rule}
-use Rattle.ds2_parse.specs.GlobalGrammar.{type_scale_of, type_of_kind, type_rule, names_rule, variables_of, variables_tail, variables_rule, is_minus_mark, is_number_constant, is_unsigned_constant, begins_constant, signed_value, constant_behind, constant_list_of, constants_rule, begins_bracketed_name, bracketed_name_of, bracketed_names_of, bracketed_of, bracketed_rule, hash_table_of, hash_size_of, hash_size_rule, hash_rule, hiter_rule, instance_rule, package_tail, declaration_of, declaration_rule, begins_parameter, parameter_behind, parameters_of, parameters_rule, returns_of, returns_rule, body_rule, method_of, method_rule, listed_rule, global_of_kind, begins_global, global_rule}
-use Rattle.ds2_parse.specs.UnitGrammar.{renaming_of, option_of_kind, begins_option, option_rule, options_read, output_read, output_rule, unit_body_rule, package_of, package_rule, thread_of, thread_rule, data_of, data_rule, part_of_kind, begins_part, part_rule, parts_rule, at_the_end, source_rule}
-use Rattle.ds2_parse.proofs.SteadyLaws.{by_kept, by_mark, by_word, by_more, by_commas, steady_statement}
+use Rattle.ds2_parse_rules.specs.GrammarTokens.{is_open_mark, is_comma_mark, starts, one_or_more}
+use Rattle.ds2_parse_rules.specs.StatementGrammar.{begins_statement, statement_rule}
+use Rattle.ds2_parse_rules.specs.ReadingGrammar.{input_flag_of, input_flag_rule, input_read, inputs_rule, begins_by_variable, by_variable_of, by_of, by_rule, threads_of, threads_rule, set_from_rule, set_tables_rule, is_slash_mark, merge_retain_of, merge_rule, reading_of_kind, begins_reading, reading_rule}
+use Rattle.ds2_parse_rules.specs.GlobalGrammar.{type_scale_of, type_of_kind, type_rule, names_rule, variables_of, variables_tail, variables_rule, is_minus_mark, is_number_constant, is_unsigned_constant, begins_constant, signed_value, constant_behind, constant_list_of, constants_rule, begins_bracketed_name, bracketed_name_of, bracketed_names_of, bracketed_of, bracketed_rule, hash_table_of, hash_size_of, hash_size_rule, hash_rule, hiter_rule, instance_rule, package_tail, declaration_of, declaration_rule, begins_parameter, parameter_behind, parameters_of, parameters_rule, returns_of, returns_rule, body_rule, method_of, method_rule, listed_rule, global_of_kind, begins_global, global_rule}
+use Rattle.ds2_parse_rules.specs.UnitGrammar.{renaming_of, option_of_kind, begins_option, option_rule, options_read, output_read, output_rule, unit_body_rule, package_of, package_rule, thread_of, thread_rule, data_of, data_rule, part_of_kind, begins_part, part_rule, parts_rule, at_the_end, source_rule}
+use Rattle.ds2_parse_statements.proofs.SteadyLaws.{by_kept, by_mark, by_word, by_more, by_commas, steady_statement}
 
 -- ---- readings
 

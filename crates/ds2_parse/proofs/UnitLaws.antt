@@ -15,14 +15,13 @@ use Rattle.ds2_tree.specs.Marks.{open_mark, close_mark, equals_mark}
 use Rattle.ds2_tree.specs.Lists.{if_any, one_token, all_spelled, IfAny, SomeOf, Each}
 use Rattle.ds2_tree.specs.Globals.{GlobalItem, global_spelling, IsGlobal, parameters_spelling, AreParameters}
 use Rattle.ds2_tree.specs.Units.{Package, Thread, DataProgram, SourcePart, Proc, Run, Quit, APackage, AThread, AData, renaming_spelling, option_spelling, options_spelling, output_spelling, package_spelling, thread_spelling, data_spelling, part_spelling, source_spelling, is_kept_or_dropped, is_answer, IsRenaming, IsOption, IsOutput, IsPackage, IsThread, IsData, IsPart, IsSource, globals_opens, unit_opens, part_opens, source_opens}
-use Rattle.ds2_parse.specs.GrammarTokens.{mark_rule, word_rule, is_open_mark, starts, one_or_more}
-use Rattle.ds2_parse.specs.GlobalGrammar.{parameters_rule, begins_global, global_rule}
-use Rattle.ds2_parse.specs.UnitGrammar.{renaming_of, renaming_rule, OptionListTree, kept_option_rule, overwrite_rule, rename_rule, OptionTree, option_of_kind, begins_option, option_rule, options_read, options_rule, output_read, output_rule, UnitBody, unit_body_rule, package_of, package_rule, thread_of, thread_rule, data_of, data_rule, UnitRead, unit_rule, PartTree, part_of_kind, begins_part, part_rule, parts_rule}
-use Rattle.ds2_parse.proofs.GrammarTokenLaws.{word_value, among_more, mark_law, place_part}
-use Rattle.ds2_parse.proofs.ExpressionLaws.{Behind, word_token}
-use Rattle.ds2_parse.proofs.PlainLaws.{alike_law, plain_part, Anything, plain_law, followed, chosen, mark_then, word_then, name_then, kept_then, name_law, any_law, all_law, some_law}
-use Rattle.ds2_parse.proofs.ReadingLaws.{table_is_none}
-use Rattle.ds2_parse.proofs.DeclarationLaws.{names_law}
+use Rattle.ds2_parse_rules.specs.GrammarTokens.{mark_rule, word_rule, is_open_mark, starts, one_or_more}
+use Rattle.ds2_parse_rules.specs.GlobalGrammar.{parameters_rule, begins_global, global_rule}
+use Rattle.ds2_parse_rules.specs.UnitGrammar.{renaming_of, renaming_rule, OptionListTree, kept_option_rule, overwrite_rule, rename_rule, OptionTree, option_of_kind, begins_option, option_rule, options_read, options_rule, output_read, output_rule, UnitBody, unit_body_rule, package_of, package_rule, thread_of, thread_rule, data_of, data_rule, UnitRead, unit_rule, PartTree, part_of_kind, begins_part, part_rule, parts_rule}
+use Rattle.ds2_parse_rules.proofs.GrammarTokenLaws.{word_value, among_more, mark_law, place_part, Behind, word_token}
+use Rattle.ds2_parse_rules.proofs.PlainLaws.{alike_law, plain_part, Anything, plain_law, followed, chosen, mark_then, word_then, name_then, kept_then, name_law, any_law, all_law, some_law}
+use Rattle.ds2_parse_declarations.proofs.ReadingLaws.{table_is_none}
+use Rattle.ds2_parse_declarations.proofs.DeclarationLaws.{names_law}
 use Rattle.ds2_parse.proofs.GlobalLaws.{parameters_law, global_part, global_law, global_begins}
 
 -- ---- options of an output table

@@ -1,14 +1,4 @@
-pub mod GrammarTokens
-pub mod ExpressionGrammar
-pub mod StatementGrammar
-pub mod ReadingGrammar
-pub mod GlobalGrammar
-pub mod UnitGrammar
-pub mod ExpressionParts
 pub mod ParseAnswer
 pub mod ParseExamples
-pub mod StatementParts
-pub mod TokenClasses
-pub mod UnitParts
 pub mod UnitBodies
 pub mod MethodBodies

@@ -10,10 +10,10 @@ use Rattle.ds2_tree.specs.declared.expressions.ChainKind.TheVariants as chain
 use Rattle.ds2_tree.specs.Expressions.{Expression, Variable, Chain, NoOperand, Operand}
 use Rattle.ds2_tree.specs.Statements.{Empty, If, IfElse}
 use Rattle.ds2_tree.specs.Units.{Run}
-use Rattle.ds2_parse.specs.ExpressionGrammar.{expression}
-use Rattle.ds2_parse.specs.StatementGrammar.{statement_rule}
-use Rattle.ds2_parse.specs.GlobalGrammar.{declaration_rule, method_rule}
-use Rattle.ds2_parse.specs.UnitGrammar.{parse_source}
+use Rattle.ds2_parse_rules.specs.ExpressionGrammar.{expression}
+use Rattle.ds2_parse_rules.specs.StatementGrammar.{statement_rule}
+use Rattle.ds2_parse_rules.specs.GlobalGrammar.{declaration_rule, method_rule}
+use Rattle.ds2_parse_rules.specs.UnitGrammar.{parse_source}
 
 -- the n-th column of the first line
 abbrev in_column : ℕ → Place

@@ -1,22 +1,23 @@
 //! The parser of what a unit is made of: declarations, lists of variables, and methods.
 ghost use Rattle.std.specs.Prelude.{ℕ, ◌<◌, ◌≤◌, length, IfOk, map};
 ghost use Rattle.ds2_grammar.specs.Parsers.{One, Two, to, many_of};
-ghost use Rattle.ds2_grammar.specs.Promise.{Gives};
+ghost use Rattle.ds2_grammar.specs.Promise.{Gives, Promises};
 ghost use Rattle.ds2_tree.specs.UnitViews.{method_tree, global_tree};
-ghost use Rattle.ds2_parse.specs.StatementGrammar.{statement_rule};
-ghost use Rattle.ds2_parse.specs.GlobalGrammar as grammar;
-ghost use Rattle.ds2_parse.specs.MethodBodies.{method_body_parts};
+ghost use Rattle.ds2_parse_rules.specs.StatementGrammar.{statement_rule};
+ghost use Rattle.ds2_parse_rules.specs.GlobalGrammar as grammar;
+ghost use Rattle.ds2_parse.specs.ParseAnswer.{global_symbol};
+ghost use Rattle.ds2_parse.specs.MethodBodies.{method_body_parts, method_tail_rule, method_tail_parts};
 
-use crate::declarations::declaration;
-use crate::front::{Parsed, mark, word};
-use crate::front_words::{TokenClass, at, token};
-use crate::parameters::{optional_returns, parameters};
-use crate::readings::optional_reading;
-use crate::statements::statements;
-use crate::types::{locals, names};
 use ds2_base::{List, Place};
+use ds2_parse_declarations::declarations::declaration;
+use ds2_parse_declarations::parameters::{optional_returns, parameters};
+use ds2_parse_declarations::readings::optional_reading;
+use ds2_parse_declarations::types::{locals, names};
+use ds2_parse_rules::front::{Parsed, mark, word};
+use ds2_parse_rules::front_words::{TokenClass, at, token};
+use ds2_parse_statements::statements::statements;
 use ds2_token::Token;
-use ds2_tree::{GlobalItem, Method, Reading, Statement, VariableDeclaration};
+use ds2_tree::{GlobalItem, Method, Parameters, Reading, Returns, Statement, VariableDeclaration};
 use std::alloc::Global;
 
 /// What stands behind the `;` of a method's first line.
@@ -49,28 +50,52 @@ fn method_body(alloc: Global, tokens: &[Token], end: Place, levels: u64) -> Pars
     Ok((body, rest))
 }
 
-// "method" name parameters [ "returns" type ] ";", and the body
+/// What stands behind a method's name.
+#[derive(Drop)]
+pub struct MethodTail {
+    pub parameters: Parameters,
+    pub returns: Option<Returns>,
+    pub semicolon: Place,
+    pub body: MethodBody,
+}
+
+// parameters [ "returns" type ] ";", and the body
+fn method_tail(alloc: Global, tokens: &[Token], end: Place, levels: u64) -> Parsed<'_, MethodTail>
+    ensures exact { (m : ℕ) → length tokens.now < m → Gives end (λ x. (method_tail_parts x.0, x.1.now)) result (method_tail_rule m levels tokens.now) }
+    ensures shorter { IfOk result (λ r. length r.1.now < length tokens.now) }
+{
+    let (parameters, rest) = parameters(alloc, tokens, end)?;
+    let (returns, rest) = optional_returns(alloc, rest, end)?;
+    let (semicolon, rest) = mark(rest, end, ";")?;
+    let (body, rest) = method_body(alloc, rest, end, levels)?;
+    let tail = MethodTail {
+        parameters,
+        returns,
+        semicolon,
+        body,
+    };
+    Ok((tail, rest))
+}
+
+// "method" name, and what stands behind it
 fn method(alloc: Global, tokens: &[Token], end: Place, levels: u64) -> Parsed<'_, Method>
     ensures exact { (m : ℕ) → length tokens.now < m → Gives end (λ x. (method_tree x.0, x.1.now)) result (grammar.method_rule m levels tokens.now) }
     ensures shorter { IfOk result (λ r. length r.1.now < length tokens.now) }
 {
     let (keyword, rest) = word(alloc, tokens, end, "method")?;
     let (name, rest) = token(alloc, rest, end, TokenClass::Name)?;
-    let (parameters, rest) = parameters(alloc, rest, end)?;
-    let (returns, rest) = optional_returns(alloc, rest, end)?;
-    let (semicolon, rest) = mark(rest, end, ";")?;
-    let (body, rest) = method_body(alloc, rest, end, levels)?;
+    let (tail, rest) = method_tail(alloc, rest, end, levels)?;
     let method = Method {
         keyword,
         name,
-        parameters,
-        returns,
-        semicolon,
-        locals: body.locals,
-        reading: body.reading,
-        body: body.statements,
-        end_keyword: body.end_keyword,
-        end: body.end,
+        parameters: tail.parameters,
+        returns: tail.returns,
+        semicolon: tail.semicolon,
+        locals: tail.body.locals,
+        reading: tail.body.reading,
+        body: tail.body.statements,
+        end_keyword: tail.body.end_keyword,
+        end: tail.body.end,
     };
     Ok((method, rest))
 }
@@ -91,8 +116,17 @@ fn listed(alloc: Global, tokens: &[Token], end: Place) -> Parsed<'_, GlobalItem>
     Ok((global, rest))
 }
 
-// A declaration, a list of variables, or a method, by its first word.
+// A declaration, a list of variables, or a method.
 fn global(alloc: Global, tokens: &[Token], end: Place, levels: u64) -> Parsed<'_, GlobalItem>
+    ensures exact { (m : ℕ) → length tokens.now < m → Gives end (λ x. (global_tree x.0, x.1.now)) result (grammar.global_rule m levels tokens.now) }
+    ensures promise { Promises global_symbol levels end (λ x. (global_tree x.0, x.1.now)) tokens.now result }
+    ensures shorter { IfOk result (λ r. length r.1.now < length tokens.now) }
+{
+    any_global(alloc, tokens, end, levels)
+}
+
+// Either of them, by its first word.
+fn any_global(alloc: Global, tokens: &[Token], end: Place, levels: u64) -> Parsed<'_, GlobalItem>
     ensures exact { (m : ℕ) → length tokens.now < m → Gives end (λ x. (global_tree x.0, x.1.now)) result (grammar.global_rule m levels tokens.now) }
     ensures shorter { IfOk result (λ r. length r.1.now < length tokens.now) }
 {

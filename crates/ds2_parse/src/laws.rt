@@ -1,18 +1,6 @@
 //! Laws of the grammar.
-ghost use Rattle.ds2_parse.specs.ExpressionGrammar.{ExpressionsHaveOneTree};
 ghost use Rattle.ds2_parse.specs.ParseAnswer.{SourcesAreReadExactly};
 ghost use Rattle.ds2_parse.specs.ParseExamples.{SourceExamples};
-ghost use Rattle.ds2_parse.specs.StatementGrammar.{StatementsHaveOneTree};
-
-/// Two expressions of the grammar with one spelling are one.
-pub fn grammar_reads_expressions()
-    ensures { ExpressionsHaveOneTree }
-{}
-
-/// Two statements of the grammar with one spelling are one.
-pub fn grammar_reads_statements()
-    ensures { StatementsHaveOneTree }
-{}
 
 /// Two sources of the grammar with one spelling are one, and of each list of tokens one answer is due: its tree, the first token
 /// with which nothing goes on, or the first that opens a level too many.

@@ -1,10 +1,10 @@
 //! The parser of a source.
 ghost use Rattle.ds2_parse.specs.ParseAnswer.{SaysOfSource};
 
-use crate::front::unexpected;
 use crate::units::parts;
 use ds2_base::{List, Place, Refusal, Stop};
 use ds2_grammar::ParseKind;
+use ds2_parse_rules::front::unexpected;
 use ds2_token::Token;
 use ds2_tree::Source;
 use std::alloc::Global;

@@ -1,18 +1,19 @@
 //! The parser of units and of the parts of a source.
 ghost use Rattle.std.specs.Prelude.{ℕ, ◌<◌, ◌≤◌, codes, length, IfOk, map};
 ghost use Rattle.ds2_grammar.specs.Parsers.{One, Two, to, seq};
-ghost use Rattle.ds2_grammar.specs.Promise.{Gives};
+ghost use Rattle.ds2_grammar.specs.Promise.{Gives, Promises};
 ghost use Rattle.ds2_tree.specs.UnitViews.{global_tree, package_tree, thread_tree, data_tree, part_tree};
-ghost use Rattle.ds2_parse.specs.GrammarTokens.{mark_rule, word_rule};
-ghost use Rattle.ds2_parse.specs.UnitGrammar as grammar;
+ghost use Rattle.ds2_parse_rules.specs.GrammarTokens.{mark_rule, word_rule};
+ghost use Rattle.ds2_parse_rules.specs.UnitGrammar as grammar;
+ghost use Rattle.ds2_parse.specs.ParseAnswer.{part_symbol};
 ghost use Rattle.ds2_parse.specs.UnitBodies.{unit_body_parts};
 
-use crate::front::{Parsed, mark, word};
-use crate::front_words::{TokenClass, at, starts_with, token};
 use crate::globals::globals;
-use crate::outputs::outputs;
-use crate::parameters::optional_parameters;
 use ds2_base::{List, Place};
+use ds2_parse_declarations::outputs::outputs;
+use ds2_parse_declarations::parameters::optional_parameters;
+use ds2_parse_rules::front::{Parsed, mark, word};
+use ds2_parse_rules::front_words::{TokenClass, at, starts_with, token};
 use ds2_token::Token;
 use ds2_tree::{DataProgram, GlobalItem, Package, SourcePart, Thread};
 use std::alloc::Global;
@@ -170,8 +171,17 @@ fn quit(alloc: Global, tokens: &[Token], end: Place) -> Parsed<'_, SourcePart>
     Ok((part, rest))
 }
 
-// A part of a source, by its first word.
+// A part of a source.
 fn part(alloc: Global, tokens: &[Token], end: Place, levels: u64) -> Parsed<'_, SourcePart>
+    ensures exact { (m : ℕ) → length tokens.now < m → Gives end (λ x. (part_tree x.0, x.1.now)) result (grammar.part_rule m levels tokens.now) }
+    ensures promise { Promises part_symbol levels end (λ x. (part_tree x.0, x.1.now)) tokens.now result }
+    ensures shorter { IfOk result (λ r. length r.1.now < length tokens.now) }
+{
+    any_part(alloc, tokens, end, levels)
+}
+
+// A part of a source, by its first word.
+fn any_part(alloc: Global, tokens: &[Token], end: Place, levels: u64) -> Parsed<'_, SourcePart>
     ensures exact { (m : ℕ) → length tokens.now < m → Gives end (λ x. (part_tree x.0, x.1.now)) result (grammar.part_rule m levels tokens.now) }
     ensures shorter { IfOk result (λ r. length r.1.now < length tokens.now) }
 {

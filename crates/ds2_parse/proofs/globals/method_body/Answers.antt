@@ -3,12 +3,12 @@ use Rattle.ds2_grammar.specs.Parsers.{Read, seq, many_of, optional}
 use Rattle.ds2_grammar.specs.Promise.{Fails}
 use Rattle.ds2_tree.specs.Globals.{is_dcl}
 use Rattle.ds2_tree.specs.StatementViews.{statement_tree}
-use Rattle.ds2_parse.specs.GrammarTokens.{mark_rule, word_rule}
-use Rattle.ds2_parse.specs.ReadingGrammar.{begins_reading, reading_rule}
-use Rattle.ds2_parse.specs.StatementGrammar.{begins_statement, statement_rule}
-use Rattle.ds2_parse.specs.GlobalGrammar.{variables_rule}
+use Rattle.ds2_parse_rules.specs.GrammarTokens.{mark_rule, word_rule}
+use Rattle.ds2_parse_rules.specs.ReadingGrammar.{begins_reading, reading_rule}
+use Rattle.ds2_parse_rules.specs.StatementGrammar.{begins_statement, statement_rule}
+use Rattle.ds2_parse_rules.specs.GlobalGrammar.{variables_rule}
 use Rattle.ds2_parse.specs.MethodBodies.{method_body_parts}
-use Rattle.ds2_parse.proofs.RuleSteps.{exit, plainly, on_read, on_stop, on_last, on_last_stop}
+use Rattle.ds2_parse_rules.proofs.RuleSteps.{exit, plainly, on_read, on_stop, on_last, on_last_stop}
 use Rattle.ds2_parse.proofs.globals.method_body.Goals as goal
 
 pub returns-in_err-locals-clause-exact : goal.returns-in_err-locals-clause-exact

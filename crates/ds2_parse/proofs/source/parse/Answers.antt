@@ -3,8 +3,8 @@ use Rattle.ds2_grammar.specs.Parsers.{Read, Unexpected}
 use Rattle.ds2_grammar.specs.Promise.{Fails}
 use Rattle.ds2_tree.specs.Units.{SourcePart}
 use Rattle.ds2_tree.specs.UnitViews.{part_tree, source_tree}
-use Rattle.ds2_parse.specs.UnitGrammar.{parts_rule, parse_source}
-use Rattle.ds2_parse.proofs.RuleSteps.{exit, fails_unexpected}
+use Rattle.ds2_parse_rules.specs.UnitGrammar.{parts_rule, parse_source}
+use Rattle.ds2_parse_rules.proofs.RuleSteps.{exit, fails_unexpected}
 use Rattle.ds2_parse.proofs.SymbolPromises.{source_said, source_fails, source_read, source_trails}
 use Rattle.ds2_parse.proofs.source.parse.Goals as goal
 

@@ -3,10 +3,10 @@ use Rattle.ds2_grammar.specs.Parsers.{Read, to, seq}
 use Rattle.ds2_grammar.specs.Promise.{Fails}
 use Rattle.ds2_token.specs.Words.{is_table}
 use Rattle.ds2_tree.specs.UnitViews.{data_tree}
-use Rattle.ds2_parse.specs.GrammarTokens.{mark_rule, word_rule, one_or_more}
-use Rattle.ds2_parse.specs.UnitGrammar.{output_rule, unit_body_rule, data_of}
+use Rattle.ds2_parse_rules.specs.GrammarTokens.{mark_rule, word_rule, one_or_more}
+use Rattle.ds2_parse_rules.specs.UnitGrammar.{output_rule, unit_body_rule, data_of}
 use Rattle.ds2_parse.specs.UnitBodies.{unit_body_parts}
-use Rattle.ds2_parse.proofs.RuleSteps.{exit, held, on_read, on_stop, on_last, on_last_stop}
+use Rattle.ds2_parse_rules.proofs.RuleSteps.{exit, held, on_read, on_stop, on_last, on_last_stop}
 use Rattle.ds2_parse.proofs.units.data_program.Goals as goal
 
 pub returns-in_err-outputs-clause-exact : goal.returns-in_err-outputs-clause-exact

@@ -3,10 +3,10 @@ use Rattle.ds2_grammar.specs.Parsers.{Read, kept, to, seq}
 use Rattle.ds2_grammar.specs.Promise.{Fails}
 use Rattle.ds2_token.specs.Words.{is_package_name}
 use Rattle.ds2_tree.specs.UnitViews.{package_tree}
-use Rattle.ds2_parse.specs.GrammarTokens.{mark_rule, word_rule}
-use Rattle.ds2_parse.specs.UnitGrammar.{unit_body_rule, package_of}
+use Rattle.ds2_parse_rules.specs.GrammarTokens.{mark_rule, word_rule}
+use Rattle.ds2_parse_rules.specs.UnitGrammar.{unit_body_rule, package_of}
 use Rattle.ds2_parse.specs.UnitBodies.{unit_body_parts}
-use Rattle.ds2_parse.proofs.RuleSteps.{exit, held, on_read, on_stop, on_last, on_last_stop}
+use Rattle.ds2_parse_rules.proofs.RuleSteps.{exit, held, on_read, on_stop, on_last, on_last_stop}
 use Rattle.ds2_parse.proofs.units.package.Goals as goal
 
 pub returns-in_err-name-clause-exact : goal.returns-in_err-name-clause-exact

@@ -2,9 +2,9 @@ use Rattle.std.proofs.Common.{map, sym, ap, ◌∙◌, arith}
 use Rattle.std.proofs.lemmas.List.{map_push}
 use Rattle.ds2_grammar.specs.Parsers.{many_of}
 use Rattle.ds2_tree.specs.UnitViews.{part_tree}
-use Rattle.ds2_parse.specs.UnitGrammar.{begins_part, part_rule}
-use Rattle.ds2_parse.proofs.RuleSteps.{exit}
-use Rattle.ds2_parse.proofs.UnitSteps.{item_found, item_stops, no_item, nothing_found}
+use Rattle.ds2_parse_rules.specs.UnitGrammar.{begins_part, part_rule}
+use Rattle.ds2_parse_rules.proofs.RuleSteps.{exit}
+use Rattle.ds2_parse_declarations.proofs.UnitSteps.{item_found, item_stops, no_item, nothing_found}
 use Rattle.ds2_parse.proofs.units.parts.Goals as goal
 
 pub loop-alloc-init : goal.loop-alloc-init

@@ -3,11 +3,11 @@ use Rattle.ds2_grammar.specs.Parsers.{Read, kept, to, seq, optional}
 use Rattle.ds2_grammar.specs.Promise.{Fails}
 use Rattle.ds2_token.specs.Words.{is_name_token}
 use Rattle.ds2_tree.specs.UnitViews.{thread_tree}
-use Rattle.ds2_parse.specs.GrammarTokens.{mark_rule, word_rule, is_open_mark}
-use Rattle.ds2_parse.specs.GlobalGrammar.{parameters_rule}
-use Rattle.ds2_parse.specs.UnitGrammar.{unit_body_rule, thread_of}
+use Rattle.ds2_parse_rules.specs.GrammarTokens.{mark_rule, word_rule, is_open_mark}
+use Rattle.ds2_parse_rules.specs.GlobalGrammar.{parameters_rule}
+use Rattle.ds2_parse_rules.specs.UnitGrammar.{unit_body_rule, thread_of}
 use Rattle.ds2_parse.specs.UnitBodies.{unit_body_parts}
-use Rattle.ds2_parse.proofs.RuleSteps.{exit, held, on_read, on_stop, on_last, on_last_stop}
+use Rattle.ds2_parse_rules.proofs.RuleSteps.{exit, held, on_read, on_stop, on_last, on_last_stop}
 use Rattle.ds2_parse.proofs.units.thread.Goals as goal
 
 pub returns-in_err-parameters-clause-exact : goal.returns-in_err-parameters-clause-exact

@@ -2,9 +2,9 @@ use Rattle.std.proofs.Common.{◌≡◌, codes, refl, sym, ◌∙◌, arith}
 use Rattle.ds2_grammar.specs.Parsers.{Read, One, Two, to, choose_by}
 use Rattle.ds2_grammar.specs.Promise.{Fails}
 use Rattle.ds2_tree.specs.UnitViews.{package_tree, thread_tree, data_tree, part_tree}
-use Rattle.ds2_parse.specs.GrammarTokens.{starts}
-use Rattle.ds2_parse.specs.UnitGrammar.{package_rule, thread_rule, data_rule, part_of_kind}
-use Rattle.ds2_parse.proofs.RuleSteps.{exit, held, on_last, on_last_stop, on_yes, on_no}
+use Rattle.ds2_parse_rules.specs.GrammarTokens.{starts}
+use Rattle.ds2_parse_rules.specs.UnitGrammar.{package_rule, thread_rule, data_rule, part_of_kind}
+use Rattle.ds2_parse_rules.proofs.RuleSteps.{exit, held, on_last, on_last_stop, on_yes, on_no}
 use Rattle.ds2_parse.proofs.units.unit.Goals as goal
 
 pub returns-in_err-package-clause-exact : goal.returns-in_err-package-clause-exact

@@ -2,10 +2,10 @@ use Rattle.std.proofs.Common.{◌≡◌, map, codes, refl, arith}
 use Rattle.ds2_grammar.specs.Parsers.{Read, seq, many_of}
 use Rattle.ds2_grammar.specs.Promise.{Fails}
 use Rattle.ds2_tree.specs.UnitViews.{global_tree}
-use Rattle.ds2_parse.specs.GrammarTokens.{mark_rule, word_rule}
-use Rattle.ds2_parse.specs.GlobalGrammar.{begins_global, global_rule}
+use Rattle.ds2_parse_rules.specs.GrammarTokens.{mark_rule, word_rule}
+use Rattle.ds2_parse_rules.specs.GlobalGrammar.{begins_global, global_rule}
 use Rattle.ds2_parse.specs.UnitBodies.{unit_body_parts}
-use Rattle.ds2_parse.proofs.RuleSteps.{exit, plainly, on_read, on_stop, on_last, on_last_stop}
+use Rattle.ds2_parse_rules.proofs.RuleSteps.{exit, plainly, on_read, on_stop, on_last, on_last_stop}
 use Rattle.ds2_parse.proofs.units.unit_body.Goals as goal
 
 pub returns-in_err-globals-clause-exact : goal.returns-in_err-globals-clause-exact

@@ -1,5 +1,0 @@
-use Rattle.ds2_parse.proofs.ExpressionLaws.{one_expression}
-use Rattle.ds2_parse.proofs.laws.grammar_reads_expressions.Goals as goal
-
-pub returns : goal.returns
-returns c = one_expression

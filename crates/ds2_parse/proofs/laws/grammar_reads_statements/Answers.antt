@@ -1,5 +1,0 @@
-use Rattle.ds2_parse.proofs.StatementSumLaws.{one_statement}
-use Rattle.ds2_parse.proofs.laws.grammar_reads_statements.Goals as goal
-
-pub returns : goal.returns
-returns c = one_statement

@@ -1,0 +1,13 @@
+use Rattle.std.proofs.Common.{◌≡◌, refl, sym, subst, arith}
+use Rattle.ds2_grammar.specs.Parsers.{kept, to, seq}
+use Rattle.ds2_grammar.specs.Promise.{Gives}
+use Rattle.ds2_tree.specs.Globals.{is_dcl}
+use Rattle.ds2_parse_rules.specs.GlobalGrammar.{declaration_of, declaration_tail}
+use Rattle.ds2_parse_rules.proofs.RuleSteps.{held, taken, on_read}
+use Rattle.ds2_parse_declarations.proofs.declarations.declaration.Goals as goal
+
+pub returns-clause-exact : goal.returns-clause-exact
+returns-clause-exact c m lt =
+    subst (Gives c.args.end (λ x. (x.0, x.1.now)) c.behind_dcl.result)
+    (sym (held (λ o. o ≡ to (λ x. declaration_of (c.in_ok-keyword.keyword, x)) (declaration_tail m) c.in_ok-keyword.rest.now) declaration_of (seq (kept is_dcl) (declaration_tail m)) c.args.tokens.now (on_read (kept is_dcl) (declaration_tail m) c.in_ok-keyword.ensures.exact (taken refl))))
+    (c.behind_dcl.ensures.exact m (omega (arith, lt, c.in_ok-keyword.ensures.shorter)))

@@ -1,0 +1,17 @@
+use Rattle.std.proofs.Common.{◌≡◌, ◌++◌, length, ◌≤◌, ◌<◌, ℕ}
+use Rattle.ds2_grammar.specs.Parsers.{to, many_of}
+use Rattle.ds2_parse_rules.specs.GrammarTokens.{is_comma_mark}
+use Rattle.ds2_parse_rules.specs.GlobalGrammar.{constant_behind, constant_rule}
+use Rattle.ds2_parse_declarations.specs.UnitParts.{behind_comma}
+use Rattle.ds2_parse_declarations.proofs.declarations.further_constants.Given as goal
+
+-- some turns are left, more than tokens, and they give what the whole gives
+abbrev pub invariant-loop-alloc : goal.invariant-loop-alloc
+invariant-loop-alloc l = record {
+  same : (m : ℕ) → length l.tokens < m → (j : ℕ) × (length l.rest < j)
+      × (to (λ rs. l.fn.found ++ rs) (many_of m is_comma_mark (behind_comma constant_behind constant_rule)) l.tokens ≡ to (λ rs. l.found ++ rs) (many_of j is_comma_mark (behind_comma constant_behind constant_rule)) l.rest);
+  shorter : length l.rest ≤ length l.tokens;
+}
+
+abbrev pub decreases-loop-alloc : goal.decreases-loop-alloc
+decreases-loop-alloc l = length l.rest

@@ -1,0 +1,13 @@
+use Rattle.std.proofs.Common.{◌≡◌, ◌++◌, [], ◌∷◌, codes, refl, sym, ap, ◌∙◌, subst, arith}
+use Rattle.ds2_grammar.specs.Parsers.{Read, One, Two, kept, to, seq, many_of, optional, choose_by}
+use Rattle.ds2_grammar.specs.Promise.{Gives, Fails}
+use Rattle.ds2_token.specs.Words.{is_name_token, is_table}
+use Rattle.ds2_parse_rules.specs.UnitGrammar.{renaming_rule}
+use Rattle.ds2_parse_rules.proofs.RuleSteps.{exit, held, taken, on_read, on_stop, on_last, on_last_stop, on_yes, on_no}
+use Rattle.ds2_parse_declarations.proofs.outputs.renamings.Goals as goal
+
+pub returns-in_err-first-clause-exact : goal.returns-in_err-first-clause-exact
+returns-in_err-first-clause-exact c m lt =
+    exit c.args.end (λ x. (x.0, x.1.now)) c.from_residual.result c.in_err-first.field-0.0 (to (λ x. x.0 ∷ x.1) (seq renaming_rule (many_of m is_name_token renaming_rule)) c.args.tokens.now) c.from_residual.ensures.1
+    (held (Fails c.args.end c.in_err-first.field-0.0) (λ x. x.0 ∷ x.1) (seq renaming_rule (many_of m is_name_token renaming_rule)) c.args.tokens.now
+    (on_stop renaming_rule (many_of m is_name_token renaming_rule) c.args.end c.in_err-first.field-0.0 c.in_err-first.ensures.exact))

@@ -1,0 +1,26 @@
+use Rattle.std.proofs.Common.{◌++◌, sym, ◌∙◌, arith}
+use Rattle.ds2_grammar.specs.Parsers.{to, many_of}
+use Rattle.ds2_parse_rules.specs.ReadingGrammar.{begins_by_variable, by_variable_rule}
+use Rattle.ds2_parse_rules.proofs.RuleSteps.{exit}
+use Rattle.ds2_parse_declarations.proofs.UnitSteps.{item_found, item_stops, no_item}
+use Rattle.ds2_parse_declarations.proofs.readings.further_by_variables.Goals as goal
+
+pub returns-in_err-variable-clause-exact : goal.returns-in_err-variable-clause-exact
+returns-in_err-variable-clause-exact c m lt =
+    let inv = c.loop-alloc.invariant.same m lt in
+    exit c.args.end (λ x. (x.0, x.1.now)) c.from_residual.result c.in_err-variable.field-0.0 (to (λ l. c.args.found ++ l) (many_of m begins_by_variable by_variable_rule) c.args.tokens.now) c.from_residual.ensures.1
+    (item_stops begins_by_variable by_variable_rule (to (λ l. c.args.found ++ l) (many_of m begins_by_variable by_variable_rule) c.args.tokens.now) c.loop-alloc.found c.loop-alloc.rest.now inv.0 inv.2 inv.1 (sym c.at.ensures ∙ c.loop-alloc-test.true) c.args.end c.in_err-variable.field-0.0 c.in_err-variable.ensures.exact)
+
+pub loop-alloc-preserved : goal.loop-alloc-preserved
+loop-alloc-preserved c =
+    record {
+      same = λ m lt.
+          let inv = c.loop-alloc.invariant.same m lt in
+          item_found begins_by_variable by_variable_rule (to (λ l. c.args.found ++ l) (many_of m begins_by_variable by_variable_rule) c.args.tokens.now) c.loop-alloc.found c.loop-alloc.rest.now inv.0 inv.2 inv.1 (sym c.at.ensures ∙ c.loop-alloc-test.true) c.in_ok-variable.variable c.in_ok-variable.after.now c.in_ok-variable.ensures.exact c.in_ok-variable.ensures.shorter c.push.new.self c.in_ok-push.ensures.ok;
+      shorter = omega (arith, c.loop-alloc.invariant.shorter, c.in_ok-variable.ensures.shorter);
+    }
+
+pub returns-clause-exact : goal.returns-clause-exact
+returns-clause-exact c m lt =
+    let inv = c.loop-alloc.invariant.same m lt in
+    no_item begins_by_variable by_variable_rule (to (λ l. c.args.found ++ l) (many_of m begins_by_variable by_variable_rule) c.args.tokens.now) c.loop-alloc.found c.loop-alloc.rest.now inv.0 inv.2 inv.1 (sym c.at.ensures ∙ c.loop-alloc-test.false)

@@ -1,0 +1,13 @@
+use Rattle.std.proofs.Common.{◌≡◌, ◌++◌, codes, refl, sym, ap, ◌∙◌, subst, arith}
+use Rattle.ds2_grammar.specs.Parsers.{Read, One, Two, kept, to, seq, many_of, optional, choose_by}
+use Rattle.ds2_grammar.specs.Promise.{Gives, Fails}
+use Rattle.ds2_parse_rules.specs.GrammarTokens.{mark_rule}
+use Rattle.ds2_parse_rules.specs.GlobalGrammar.{type_rule, names_rule, variables_of}
+use Rattle.ds2_parse_rules.proofs.RuleSteps.{exit, held, taken, on_read, on_stop, on_last, on_last_stop, on_yes, on_no}
+use Rattle.ds2_parse_declarations.proofs.types.declared_variables.Goals as goal
+
+pub returns-in_err-names-clause-exact : goal.returns-in_err-names-clause-exact
+returns-in_err-names-clause-exact c m lt =
+    exit c.args.end (λ x. (x.0, x.1.now)) c.from_residual-in_err-names.result c.in_err-names.field-0.0 (to (λ x. variables_of (c.args.keyword, x)) (seq type_rule (seq (names_rule m) (mark_rule (codes ";")))) c.args.tokens.now) c.from_residual-in_err-names.ensures.1
+    (held (Fails c.args.end c.in_err-names.field-0.0) (λ x. variables_of (c.args.keyword, x)) (seq type_rule (seq (names_rule m) (mark_rule (codes ";")))) c.args.tokens.now
+    (on_read type_rule (seq (names_rule m) (mark_rule (codes ";"))) c.in_ok-ty.ensures.exact (on_stop (names_rule m) (mark_rule (codes ";")) c.args.end c.in_err-names.field-0.0 (c.in_err-names.ensures.exact m (omega (arith, lt, c.in_ok-ty.ensures.shorter))))))

@@ -1,0 +1,14 @@
+use Rattle.std.proofs.Common.{◌≡◌, ◌++◌, codes, refl, sym, ap, ◌∙◌, subst, arith}
+use Rattle.ds2_grammar.specs.Parsers.{Read, One, Two, kept, to, seq, many_of, optional, choose_by}
+use Rattle.ds2_grammar.specs.Promise.{Gives, Fails}
+use Rattle.ds2_tree.specs.Globals.{is_dcl}
+use Rattle.ds2_parse_rules.specs.GlobalGrammar.{variables_of, variables_tail}
+use Rattle.ds2_parse_rules.proofs.RuleSteps.{exit, held, taken, on_read, on_stop, on_last, on_last_stop, on_yes, on_no}
+use Rattle.ds2_parse_declarations.proofs.types.variables.Goals as goal
+
+pub returns-clause-exact : goal.returns-clause-exact
+returns-clause-exact c m lt =
+    subst (Gives c.args.end (λ x. (x.0, x.1.now)) c.declared_variables.result)
+    (sym (held (λ o. o ≡ to (λ x. variables_of (c.in_ok-keyword.keyword, x)) (variables_tail m) c.in_ok-keyword.rest.now) variables_of (seq (kept is_dcl) (variables_tail m)) c.args.tokens.now
+    (on_read (kept is_dcl) (variables_tail m) c.in_ok-keyword.ensures.exact (taken refl))))
+    (c.declared_variables.ensures.exact m (omega (arith, lt, c.in_ok-keyword.ensures.shorter)))

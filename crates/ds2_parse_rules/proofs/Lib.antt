@@ -1,0 +1,4 @@
+pub mod GrammarTokenLaws
+pub mod PlainLaws
+pub mod RuleSteps
+pub mod FrontSteps

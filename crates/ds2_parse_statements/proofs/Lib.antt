@@ -1,0 +1,14 @@
+pub mod Refine
+pub mod ExpressionLaws
+pub mod StatementLaws
+pub mod StatementPartLaws
+pub mod StatementSumLaws
+pub mod SteadyLaws
+pub mod StatementPromises
+pub mod TreeSteps
+pub mod ExpressionSteps
+pub mod SimpleSteps
+pub mod StraightSteps
+pub mod StatementSteps
+pub mod StatementTreeSteps
+pub mod ControlSteps

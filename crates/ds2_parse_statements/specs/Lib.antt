@@ -1,0 +1,3 @@
+pub mod StatementSymbols
+pub mod ExpressionParts
+pub mod StatementParts
