@@ -1,12 +1,12 @@
 -- Steps of the code of what stands behind `select` and `do`, against their rules.
-use Rattle.std.proofs.Common.{◌≡◌, ◌||◌, Bool, true, false, codes, List, [], ◌∷◌, Option, Some, None, refl, sym, ap, ◌∙◌, subst}
+use Rattle.std.proofs.Common.{◌≡◌, ◌||◌, Bool, true, false, List, [], ◌∷◌, Option, Some, None, refl, sym, ap, ◌∙◌, subst}
 use Rattle.ds2_base.specs.declared.place.Place.{Place}
 use Rattle.ds2_base.specs.declared.place.Refusal.{Refusal}
 use Rattle.ds2_base.specs.declared.stop.Stop.{Stop}
 use Rattle.ds2_token.specs.declared.token.Token.{Token}
 use Rattle.ds2_token.specs.Words.{is_name_token}
 use Rattle.ds2_grammar.specs.declared.kind.ParseKind.{ParseKind}
-use Rattle.ds2_grammar.specs.Parsers.{ParserOutcome, Read, Parser, Either, One, Two, pure, first, kept, when, choose_by, to, seq, optional}
+use Rattle.ds2_grammar.specs.Parsers.{Read, Parser, Either, One, Two, pure, first, kept, when, choose_by, to, seq, optional}
 use Rattle.ds2_grammar.specs.Promise.{Fails}
 use Rattle.ds2_grammar.proofs.Steps.{choose_yes}
 use Rattle.ds2_tree.specs.Expressions.{Expression}

@@ -1,9 +1,8 @@
 -- The laws of expressions.
-use Rattle.std.proofs.Common.{◌≡◌, ℕ, zero, suc, nat_lt, ◌||◌, ap₂, Bool, true, false, codes, List, [], ◌∷◌, ◌++◌, length, ◌<◌, Option, Some, None, refl, sym, ap, ◌∙◌, arith, lit≤, ◌≤◌, append_assoc}
+use Rattle.std.proofs.Common.{◌≡◌, ℕ, zero, suc, nat_lt, ◌||◌, ap₂, true, false, codes, List, [], ◌∷◌, ◌++◌, length, ◌<◌, Option, Some, None, refl, sym, ap, ◌∙◌, arith, lit≤, ◌≤◌, append_assoc}
 use Rattle.std.proofs.lemmas.List.{append-nil}
 use Rattle.std.proofs.lemmas.Bool.Decides.{nat_tests}
 use Rattle.ds2_base.specs.declared.place.Place.{Place}
-use Rattle.ds2_token.specs.declared.kinds.TokenKind.TheVariants.{Word, Integer}
 use Rattle.ds2_token.specs.declared.token.Token.{Token}
 use Rattle.ds2_grammar.specs.Levels.{first_opened}
 use Rattle.ds2_grammar.specs.Parsers.{ParserOutcome, Read, Parser, Either, One, Two, first, kept, when, choose_by, to, seq, optional, chain, closed}

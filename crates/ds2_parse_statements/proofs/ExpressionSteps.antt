@@ -11,7 +11,7 @@ use Rattle.ds2_grammar.specs.Promise.{Fails}
 use Rattle.ds2_tree.specs.declared.expressions.ChainKind.{ChainKind}
 use Rattle.ds2_tree.specs.declared.expressions.ChainKind.TheVariants.{Or}
 use Rattle.ds2_tree.specs.declared.expressions.Callee.TheVariants as callee
-use Rattle.ds2_tree.specs.Expressions.{Expression, Call, Parenthesis, Sign, Comparison, Not, Arguments, Argument, is_constant, is_null_word, is_sign, is_not, is_comparison, is_operator}
+use Rattle.ds2_tree.specs.Expressions.{Expression, Call, Parenthesis, Sign, Not, Arguments, Argument, is_constant, is_null_word, is_sign, is_not, is_comparison, is_operator}
 use Rattle.ds2_parse_rules.specs.GrammarTokens.{mark_rule, enclosed, is_open_mark, is_comma_mark, Fronted}
 use Rattle.ds2_parse_rules.specs.ExpressionGrammar.{ArgumentList, listed_further, listed_arguments, chain_of, comparison_of, null_of, member_of, named_of, Tail, primary_of, unary_of, negation_of, begins_expression, is_open_or_dot, member_tail, name_tail, primary, operators, comparison_rule, unary_with, comparison_with, negation_with, expression, argument_list}
 use Rattle.ds2_parse_statements.specs.ExpressionParts.{unary_rule, negation_rule, operand_rule, signed_rule, negated_rule, parenthesis_rule}

@@ -1,5 +1,5 @@
 -- Steps of the code of statements against their rules.
-use Rattle.std.proofs.Common.{◌≡◌, ℕ, zero, suc, ◌-◌, ◌<◌, ◌≤◌, ◌||◌, Bool, true, false, codes, List, [], ◌∷◌, ◌++◌, length, map, Option, Some, None, Result, refl, sym, ap, ◌∙◌, subst, arith, append_assoc}
+use Rattle.std.proofs.Common.{◌≡◌, ℕ, zero, suc, ◌-◌, ◌<◌, ◌||◌, Bool, true, false, codes, List, [], ◌∷◌, ◌++◌, length, map, Option, Some, None, Result, refl, sym, ap, ◌∙◌, subst, arith, append_assoc}
 use Rattle.std.proofs.lemmas.List.{map_push}
 use Rattle.ds2_base.specs.declared.place.Place.{Place}
 use Rattle.ds2_base.specs.declared.place.Refusal.{Refusal}
@@ -9,7 +9,7 @@ use Rattle.ds2_token.specs.Words.{is_mark, is_word, is_name_token, is_table}
 use Rattle.ds2_base.specs.declared.stop.Stop.TheVariants as stop
 use Rattle.ds2_grammar.specs.declared.kind.ParseKind.{ParseKind}
 use Rattle.ds2_grammar.specs.declared.kind.ParseKind.TheVariants as kind
-use Rattle.ds2_grammar.specs.Parsers.{ParserOutcome, Read, Unexpected, TooDeep, Spent, Parser, Either, One, Two, and_then, pure, too_deep, unexpected, first, kept, when, choose_by, to, seq, many_of, optional, closed}
+use Rattle.ds2_grammar.specs.Parsers.{ParserOutcome, Read, Unexpected, TooDeep, Spent, Parser, Either, One, Two, and_then, pure, too_deep, unexpected, first, kept, when, choose_by, to, seq, many_of, optional}
 use Rattle.ds2_grammar.specs.Promise.{IsRefusedAs, Fails, Gives}
 use Rattle.ds2_grammar.proofs.Steps.{both, fails_on, to_seq, and_same, choose_yes, choose_no}
 use Rattle.ds2_tree.specs.declared.statements.ElseIf as code_else_if
@@ -18,13 +18,13 @@ use Rattle.ds2_tree.specs.declared.statements.PutItem.{PutItem}
 use Rattle.ds2_tree.specs.declared.expressions.Callee.TheVariants as callee
 use Rattle.ds2_tree.specs.Expressions.{Expression}
 use Rattle.ds2_tree.specs.ExpressionViews.{expression_tree, arguments_of}
-use Rattle.ds2_tree.specs.Statements.{Statement, Empty, Call, Leave, Continue, Return, Output, Put, If, IfElse, Otherwise, NoOtherwise, Otherwise', Statements, Whens, NoWhen, When}
-use Rattle.ds2_tree.specs.StatementViews.{statement_tree, if_else, others_of, statements_of, whens_of}
+use Rattle.ds2_tree.specs.Statements.{Statement, Empty, Call, Leave, Continue, Return, Output, Put, Otherwise, NoOtherwise, Otherwise', Whens, NoWhen, When}
+use Rattle.ds2_tree.specs.StatementViews.{statement_tree, if_else, others_of, whens_of}
 use Rattle.ds2_parse_rules.specs.GrammarTokens.{mark_rule, word_rule, starts, Fronted}
 use Rattle.ds2_parse_rules.specs.ExpressionGrammar.{ArgumentList, begins_expression, expression, argument_list}
-use Rattle.ds2_parse_rules.specs.StatementGrammar.{is_semicolon_mark, begins_item, begins_statement, item_rule, NamedTail, Ended, Plain, Last4, SelectTree, DoTree, plain_rule, select_rule, do_rule, last4_rule, named_statement, named_tail, if_else_of, if_rule, otherwise_of, listed_statements, listed_whens, WhenTree, StatementTree, Last7, statement_of_kind, last7_rule, statement_with, statement_rule}
+use Rattle.ds2_parse_rules.specs.StatementGrammar.{is_semicolon_mark, begins_item, begins_statement, item_rule, NamedTail, Ended, Plain, Last4, SelectTree, DoTree, plain_rule, select_rule, do_rule, last4_rule, named_statement, named_tail, if_else_of, if_rule, otherwise_of, listed_whens, WhenTree, StatementTree, Last7, statement_of_kind, last7_rule, statement_with, statement_rule}
 use Rattle.ds2_parse_statements.specs.StatementParts.{within_rule, ArmTree, arm_rule, else_rule, later_statement, selection_of, do_of, and_whens}
-use Rattle.ds2_parse_rules.proofs.RuleSteps.{Holds, held, taken, plainly, on_read, on_stop, on_last, on_last_stop, on_some, on_none, on_yes, on_no, plain_outcome, fails_deep, fails_unexpected, loop_fails, loop_ends}
+use Rattle.ds2_parse_rules.proofs.RuleSteps.{Holds, held, taken, on_read, on_stop, on_last, on_some, on_none, on_yes, on_no, plain_outcome, fails_deep, fails_unexpected, loop_fails, loop_ends}
 use Rattle.ds2_parse_rules.proofs.FrontSteps.{kept_read, fronted_when, mark_was}
 
 -- ---- words

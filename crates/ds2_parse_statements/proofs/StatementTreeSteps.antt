@@ -1,5 +1,5 @@
 -- Trees of statements, as the code builds them.
-use Rattle.std.proofs.Common.{◌≡◌, List, [], ◌∷◌, map, Option, Some, None, refl, sym, ap, ◌∙◌}
+use Rattle.std.proofs.Common.{◌≡◌, List, [], ◌∷◌, map, Option, Some, None, refl, ap, ◌∙◌}
 use Rattle.std.specs.Option.{option_map}
 use Rattle.std.specs.declared.boxed.Box.{Box}
 use Rattle.std.specs.declared.alloc.Global.{Global}
@@ -17,7 +17,7 @@ use Rattle.ds2_tree.specs.declared.statements.Statement as code
 use Rattle.ds2_tree.specs.declared.statements.Statement.{Row_of-ElseIf, end_of-ElseIf, more_of-ElseIf, items-the_row-ElseIf, items_hidden-the_row-ElseIf-0}
 use Rattle.ds2_tree.specs.declared.statements.Statement.TheVariants as statement
 use Rattle.ds2_tree.specs.ExpressionViews.{expression_tree}
-use Rattle.ds2_tree.specs.Statements.{Statement, Otherwise, NoOtherwise, Otherwise', Select, Do, Then}
+use Rattle.ds2_tree.specs.Statements.{Otherwise, NoOtherwise, Otherwise', Select, Do, Then}
 use Rattle.ds2_tree.specs.StatementViews.{selector_tree, step_tree, control_tree, if_else, statement_tree, others_row, statements_of, others_of, whens_of, otherwise_tree}
 use Rattle.ds2_tree.proofs.StatementRows.{select_is, do_is}
 use Rattle.ds2_parse_rules.specs.StatementGrammar.{selector_of, step_of, otherwise_of, listed_statements}

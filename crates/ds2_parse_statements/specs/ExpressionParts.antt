@@ -1,5 +1,5 @@
 -- What is read within an expression, at each level of operators and of nesting. m bounds the turns of each list, n the levels.
-use Rattle.std.specs.Prelude.{◌≡◌, ℕ, zero, suc, Bool, true, List, ◌∷◌, Option}
+use Rattle.std.specs.Prelude.{ℕ, zero, suc, List, Option}
 use Rattle.ds2_base.specs.declared.place.Place.{Place}
 use Rattle.ds2_token.specs.declared.token.Token.{Token}
 use Rattle.ds2_grammar.specs.Parsers.{Parser, kept, seq, optional, closed}

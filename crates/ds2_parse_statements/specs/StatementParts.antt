@@ -1,5 +1,5 @@
 -- What is read within a statement. m bounds the turns of each list, n the levels.
-use Rattle.std.specs.Prelude.{ℕ, zero, suc, codes, List, [], ◌∷◌, Option}
+use Rattle.std.specs.Prelude.{ℕ, zero, suc, codes, List, Option}
 use Rattle.std.specs.Option.{option_map}
 use Rattle.ds2_token.specs.declared.token.Token.{Token}
 use Rattle.ds2_grammar.specs.Parsers.{Parser, Two, choose_by, seq, many_of, optional, closed}

@@ -1,13 +1,12 @@
 use Rattle.std.proofs.Common.{◌≡◌, codes, refl, ◌∙◌, arith}
-use Rattle.ds2_grammar.specs.Parsers.{Read, kept, to, seq, optional}
+use Rattle.ds2_grammar.specs.Parsers.{Read, kept, to, seq}
 use Rattle.ds2_grammar.specs.Promise.{Fails}
 use Rattle.ds2_token.specs.Words.{is_name_token}
 use Rattle.ds2_tree.specs.UnitViews.{method_tree}
-use Rattle.ds2_parse_rules.specs.GrammarTokens.{mark_rule, word_rule, starts}
-use Rattle.ds2_parse_rules.specs.StatementGrammar.{statement_rule}
-use Rattle.ds2_parse_rules.specs.GlobalGrammar.{parameters_rule, returns_rule, body_rule, method_of}
+use Rattle.ds2_parse_rules.specs.GrammarTokens.{word_rule}
+use Rattle.ds2_parse_rules.specs.GlobalGrammar.{method_of}
 use Rattle.ds2_parse.specs.MethodBodies.{method_tail_rule, method_tail_parts}
-use Rattle.ds2_parse_rules.proofs.RuleSteps.{exit, held, on_read, on_stop, on_last, on_last_stop}
+use Rattle.ds2_parse_rules.proofs.RuleSteps.{exit, held, on_read, on_last, on_last_stop}
 use Rattle.ds2_parse.proofs.MethodSteps.{with_body}
 use Rattle.ds2_parse.proofs.globals.method.Goals as goal
 

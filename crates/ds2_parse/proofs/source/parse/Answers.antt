@@ -1,5 +1,5 @@
-use Rattle.std.proofs.Common.{◌≡◌, ◌<◌, suc, length, List, [], map, Ok, Err, refl, sym, ap, ◌∙◌, subst, arith}
-use Rattle.ds2_grammar.specs.Parsers.{Read, Unexpected}
+use Rattle.std.proofs.Common.{◌≡◌, suc, length, List, [], map, Ok, Err, sym, subst, arith}
+use Rattle.ds2_grammar.specs.Parsers.{Read}
 use Rattle.ds2_grammar.specs.Promise.{Fails}
 use Rattle.ds2_tree.specs.Units.{SourcePart}
 use Rattle.ds2_tree.specs.UnitViews.{part_tree, source_tree}

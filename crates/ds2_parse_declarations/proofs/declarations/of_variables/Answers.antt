@@ -1,4 +1,3 @@
-use Rattle.std.proofs.Common.{arith}
 use Rattle.ds2_grammar.specs.Parsers.{Two, to}
 use Rattle.ds2_tree.specs.declared.globals.Declaration.TheVariants as declared_as
 use Rattle.ds2_parse_rules.specs.GlobalGrammar.{variables_of, variables_tail, declaration_of}

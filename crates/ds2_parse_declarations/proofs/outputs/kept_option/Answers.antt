@@ -1,12 +1,11 @@
-use Rattle.std.proofs.Common.{◌≡◌, ◌++◌, codes, refl, sym, ap, ◌∙◌, subst, arith}
-use Rattle.ds2_grammar.specs.Parsers.{Read, One, Two, kept, to, seq, many_of, optional, choose_by}
-use Rattle.ds2_grammar.specs.Promise.{Gives, Fails}
-use Rattle.ds2_token.specs.Words.{is_name_token, is_table}
+use Rattle.std.proofs.Common.{codes, arith}
+use Rattle.ds2_grammar.specs.Parsers.{One, kept, to, seq}
+use Rattle.ds2_grammar.specs.Promise.{Fails}
 use Rattle.ds2_tree.specs.Units.{is_kept_or_dropped}
 use Rattle.ds2_parse_rules.specs.GlobalGrammar.{names_rule}
 use Rattle.ds2_parse_rules.specs.UnitGrammar.{option_of_kind}
-use Rattle.ds2_parse_rules.specs.GrammarTokens.{mark_rule, word_rule, is_open_mark, starts, one_or_more}
-use Rattle.ds2_parse_rules.proofs.RuleSteps.{exit, held, taken, on_read, on_stop, on_last, on_last_stop, on_yes, on_no}
+use Rattle.ds2_parse_rules.specs.GrammarTokens.{mark_rule}
+use Rattle.ds2_parse_rules.proofs.RuleSteps.{exit, held, on_read, on_stop}
 use Rattle.ds2_parse_declarations.proofs.outputs.kept_option.Goals as goal
 
 pub returns-in_err-names-clause-exact : goal.returns-in_err-names-clause-exact

@@ -1,6 +1,5 @@
-use Rattle.std.proofs.Common.{◌≡◌, ◌++◌, codes, refl, sym, ap, ◌∙◌, subst, arith}
-use Rattle.ds2_grammar.specs.Parsers.{Read, One, Two, kept, to, seq, many_of, optional, choose_by}
-use Rattle.ds2_grammar.specs.Promise.{Gives, Fails}
+use Rattle.std.proofs.Common.{sym, ◌∙◌, arith}
+use Rattle.ds2_grammar.specs.Parsers.{many_of}
 use Rattle.ds2_parse_rules.specs.UnitGrammar.{begins_option, option_rule}
 use Rattle.ds2_parse_rules.proofs.RuleSteps.{exit}
 use Rattle.ds2_parse_declarations.proofs.UnitSteps.{item_found, item_stops, no_item, nothing_found}

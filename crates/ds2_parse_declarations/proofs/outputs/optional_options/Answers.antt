@@ -1,9 +1,8 @@
-use Rattle.std.proofs.Common.{◌≡◌, ◌++◌, codes, refl, sym, ap, ◌∙◌, subst, arith}
-use Rattle.ds2_grammar.specs.Parsers.{Read, One, Two, kept, to, seq, many_of, optional, choose_by}
-use Rattle.ds2_grammar.specs.Promise.{Gives, Fails}
-use Rattle.ds2_parse_rules.specs.GrammarTokens.{mark_rule, word_rule, is_open_mark, starts, one_or_more}
+use Rattle.std.proofs.Common.{sym, ◌∙◌}
+use Rattle.ds2_grammar.specs.Parsers.{optional}
+use Rattle.ds2_parse_rules.specs.GrammarTokens.{is_open_mark}
 use Rattle.ds2_parse_rules.specs.UnitGrammar.{options_rule}
-use Rattle.ds2_parse_rules.proofs.RuleSteps.{exit, held, taken, on_read, on_stop, on_last, on_last_stop, on_yes, on_no}
+use Rattle.ds2_parse_rules.proofs.RuleSteps.{exit}
 use Rattle.ds2_parse_declarations.proofs.UnitSteps.{optional_stops, optional_read}
 use Rattle.ds2_parse_declarations.proofs.outputs.optional_options.Goals as goal
 

@@ -1,10 +1,10 @@
-use Rattle.std.proofs.Common.{◌≡◌, ◌++◌, codes, refl, sym, ap, ◌∙◌, subst, arith}
-use Rattle.ds2_grammar.specs.Parsers.{Read, One, Two, kept, to, seq, many_of, optional, choose_by}
-use Rattle.ds2_grammar.specs.Promise.{Gives, Fails}
-use Rattle.ds2_token.specs.Words.{is_name_token, is_table}
-use Rattle.ds2_parse_rules.specs.GrammarTokens.{mark_rule, word_rule, is_open_mark, starts, one_or_more}
+use Rattle.std.proofs.Common.{◌≡◌, refl, arith}
+use Rattle.ds2_grammar.specs.Parsers.{Read, kept, to, seq, optional}
+use Rattle.ds2_grammar.specs.Promise.{Fails}
+use Rattle.ds2_token.specs.Words.{is_table}
+use Rattle.ds2_parse_rules.specs.GrammarTokens.{is_open_mark}
 use Rattle.ds2_parse_rules.specs.UnitGrammar.{options_rule, output_read}
-use Rattle.ds2_parse_rules.proofs.RuleSteps.{exit, held, taken, on_read, on_stop, on_last, on_last_stop, on_yes, on_no}
+use Rattle.ds2_parse_rules.proofs.RuleSteps.{exit, held, on_read, on_last, on_last_stop}
 use Rattle.ds2_parse_declarations.proofs.outputs.output.Goals as goal
 
 pub returns-in_err-options-clause-exact : goal.returns-in_err-options-clause-exact

@@ -1,9 +1,9 @@
-use Rattle.std.proofs.Common.{◌≡◌, ◌++◌, [], ◌∷◌, codes, refl, sym, ap, ◌∙◌, subst, arith}
-use Rattle.ds2_grammar.specs.Parsers.{Read, One, Two, kept, to, seq, many_of, optional, choose_by}
+use Rattle.std.proofs.Common.{◌≡◌, ◌++◌, [], ◌∷◌, refl, sym, ap, ◌∙◌, subst, arith}
+use Rattle.ds2_grammar.specs.Parsers.{to, seq, many_of}
 use Rattle.ds2_grammar.specs.Promise.{Gives, Fails}
-use Rattle.ds2_token.specs.Words.{is_name_token, is_table}
+use Rattle.ds2_token.specs.Words.{is_table}
 use Rattle.ds2_parse_rules.specs.UnitGrammar.{output_rule}
-use Rattle.ds2_parse_rules.proofs.RuleSteps.{exit, held, taken, on_read, on_stop, on_last, on_last_stop, on_yes, on_no}
+use Rattle.ds2_parse_rules.proofs.RuleSteps.{exit, held, taken, on_read, on_stop}
 use Rattle.ds2_parse_declarations.proofs.outputs.outputs.Goals as goal
 
 pub returns-in_err-first-clause-exact : goal.returns-in_err-first-clause-exact

@@ -1,9 +1,9 @@
-use Rattle.std.proofs.Common.{◌≡◌, ◌++◌, codes, refl, sym, ap, ◌∙◌, subst, arith}
-use Rattle.ds2_grammar.specs.Parsers.{Read, One, Two, kept, to, seq, many_of, optional, choose_by}
-use Rattle.ds2_grammar.specs.Promise.{Gives, Fails}
+use Rattle.std.proofs.Common.{codes, arith}
+use Rattle.ds2_grammar.specs.Parsers.{to, seq}
+use Rattle.ds2_grammar.specs.Promise.{Fails}
 use Rattle.ds2_parse_rules.specs.GrammarTokens.{mark_rule}
 use Rattle.ds2_parse_rules.specs.GlobalGrammar.{type_rule, names_rule, variables_of}
-use Rattle.ds2_parse_rules.proofs.RuleSteps.{exit, held, taken, on_read, on_stop, on_last, on_last_stop, on_yes, on_no}
+use Rattle.ds2_parse_rules.proofs.RuleSteps.{exit, held, on_read, on_stop}
 use Rattle.ds2_parse_declarations.proofs.types.declared_variables.Goals as goal
 
 pub returns-in_err-names-clause-exact : goal.returns-in_err-names-clause-exact

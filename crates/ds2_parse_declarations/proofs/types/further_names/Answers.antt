@@ -1,9 +1,8 @@
-use Rattle.std.proofs.Common.{◌≡◌, ◌++◌, codes, refl, sym, ap, ◌∙◌, subst, arith}
-use Rattle.ds2_grammar.specs.Parsers.{Read, One, Two, kept, to, seq, many_of, optional, choose_by}
-use Rattle.ds2_grammar.specs.Promise.{Gives, Fails}
-use Rattle.ds2_token.specs.Words.{is_name_token, is_table}
+use Rattle.std.proofs.Common.{◌++◌, sym, ◌∙◌, arith}
+use Rattle.ds2_grammar.specs.Parsers.{kept, to, many_of}
+use Rattle.ds2_token.specs.Words.{is_name_token}
 use Rattle.ds2_parse_rules.proofs.RuleSteps.{exit}
-use Rattle.ds2_parse_declarations.proofs.UnitSteps.{item_found, item_stops, no_item, nothing_found}
+use Rattle.ds2_parse_declarations.proofs.UnitSteps.{item_found, item_stops, no_item}
 use Rattle.ds2_parse_declarations.proofs.types.further_names.Goals as goal
 
 pub returns-in_err-name-clause-exact : goal.returns-in_err-name-clause-exact

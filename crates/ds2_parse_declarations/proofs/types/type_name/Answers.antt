@@ -1,10 +1,10 @@
-use Rattle.std.proofs.Common.{◌≡◌, ◌++◌, codes, refl, sym, ap, ◌∙◌, subst, arith}
-use Rattle.ds2_grammar.specs.Parsers.{Read, One, Two, kept, to, seq, many_of, optional, choose_by}
-use Rattle.ds2_grammar.specs.Promise.{Gives, Fails}
+use Rattle.std.proofs.Common.{◌≡◌, codes, refl, sym, ◌∙◌, subst}
+use Rattle.ds2_grammar.specs.Parsers.{One, Two, to, choose_by}
+use Rattle.ds2_grammar.specs.Promise.{Gives}
 use Rattle.ds2_tree.specs.Globals.{is_decimal_keyword}
 use Rattle.ds2_parse_rules.specs.GrammarTokens.{word_rule, starts}
 use Rattle.ds2_parse_rules.specs.GlobalGrammar.{decimal_type_rule, text_type_rule, type_of_kind}
-use Rattle.ds2_parse_rules.proofs.RuleSteps.{exit, held, taken, on_read, on_stop, on_last, on_last_stop, on_yes, on_no}
+use Rattle.ds2_parse_rules.proofs.RuleSteps.{held, taken, on_yes, on_no}
 use Rattle.ds2_parse_declarations.proofs.types.type_name.Goals as goal
 
 pub returns-then-at-clause-exact : goal.returns-then-at-clause-exact

@@ -1,9 +1,9 @@
-use Rattle.std.proofs.Common.{◌≡◌, ◌++◌, codes, refl, sym, ap, ◌∙◌, subst, arith}
-use Rattle.ds2_grammar.specs.Parsers.{Read, One, Two, kept, to, seq, many_of, optional, choose_by}
-use Rattle.ds2_grammar.specs.Promise.{Gives, Fails}
+use Rattle.std.proofs.Common.{◌≡◌, refl, sym, subst, arith}
+use Rattle.ds2_grammar.specs.Parsers.{kept, to, seq}
+use Rattle.ds2_grammar.specs.Promise.{Gives}
 use Rattle.ds2_tree.specs.Globals.{is_dcl}
 use Rattle.ds2_parse_rules.specs.GlobalGrammar.{variables_of, variables_tail}
-use Rattle.ds2_parse_rules.proofs.RuleSteps.{exit, held, taken, on_read, on_stop, on_last, on_last_stop, on_yes, on_no}
+use Rattle.ds2_parse_rules.proofs.RuleSteps.{held, taken, on_read}
 use Rattle.ds2_parse_declarations.proofs.types.variables.Goals as goal
 
 pub returns-clause-exact : goal.returns-clause-exact

@@ -1,7 +1,7 @@
 use Rattle.std.proofs.Common.{◌++◌, [], ◌∷◌, length, codes, None, Some, sym, ap, ◌∙◌, subst, arith, map}
 use Rattle.std.proofs.lemmas.List.{append-nil}
 use Rattle.std.specs.Option.{option_map}
-use Rattle.ds2_grammar.specs.Parsers.{Read, and_then, pure, to, seq, many_of, optional, when}
+use Rattle.ds2_grammar.specs.Parsers.{Read, and_then, pure, to, seq, many_of, optional}
 use Rattle.ds2_grammar.specs.Promise.{Gives}
 use Rattle.ds2_tree.specs.Statements.{Select, When, NoWhen}
 use Rattle.ds2_tree.specs.ExpressionViews.{expression_tree, arguments_of}
@@ -10,7 +10,7 @@ use Rattle.ds2_parse_rules.specs.GrammarTokens.{mark_rule, word_rule, starts, is
 use Rattle.ds2_parse_rules.specs.ExpressionGrammar.{expression, argument_list, listed_further}
 use Rattle.ds2_parse_rules.specs.StatementGrammar.{begins_statement, control_rule, when_rule, select_rule, do_rule, if_rule, listed_whens, otherwise_of, selector_of, statement_rule}
 use Rattle.ds2_parse_rules.proofs.RuleSteps.{exit, loop_step, loop_fails, loop_ends, none_yet}
-use Rattle.ds2_parse_statements.proofs.SimpleSteps.{front_stops, second_stops, two_read, rest_is}
+use Rattle.ds2_parse_statements.proofs.SimpleSteps.{front_stops, second_stops, two_read}
 use Rattle.ds2_parse_statements.specs.StatementParts.{within_rule, arm_rule, else_rule, otherwise_rule, selector_parts, last_parts, arm_parts, selection_body_rule, selection_of, ListedBody, listed_body, selection_body_tree, do_of, and_whens}
 use Rattle.ds2_parse_statements.proofs.ControlSteps.{optional_stops, optional_read}
 use Rattle.ds2_parse_statements.proofs.StraightSteps.{stops_2_of_4, stops_3_of_4, stops_4_of_4, stops_2_of_5, stops_3_of_5, stops_4_of_5, stops_5_of_5, stops_2_of_6, stops_3_of_6, stops_4_of_6, stops_5_of_6, stops_6_of_6, read_4, read_5, read_6}
