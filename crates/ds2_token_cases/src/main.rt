@@ -3,15 +3,14 @@
 //! Each line of standard input is a text. Standard output gets the line again and, below it, the place, the kind and the
 //! spelling of each of its tokens and the place of its end, or the place and the kind of its first refusal.
 //!
-//! In a line `\n`, `\r` and `\t` stand for a line feed, a carriage return and a tab, `\m` for a byte order mark, and
-//! `\(64:ab)` for `ab` 64 times. A line that begins with `#` is a heading.
+//! A line has the escapes of `ds2_case_text`, as `\n` for a line feed and `\{64:ab}` for `ab` 64 times. A line that begins with
+//! `#` is a heading.
 #![tactic(auto)]
 
 mod answer;
-mod escape;
 
 use crate::answer::answer;
-use crate::escape::unescaped;
+use ds2_case_text::unescaped;
 use std::alloc::Global;
 use std::io;
 

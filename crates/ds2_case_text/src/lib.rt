@@ -1,4 +1,9 @@
-//! Texts as a person writes them into a line.
+//! Texts of cases, as a person writes them into a line.
+//!
+//! In a line `\n`, `\r` and `\t` stand for a line feed, a carriage return and a tab, `\m` for a byte order mark, and
+//! `\{64:ab}` for `ab` 64 times.
+#![tactic(auto)]
+
 use std::alloc::{AllocError, Global};
 
 // The number that these digits write, of at most four digits.
@@ -27,18 +32,18 @@ fn push_escaped<'r>(text: &mut String, rest: &'r str) -> Result<Option<&'r str>,
         Some('r') => text.push('\r')?,
         Some('t') => text.push('\t')?,
         Some('m') => text.push('\u{feff}')?,
-        Some('(') => return push_group(text, chars.as_str()),
+        Some('{') => return push_group(text, chars.as_str()),
         _ => return Ok(None),
     }
     Ok(Some(chars.as_str()))
 }
 
-// The same for `64:ab)`.
+// The same for `64:ab}`.
 fn push_group<'r>(text: &mut String, rest: &'r str) -> Result<Option<&'r str>, AllocError> {
     let Some((digits, rest)) = rest.split_once(':') else {
         return Ok(None);
     };
-    let Some((piece, rest)) = rest.split_once(')') else {
+    let Some((piece, rest)) = rest.split_once('}') else {
         return Ok(None);
     };
     match number(digits) {
@@ -50,7 +55,7 @@ fn push_group<'r>(text: &mut String, rest: &'r str) -> Result<Option<&'r str>, A
     }
 }
 
-/// The text of a line, where each backslash begins an escape.
+/// The text of a line, where each backslash begins an escape; None where one of them is none.
 pub fn unescaped(alloc: Global, line: &str) -> Result<Option<String>, AllocError> {
     let mut text = String::new(alloc);
     let mut rest = line;

@@ -1,0 +1,99 @@
+//! The parts of statements that hold no statement.
+use crate::expressions::say_expression;
+use crate::tokens::{Said, say_member, say_token};
+use ds2_tree::{DoControl, Expression, PutItem, Selector, Step};
+
+/// Says an expression behind a blank, where there is one.
+pub fn say_value(said: &mut String, value: &Option<Expression>) -> Said {
+    match value {
+        None => Ok(()),
+        Some(value) => {
+            said.push(' ')?;
+            say_expression(said, value)
+        }
+    }
+}
+
+/// Says what stands behind `select`, behind a blank.
+pub fn say_selector(said: &mut String, selector: &Option<Selector>) -> Said {
+    match selector {
+        None => Ok(()),
+        Some(selector) => {
+            said.push(' ')?;
+            say_expression(said, &selector.value)
+        }
+    }
+}
+
+fn say_step(said: &mut String, step: &Option<Step>) -> Said {
+    match step {
+        None => Ok(()),
+        Some(step) => {
+            said.push_str(" by ")?;
+            say_expression(said, &step.value)
+        }
+    }
+}
+
+/// Says what stands between `do` and its `;`, behind a blank.
+pub fn say_control(said: &mut String, control: &DoControl) -> Said {
+    match control {
+        DoControl::Block => Ok(()),
+        DoControl::Counted {
+            variable,
+            equals: _,
+            start,
+            to_keyword: _,
+            stop,
+            step,
+        } => {
+            said.push(' ')?;
+            say_token(said, variable)?;
+            said.push_str(" = ")?;
+            say_expression(said, start)?;
+            said.push_str(" to ")?;
+            say_expression(said, stop)?;
+            say_step(said, step)?;
+            said.push(':')
+        }
+        DoControl::Tested {
+            keyword,
+            opening: _,
+            condition,
+            closing: _,
+        } => {
+            said.push(' ')?;
+            say_token(said, keyword)?;
+            said.push(' ')?;
+            say_expression(said, condition)?;
+            said.push(':')
+        }
+    }
+}
+
+fn say_item(said: &mut String, item: &PutItem) -> Said {
+    match item {
+        PutItem::Text(text) => say_token(said, text),
+        PutItem::Variable { name, equals } => {
+            say_token(said, name)?;
+            match equals {
+                None => Ok(()),
+                Some(_) => said.push('='),
+            }
+        }
+        PutItem::Member {
+            object,
+            dot: _,
+            member,
+        } => say_member(said, object, member),
+    }
+}
+
+/// Says the items of `put`, each behind a blank.
+pub fn say_items(said: &mut String, items: &[PutItem]) -> Said {
+    for item in items {
+        said.push(' ')?;
+        say_item(said, item)?;
+    }
+    Ok(())
+}
