@@ -23,6 +23,8 @@ mod draft_code;
 #[cfg(test)]
 mod draft_machine;
 #[cfg(test)]
+mod hashes;
+#[cfg(test)]
 mod lexer;
 #[cfg(test)]
 mod outside;
