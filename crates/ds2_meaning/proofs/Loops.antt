@@ -18,8 +18,8 @@ use Rattle.ds2_meaning.specs.TypedExpression.{TypedExpression}
 use Rattle.ds2_meaning.proofs.Within.{CallsAreWithin, IsWithin, attempt_within, stored_within, value_within, statement_within, statements_within, invoke_within}
 
 pub no_statement_raises_the_budget : NoStatementRaisesTheBudget
-no_statement_raises_the_budget methods depth outputs home t w =
-    statement_within (around methods depth outputs home) (invoke_within methods depth) t w.progress.left w (omega arith)
+no_statement_raises_the_budget declared depth outputs home t w =
+    statement_within (around declared depth outputs home) (invoke_within declared depth) t w.progress.left w (omega arith)
 
 -- ---- two ways to go on that agree where so much is left
 
@@ -176,16 +176,16 @@ module _ (s : Surroundings) (calls_within : CallsAreWithin s.calls) (body : RunS
 
 pub loops_are_their_turns : LoopsAreTheirTurns
 loops_are_their_turns = record {
-  while_begins = λ methods depth outputs home place e body w. refl;
-  while_turns = λ methods depth outputs home place e body w.
-      while_turned (around methods depth outputs home) (invoke_within methods depth) (exec_all (around methods depth outputs home) body)
-      (statements_within (around methods depth outputs home) (invoke_within methods depth) body) place e w;
-  until_begins = λ methods depth outputs home place e body w. refl;
-  until_turns = λ methods depth outputs home place e body w.
-      until_turned (around methods depth outputs home) (invoke_within methods depth) (exec_all (around methods depth outputs home) body)
-      (statements_within (around methods depth outputs home) (invoke_within methods depth) body) place e w;
-  count_begins = λ methods depth outputs home place i a b step body w. refl;
-  count_turns = λ methods depth outputs home place i end step body w.
-      count_turned (around methods depth outputs home) (invoke_within methods depth) (exec_all (around methods depth outputs home) body)
-      (statements_within (around methods depth outputs home) (invoke_within methods depth) body) place i end step w;
+  while_begins = λ declared depth outputs home place e body w. refl;
+  while_turns = λ declared depth outputs home place e body w.
+      while_turned (around declared depth outputs home) (invoke_within declared depth) (exec_all (around declared depth outputs home) body)
+      (statements_within (around declared depth outputs home) (invoke_within declared depth) body) place e w;
+  until_begins = λ declared depth outputs home place e body w. refl;
+  until_turns = λ declared depth outputs home place e body w.
+      until_turned (around declared depth outputs home) (invoke_within declared depth) (exec_all (around declared depth outputs home) body)
+      (statements_within (around declared depth outputs home) (invoke_within declared depth) body) place e w;
+  count_begins = λ declared depth outputs home place i a b step body w. refl;
+  count_turns = λ declared depth outputs home place i end step body w.
+      count_turned (around declared depth outputs home) (invoke_within declared depth) (exec_all (around declared depth outputs home) body)
+      (statements_within (around declared depth outputs home) (invoke_within declared depth) body) place i end step w;
 }

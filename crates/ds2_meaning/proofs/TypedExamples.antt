@@ -12,6 +12,7 @@ typed_examples = record {
       parameters = (tt, refl);
       names = refl;
       instances = tt;
+      objects = (tt, tt);
       reading = tt;
       outputs = (omega arith, (refl, tt), tt);
       methods = (

@@ -1,16 +1,20 @@
 -- What is left of a budget stays within a bound: the words of the meaning, expressions, statements and calls.
 use Rattle.std.proofs.Common.{ℕ, zero, suc, ◌≤◌, Bool, true, false, List, [], ◌∷◌, Option, Some, None, Result, Ok, Err, arith}
 use Rattle.std.specs.List.{join_with_byte}
-use Rattle.std.specs.Prelude.{slice_get, if◌then◌else◌, pos}
+use Rattle.std.specs.Prelude.{bytes_eq, slice_get, if◌then◌else◌, pos}
 use Rattle.ds2_base.specs.declared.place.Place.{Place}
+use Rattle.ds2_value.specs.HashList.{Shift, shifted, hash_answer, iterator_answer}
 use Rattle.ds2_value.specs.Operations.{is_true, widened, of_decimals, line_text}
 use Rattle.ds2_value.specs.Progress.{with_step}
+use Rattle.ds2_value.specs.Row.{Row}
 use Rattle.ds2_value.specs.Run.{Tested}
 use Rattle.ds2_value.specs.Types.{assign_of}
 use Rattle.ds2_value.specs.Value.{sum_of, difference_of, product_of, negative_of, absolute_of, remainder_of, compared_of}
 use Rattle.ds2_value.specs.Functions.{substr_of}
 use Rattle.ds2_value.specs.declared.comparison.Comparison.TheVariants.{Equal, Less, LessOrEqual, GreaterOrEqual}
 use Rattle.ds2_value.specs.declared.fault.Fault.{Fault}
+use Rattle.ds2_value.specs.declared.hash_function.HashFunction.{HashFunction}
+use Rattle.ds2_value.specs.declared.hash_function.IteratorFunction.{IteratorFunction}
 use Rattle.ds2_value.specs.declared.ty.Ty.{Ty}
 use Rattle.ds2_value.specs.declared.ty.Ty.TheVariants.{BigInt, Decimal as DecimalOf, Char, Varchar}
 use Rattle.ds2_value.specs.declared.value.Value.{Value}
@@ -22,18 +26,23 @@ use Rattle.ds2_meaning.specs.declared.expressions.Operation.{Operation}
 use Rattle.ds2_meaning.specs.declared.expressions.Operation.TheVariants as operation
 use Rattle.ds2_meaning.specs.declared.expressions.Prefix.{Prefix}
 use Rattle.ds2_meaning.specs.declared.expressions.Prefix.TheVariants as prefix
+use Rattle.ds2_meaning.specs.declared.hashes.DeclaredHash.{DeclaredHash}
+use Rattle.ds2_meaning.specs.declared.hashes.DeclaredIterator.{DeclaredIterator}
+use Rattle.ds2_meaning.specs.declared.hashes.HashVariable.{HashVariable}
+use Rattle.ds2_meaning.specs.declared.location.Global.TheVariants as global
 use Rattle.ds2_meaning.specs.declared.location.Reference.{Reference}
 use Rattle.ds2_meaning.specs.declared.location.Reference.TheVariants.{At, Local}
 use Rattle.ds2_meaning.specs.declared.methods.Parameter.{Parameter}
 use Rattle.ds2_meaning.specs.BudgetLaws.{left_by_expression, left_by_statement}
 use Rattle.ds2_meaning.specs.Evaluation.{Surroundings, Calls, CallEnd, Answers, CallBreaks, callee_home, with_one_more, then_others, then_all, then_call, taken_back, after_call, call_with, result_of, evaluate, evaluate_links, evaluate_all, evaluate_arguments, call}
-use Rattle.ds2_meaning.specs.Execution.{labelled, dropped, step_or_one, counts_on, write_one, write_each, any_holds, any_equals, with_texts, with_step_value, count_turn, rounds_counted, while_turn, rounds_while, until_turn, rounds_until, constructed, exec, exec_all, select, select_value}
+use Rattle.ds2_meaning.specs.Execution.{labelled, dropped, step_or_one, counts_on, write_one, write_each, any_holds, any_equals, with_texts, with_step_value, count_turn, rounds_counted, while_turn, rounds_while, until_turn, rounds_until, constructed, with_parameters_set, exec, exec_all, select, select_value}
 use Rattle.ds2_meaning.specs.Invocation.{method_state, returned, call_finding, carried_out, call_too_deep, invoke}
-use Rattle.ds2_meaning.specs.Location.{Home}
-use Rattle.ds2_meaning.specs.Method.{MethodTree, Methods}
-use Rattle.ds2_meaning.specs.RunState.{RunState, ExpressionEnd, Gives, Breaks, then_operand, attempt, ExpressionsEnd, GiveAll, BreakAt, StatementOutcome, Proceeds, Leaves, Continues, Returns, Faults, then_value, then_statement, then_round, step_fails, step_finding, begin_step, after_test, noting, with_progress, variable_value, store, put_line}
-use Rattle.ds2_meaning.specs.TypedExpression.{TypedExpression, Constant, Variable, Widen, Convert, Prefixed, Chain, Compared, Applied, Called, Links, NoLink, Link, TypedExpressions, NoExpression, Then, TypedArguments, NoArgument, ByValue, InOut}
-use Rattle.ds2_meaning.specs.TypedStatement.{TypedStatement, Empty, Assign, Invoke, Construct, Leave, Continue, Return, ReturnValue, Output, Put, If, IfElse, Select, SelectValue, Block, Count, While, Until, TypedStatements, Finish, Next, TypedWhens, NoOtherwise, Otherwise, When, Item, Text, Shown, Labelled}
+use Rattle.ds2_meaning.specs.HashObjects.{DeclaredObjects, hash_named, iterator_named, object_at, items_of, position_of, values_of_variables, with_values_stored, with_data_copied, with_iterator_shifted, with_iterators_shifted, call_hash, call_iterator_of, call_iterator}
+use Rattle.ds2_meaning.specs.Location.{Home, Holds, Items, Position}
+use Rattle.ds2_meaning.specs.Method.{MethodTree, Declarations}
+use Rattle.ds2_meaning.specs.RunState.{RunState, ExpressionEnd, Gives, Breaks, then_operand, attempt, ExpressionsEnd, GiveAll, BreakAt, StatementOutcome, Proceeds, Leaves, Continues, Returns, Faults, then_value, then_statement, then_round, step_fails, step_finding, begin_step, after_test, noting, with_progress, variable_value, store, keep_at, put_line}
+use Rattle.ds2_meaning.specs.TypedExpression.{TypedExpression, Constant, Variable, Widen, Convert, Prefixed, Chain, Compared, Applied, Called, HashCalled, IteratorCalled, Links, NoLink, Link, TypedExpressions, NoExpression, Then, TypedArguments, NoArgument, ByValue, InOut}
+use Rattle.ds2_meaning.specs.TypedStatement.{TypedStatement, Empty, Assign, Invoke, Evaluate, SetParameters, ParameterValue, Construct, Leave, Continue, Return, ReturnValue, Output, Put, If, IfElse, Select, SelectValue, Block, Count, While, Until, TypedStatements, Finish, Next, TypedWhens, NoOtherwise, Otherwise, When, Item, Text, Shown, Labelled}
 use Rattle.ds2_meaning.specs.ValueOperations.{operated, prefixed, converted, applied, of_two, of_one_or_fault}
 
 -- what several expressions leave, and what a call leaves
@@ -113,6 +122,50 @@ applied_within n function.Unchanged vs w h = h
 applied_within n function.Length vs w h = h
 applied_within n function.Substring vs w h = attempt_within n (substr_of vs) w h
 applied_within n function.Trim vs w h = h
+
+-- ---- calls of hash objects and iterators
+
+values_stored_within : (n : ℕ) (home : Home) (xs : List HashVariable) (row : Row) (w : RunState) → w.progress.left ≤ n
+    → (with_values_stored home xs row w).progress.left ≤ n
+values_stored_within n home [] row w h = h
+values_stored_within n home (x ∷ xs) [] w h = h
+values_stored_within n home (x ∷ xs) (v ∷ vs) w h = values_stored_within n home xs vs (store home (At x.global) v w) h
+
+copied_within : (n : ℕ) (home : Home) (hash : DeclaredHash) (row : Option Row) (w : RunState) → w.progress.left ≤ n
+    → (with_data_copied home hash row w).progress.left ≤ n
+copied_within n home hash None w h = h
+copied_within n home hash (Some row) w h = values_stored_within n home hash.data_variables row w h
+
+shifted_within : (n : ℕ) (shift : Shift) (home : Home) (hash : List ℕ) (is : List DeclaredIterator) (w : RunState) → w.progress.left ≤ n
+    → (with_iterators_shifted shift home hash is w).progress.left ≤ n
+shifted_within n shift home hash [] w h = h
+shifted_within n shift home hash (i ∷ is) w h =
+    shifted_within n shift home hash is (with_iterator_shifted shift home hash i w) (by (bytes_eq i.hash hash))
+  where
+    by : (b : Bool) → (if b then keep_at (object_at home i.name) (Position (shifted shift (position_of home i.name w))) w else w).progress.left ≤ n
+    by true = h
+    by false = h
+
+hash_called_within : (n : ℕ) (objects : DeclaredObjects) (home : Home) (f : HashFunction) (hash : Option DeclaredHash) (w : RunState) → w.progress.left ≤ n
+    → left_by_expression (call_hash objects home f hash w) ≤ n
+hash_called_within n objects home f None w h = h
+hash_called_within n objects home f (Some hash) w h =
+    let answer = hash_answer f (values_of_variables home hash.key_variables w) (values_of_variables home hash.data_variables w) (items_of home hash.name w) in
+    copied_within n home hash answer.copied
+    (with_iterators_shifted answer.shift home hash.name objects.iterators (keep_at (object_at home hash.name) (Items answer.items) w))
+    (shifted_within n answer.shift home hash.name objects.iterators (keep_at (object_at home hash.name) (Items answer.items) w) h)
+
+iterator_of_within : (n : ℕ) (home : Home) (f : IteratorFunction) (i : DeclaredIterator) (hash : Option DeclaredHash) (w : RunState) → w.progress.left ≤ n
+    → left_by_expression (call_iterator_of home f i hash w) ≤ n
+iterator_of_within n home f i None w h = h
+iterator_of_within n home f i (Some hash) w h =
+    let answer = iterator_answer f (items_of home hash.name w) (position_of home i.name w) in
+    copied_within n home hash answer.copied (keep_at (object_at home i.name) (Position answer.position) w) h
+
+iterator_called_within : (n : ℕ) (objects : DeclaredObjects) (home : Home) (f : IteratorFunction) (i : Option DeclaredIterator) (w : RunState) → w.progress.left ≤ n
+    → left_by_expression (call_iterator objects home f i w) ≤ n
+iterator_called_within n objects home f None w h = h
+iterator_called_within n objects home f (Some i) w h = iterator_of_within n home f i (hash_named objects.hashes i.hash) w h
 
 -- ---- words of calls
 
@@ -235,6 +288,8 @@ module _ (s : Surroundings) (calls_within : CallsAreWithin s.calls) where
         (after_call_within n s.home es (then_call (evaluate_arguments s es w) (s.calls (callee_home s.home instance) m))
         (then_call_within n (evaluate_arguments s es w) (s.calls (callee_home s.home instance) m) (arguments_within es n w h)
         (λ vs u k. calls_within n (callee_home s.home instance) m vs u k)))
+    value_within (HashCalled hash f) n w h = hash_called_within n s.objects s.home f (hash_named s.objects.hashes hash) w h
+    value_within (IteratorCalled i f) n w h = iterator_called_within n s.objects s.home f (iterator_named s.objects.iterators i) w h
 
     pub links_within : (links : Links) (x : Value) (n : ℕ) (w : RunState) → w.progress.left ≤ n → left_by_expression (evaluate_links s links x w) ≤ n
     links_within NoLink x n w h = h
@@ -337,6 +392,14 @@ module _ (s : Surroundings) (calls_within : CallsAreWithin s.calls) where
   rounds_counted_within (suc k) place i end step body b n w h =
       count_turn_within place i end step body (rounds_counted s k place i end step body) b (rounds_counted_within k place i end step body b) n w h
 
+  parameters_within : (instance : List ℕ) (ps : List ParameterValue) → IsWithin (with_parameters_set s instance ps)
+  parameters_within instance [] n w h = h
+  parameters_within instance (p ∷ ps) n w h =
+      value_then_within n (evaluate s p.value w)
+      (λ v u. with_parameters_set s instance ps (keep_at (record { home = Some instance; global = global.Parameter p.parameter }) (Holds v) u))
+      (value_within p.value n w h)
+      (λ v u k. parameters_within instance ps n (keep_at (record { home = Some instance; global = global.Parameter p.parameter }) (Holds v) u) k)
+
   mutual
     pub statement_within : (t : TypedStatement) → IsWithin (exec s t)
     statement_within (Empty place) n w h = step_within n place w Proceeds h (λ u k. k)
@@ -345,6 +408,11 @@ module _ (s : Surroundings) (calls_within : CallsAreWithin s.calls) where
         (λ u k. value_then_within n (evaluate s e u) (λ v x. Proceeds (store s.home r v x)) (value_within e n u k) (λ v x l. stored_within n s.home r v x l))
     statement_within (Invoke place instance m es) n w h =
         step_within n place w (λ u. dropped (call s instance m es u)) h (λ u k. dropped_within n (call s instance m es u) (call_within instance m es n u k))
+    statement_within (Evaluate place e) n w h =
+        step_within n place w (λ u. then_value (evaluate s e u) (λ v x. Proceeds x)) h
+        (λ u k. value_then_within n (evaluate s e u) (λ v x. Proceeds x) (value_within e n u k) (λ v x l. l))
+    statement_within (SetParameters place instance ps) n w h =
+        step_within n place w (with_parameters_set s instance ps) h (λ u k. parameters_within instance ps n u k)
     statement_within (Construct place instance m es) n w h =
         step_within n place w (constructed s instance m es) h (λ u k. constructed_within instance m es n u k)
     statement_within (Leave place) n w h = step_within n place w Leaves h (λ u k. k)
@@ -414,15 +482,16 @@ returned_within n parameters caller (Continues w) h = h
 returned_within n parameters caller (Returns v w) h = h
 returned_within n parameters caller (Faults f w) h = h
 
-carried_out_within : (calls : Calls) → CallsAreWithin calls → (n : ℕ) (home : Home) (o : Option MethodTree) (vs : List Value) (left : ℕ) (w : RunState)
-    → w.progress.left ≤ n → left ≤ n → left_by_call (carried_out calls home o vs left w) ≤ n
-carried_out_within calls within n home None vs left w h k = h
-carried_out_within calls within n home (Some m) vs left w h k =
-    returned_within n m.parameters w (exec_all (record { calls = calls; outputs = []; home = home }) m.body (method_state m.parameters vs left w))
-    (statements_within (record { calls = calls; outputs = []; home = home }) within m.body n (method_state m.parameters vs left w) k)
+carried_out_within : (calls : Calls) → CallsAreWithin calls → (n : ℕ) (objects : DeclaredObjects) (home : Home) (o : Option MethodTree) (vs : List Value) (left : ℕ) (w : RunState)
+    → w.progress.left ≤ n → left ≤ n → left_by_call (carried_out calls objects home o vs left w) ≤ n
+carried_out_within calls within n objects home None vs left w h k = h
+carried_out_within calls within n objects home (Some m) vs left w h k =
+    returned_within n m.parameters w (exec_all (record { calls = calls; objects = objects; outputs = []; home = home }) m.body (method_state m.parameters vs left w))
+    (statements_within (record { calls = calls; objects = objects; outputs = []; home = home }) within m.body n (method_state m.parameters vs left w) k)
 
-pub invoke_within : (methods : Methods) (depth : ℕ) → CallsAreWithin (invoke methods depth)
-invoke_within methods zero n home m vs w h = call_finding_within n w.progress.left w (λ left. call_too_deep left w) h h (λ j k. k)
-invoke_within methods (suc depth) n home m vs w h =
-    call_finding_within n w.progress.left w (λ left. carried_out (invoke methods depth) home (slice_get (methods home) m) vs left w) h h
-    (λ j k. carried_out_within (invoke methods depth) (invoke_within methods depth) n home (slice_get (methods home) m) vs j w h k)
+pub invoke_within : (declared : Declarations) (depth : ℕ) → CallsAreWithin (invoke declared depth)
+invoke_within declared zero n home m vs w h = call_finding_within n w.progress.left w (λ left. call_too_deep left w) h h (λ j k. k)
+invoke_within declared (suc depth) n home m vs w h =
+    call_finding_within n w.progress.left w
+    (λ left. carried_out (invoke declared depth) (declared.objects home) home (slice_get (declared.methods home) m) vs left w) h h
+    (λ j k. carried_out_within (invoke declared depth) (invoke_within declared depth) n (declared.objects home) home (slice_get (declared.methods home) m) vs j w h k)

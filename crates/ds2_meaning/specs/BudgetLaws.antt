@@ -8,7 +8,7 @@ use Rattle.ds2_meaning.specs.RunState.{RunState, ExpressionEnd, Gives, Breaks, S
 use Rattle.ds2_meaning.specs.Evaluation.{Surroundings, evaluate}
 use Rattle.ds2_meaning.specs.Execution.{exec, exec_all, with_step_value, count_turn, rounds_counted, while_turn, rounds_while, until_turn, rounds_until}
 use Rattle.ds2_meaning.specs.Invocation.{invoke}
-use Rattle.ds2_meaning.specs.Method.{Methods}
+use Rattle.ds2_meaning.specs.Method.{Declarations}
 use Rattle.ds2_meaning.specs.TypedExpression.{TypedExpression}
 use Rattle.ds2_meaning.specs.TypedStatement.{TypedStatement, TypedStatements, Count, While, Until}
 
@@ -25,15 +25,15 @@ left_by_statement (Continues w) = w.progress.left
 left_by_statement (Returns v w) = w.progress.left
 left_by_statement (Faults f w) = w.progress.left
 
--- what a statement finds around it that calls these methods, of which so many may be under way
-abbrev pub around : Methods → ℕ → List (List (List ℕ)) → Home → Surroundings
-around methods depth outputs home = record { calls = invoke methods depth; outputs = outputs; home = home }
+-- what a statement finds around it of these units, of whose methods so many may be under way
+abbrev pub around : Declarations → ℕ → List (List (List ℕ)) → Home → Surroundings
+around declared depth outputs home = record { calls = invoke declared depth; objects = declared.objects home; outputs = outputs; home = home }
 
 -- no statement raises the budget, whatever methods it calls
 abbrev pub NoStatementRaisesTheBudget : Type 0
 NoStatementRaisesTheBudget =
-    (methods : Methods) (depth : ℕ) (outputs : List (List (List ℕ))) (home : Home) (statement : TypedStatement) (w : RunState)
-    → left_by_statement (exec (around methods depth outputs home) statement w) ≤ w.progress.left
+    (declared : Declarations) (depth : ℕ) (outputs : List (List (List ℕ))) (home : Home) (statement : TypedStatement) (w : RunState)
+    → left_by_statement (exec (around declared depth outputs home) statement w) ≤ w.progress.left
 
 -- `do while` from a test on
 abbrev pub while_loop : Surroundings → Place → TypedExpression → TypedStatements → RunState → StatementOutcome
@@ -50,22 +50,22 @@ count_loop s place variable end step body w = rounds_counted s w.progress.left p
 -- a loop is one turn and then the loop, so that its bound says nothing
 pub record LoopsAreTheirTurns : Type 0 where
   -- do while: it begins as a step; its turn is a test, its body and then the loop
-  pub while_begins : (methods : Methods) (depth : ℕ) (outputs : List (List (List ℕ))) (home : Home) (place : Place) (condition : TypedExpression) (body : TypedStatements) (w : RunState)
-      → exec (around methods depth outputs home) (While place condition body) w ≡ begin_step place w (while_loop (around methods depth outputs home) place condition body)
-  pub while_turns : (methods : Methods) (depth : ℕ) (outputs : List (List (List ℕ))) (home : Home) (place : Place) (condition : TypedExpression) (body : TypedStatements) (w : RunState)
-      → while_loop (around methods depth outputs home) place condition body w
-      ≡ while_turn (around methods depth outputs home) place condition (exec_all (around methods depth outputs home) body) (while_loop (around methods depth outputs home) place condition body) w
+  pub while_begins : (declared : Declarations) (depth : ℕ) (outputs : List (List (List ℕ))) (home : Home) (place : Place) (condition : TypedExpression) (body : TypedStatements) (w : RunState)
+      → exec (around declared depth outputs home) (While place condition body) w ≡ begin_step place w (while_loop (around declared depth outputs home) place condition body)
+  pub while_turns : (declared : Declarations) (depth : ℕ) (outputs : List (List (List ℕ))) (home : Home) (place : Place) (condition : TypedExpression) (body : TypedStatements) (w : RunState)
+      → while_loop (around declared depth outputs home) place condition body w
+      ≡ while_turn (around declared depth outputs home) place condition (exec_all (around declared depth outputs home) body) (while_loop (around declared depth outputs home) place condition body) w
   -- do until: it begins as a step; its turn is its body, a test and then the loop
-  pub until_begins : (methods : Methods) (depth : ℕ) (outputs : List (List (List ℕ))) (home : Home) (place : Place) (condition : TypedExpression) (body : TypedStatements) (w : RunState)
-      → exec (around methods depth outputs home) (Until place condition body) w ≡ begin_step place w (until_loop (around methods depth outputs home) place condition body)
-  pub until_turns : (methods : Methods) (depth : ℕ) (outputs : List (List (List ℕ))) (home : Home) (place : Place) (condition : TypedExpression) (body : TypedStatements) (w : RunState)
-      → until_loop (around methods depth outputs home) place condition body w
-      ≡ until_turn (around methods depth outputs home) place condition (exec_all (around methods depth outputs home) body) (until_loop (around methods depth outputs home) place condition body) w
+  pub until_begins : (declared : Declarations) (depth : ℕ) (outputs : List (List (List ℕ))) (home : Home) (place : Place) (condition : TypedExpression) (body : TypedStatements) (w : RunState)
+      → exec (around declared depth outputs home) (Until place condition body) w ≡ begin_step place w (until_loop (around declared depth outputs home) place condition body)
+  pub until_turns : (declared : Declarations) (depth : ℕ) (outputs : List (List (List ℕ))) (home : Home) (place : Place) (condition : TypedExpression) (body : TypedStatements) (w : RunState)
+      → until_loop (around declared depth outputs home) place condition body w
+      ≡ until_turn (around declared depth outputs home) place condition (exec_all (around declared depth outputs home) body) (until_loop (around declared depth outputs home) place condition body) w
   -- do i = a to b by c: it begins as a step, evaluates its three values once, sets its variable and begins its first test; its turn is a test, its body, a step, the addition and then the loop
-  pub count_begins : (methods : Methods) (depth : ℕ) (outputs : List (List (List ℕ))) (home : Home) (place : Place) (variable : Reference) (start end : TypedExpression) (step : Option TypedExpression) (body : TypedStatements) (w : RunState)
-      → exec (around methods depth outputs home) (Count place variable start end step body) w
-      ≡ begin_step place w (λ u. then_value (evaluate (around methods depth outputs home) start u) (λ a x. then_value (evaluate (around methods depth outputs home) end x) (λ b y.
-      with_step_value (around methods depth outputs home) step y (λ c z. begin_step place (store home variable a z) (count_loop (around methods depth outputs home) place variable b c body)))))
-  pub count_turns : (methods : Methods) (depth : ℕ) (outputs : List (List (List ℕ))) (home : Home) (place : Place) (variable : Reference) (end : Value) (step : Option Value) (body : TypedStatements) (w : RunState)
-      → count_loop (around methods depth outputs home) place variable end step body w
-      ≡ count_turn (around methods depth outputs home) place variable end step (exec_all (around methods depth outputs home) body) (count_loop (around methods depth outputs home) place variable end step body) w
+  pub count_begins : (declared : Declarations) (depth : ℕ) (outputs : List (List (List ℕ))) (home : Home) (place : Place) (variable : Reference) (start end : TypedExpression) (step : Option TypedExpression) (body : TypedStatements) (w : RunState)
+      → exec (around declared depth outputs home) (Count place variable start end step body) w
+      ≡ begin_step place w (λ u. then_value (evaluate (around declared depth outputs home) start u) (λ a x. then_value (evaluate (around declared depth outputs home) end x) (λ b y.
+      with_step_value (around declared depth outputs home) step y (λ c z. begin_step place (store home variable a z) (count_loop (around declared depth outputs home) place variable b c body)))))
+  pub count_turns : (declared : Declarations) (depth : ℕ) (outputs : List (List (List ℕ))) (home : Home) (place : Place) (variable : Reference) (end : Value) (step : Option Value) (body : TypedStatements) (w : RunState)
+      → count_loop (around declared depth outputs home) place variable end step body w
+      ≡ count_turn (around declared depth outputs home) place variable end step (exec_all (around declared depth outputs home) body) (count_loop (around declared depth outputs home) place variable end step body) w

@@ -4,9 +4,10 @@ use Rattle.ds2_value.specs.Operations.{widened}
 use Rattle.ds2_value.specs.Value.{compared_of}
 use Rattle.ds2_value.specs.declared.fault.Fault.{Fault}
 use Rattle.ds2_value.specs.declared.value.Value.{Value}
+use Rattle.ds2_meaning.specs.HashObjects.{DeclaredObjects, hash_named, iterator_named, call_hash, call_iterator}
 use Rattle.ds2_meaning.specs.Location.{Home}
 use Rattle.ds2_meaning.specs.RunState.{RunState, ExpressionEnd, Gives, Breaks, then_operand, ExpressionsEnd, GiveAll, BreakAt, variable_value, store}
-use Rattle.ds2_meaning.specs.TypedExpression.{TypedExpression, Constant, Variable, Widen, Convert, Prefixed, Chain, Compared, Applied, Called, Links, NoLink, Link, TypedExpressions, NoExpression, Then, TypedArguments, NoArgument, ByValue, InOut}
+use Rattle.ds2_meaning.specs.TypedExpression.{TypedExpression, Constant, Variable, Widen, Convert, Prefixed, Chain, Compared, Applied, Called, HashCalled, IteratorCalled, Links, NoLink, Link, TypedExpressions, NoExpression, Then, TypedArguments, NoArgument, ByValue, InOut}
 use Rattle.ds2_meaning.specs.ValueOperations.{operated, prefixed, converted, applied}
 
 -- how a called method ends: with its result, the last values of its in_out parameters and the caller's state, or with a fault
@@ -18,9 +19,11 @@ pub data CallEnd : Type 0 where
 abbrev pub Calls : Type 0
 Calls = Home → ℕ → List Value → RunState → CallEnd
 
--- what a statement finds around it: what calls do, the variables of each output's columns, and whose code it is
+-- what a statement finds around it: what calls do, the hash objects and iterators of its unit, the variables of each output's
+-- columns, and whose code it is
 pub record Surroundings : Type 0 where
   pub calls : Calls
+  pub objects : DeclaredObjects
   pub outputs : List (List (List ℕ))
   pub home : Home
 
@@ -85,6 +88,8 @@ module _ (s : Surroundings) where
         then_operand (evaluate left w) (λ x u. then_operand (evaluate right u) (λ y v. Gives (compared_of comparison x y) v))
     evaluate (Applied function arguments ty) w = then_all (evaluate_all arguments w) (applied function)
     evaluate (Called instance method arguments ty) w = result_of (call_with s instance method arguments (evaluate_arguments arguments w))
+    evaluate (HashCalled hash f) w = call_hash s.objects s.home f (hash_named s.objects.hashes hash) w
+    evaluate (IteratorCalled iterator f) w = call_iterator s.objects s.home f (iterator_named s.objects.iterators iterator) w
 
     -- the value of a chain, from the value of its operands up to here
     pub evaluate_links : Links → Value → RunState → ExpressionEnd

@@ -24,6 +24,7 @@ use Rattle.ds2_meaning.specs.declared.location.Reference.{Reference}
 use Rattle.ds2_meaning.specs.declared.location.Reference.TheVariants.{At, Local}
 use Rattle.ds2_meaning.specs.declared.methods.Parameter.{Parameter}
 use Rattle.ds2_meaning.specs.declared.readings.Reading.TheVariants.{Once}
+use Rattle.ds2_meaning.specs.HashObjects.{no_objects}
 use Rattle.ds2_meaning.specs.ProgramMeaning.{program_answer}
 use Rattle.ds2_meaning.specs.ProgramTree.{BodyTree, UnitTree, OverTables}
 use Rattle.ds2_meaning.specs.TypedExpression.{TypedExpression, Constant, Variable, Prefixed, Chain, Link, NoLink, Applied}
@@ -139,6 +140,8 @@ unit_with declared body = record {
   columns = [];
   retained = [];
   instances = [];
+  objects = no_objects;
+  threads = [];
   reading = Once;
   outputs = output_of declared ∷ [];
   methods = [];

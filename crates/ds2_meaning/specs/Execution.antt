@@ -11,13 +11,13 @@ use Rattle.ds2_value.specs.declared.fault.Fault.TheVariants.{NoWhen}
 use Rattle.ds2_value.specs.declared.ty.TheConstants.{TEXT_CHARACTERS}
 use Rattle.ds2_value.specs.declared.value.Value.{Value}
 use Rattle.ds2_value.specs.declared.value.Value.TheVariants.{Null, Int}
-use Rattle.ds2_meaning.specs.declared.location.Global.TheVariants.{Named}
+use Rattle.ds2_meaning.specs.declared.location.Global.TheVariants.{Named, Parameter}
 use Rattle.ds2_meaning.specs.declared.location.Reference.{Reference}
 use Rattle.ds2_meaning.specs.declared.location.Reference.TheVariants.{At}
-use Rattle.ds2_meaning.specs.Location.{Home}
-use Rattle.ds2_meaning.specs.RunState.{RunState, attempt, StatementOutcome, Proceeds, Leaves, Continues, Returns, Faults, raises, then_value, then_statement, then_round, step_fails, begin_step, after_test, variable_value, store, write_row, put_line}
+use Rattle.ds2_meaning.specs.Location.{Home, Holds}
+use Rattle.ds2_meaning.specs.RunState.{RunState, attempt, StatementOutcome, Proceeds, Leaves, Continues, Returns, Faults, raises, then_value, then_statement, then_round, step_fails, begin_step, after_test, variable_value, store, keep_at, write_row, put_line}
 use Rattle.ds2_meaning.specs.TypedExpression.{TypedExpression, TypedExpressions, NoExpression, Then, TypedArguments}
-use Rattle.ds2_meaning.specs.TypedStatement.{TypedStatement, Empty, Assign, Invoke, Construct, Leave, Continue, Return, ReturnValue, Output, Put, If, IfElse, Select, SelectValue, Block, Count, While, Until, TypedStatements, Finish, Next, TypedWhens, NoOtherwise, Otherwise, When, Item, Text, Shown, Labelled}
+use Rattle.ds2_meaning.specs.TypedStatement.{TypedStatement, Empty, Assign, Invoke, Evaluate, SetParameters, ParameterValue, Construct, Leave, Continue, Return, ReturnValue, Output, Put, If, IfElse, Select, SelectValue, Block, Count, While, Until, TypedStatements, Finish, Next, TypedWhens, NoOtherwise, Otherwise, When, Item, Text, Shown, Labelled}
 use Rattle.ds2_meaning.specs.Evaluation.{Surroundings, CallEnd, Answers, CallBreaks, evaluate, call}
 
 -- `name=` and the text of a value, together at most 1,024 characters
@@ -122,12 +122,21 @@ module _ (s : Surroundings) where
   constructed instance None arguments w = Proceeds w
   constructed instance (Some method) arguments w = dropped (call s (Some instance) method arguments w)
 
+  -- the parameters of an instance of a thread program get their values, one after the other
+  abbrev pub with_parameters_set : List ℕ → List ParameterValue → RunState → StatementOutcome
+  with_parameters_set instance [] w = Proceeds w
+  with_parameters_set instance (p ∷ ps) w =
+      then_value (evaluate s p.value w)
+      (λ v u. with_parameters_set instance ps (keep_at (record { home = Some instance; global = Parameter p.parameter }) (Holds v) u))
+
   abbrev mutual
     -- what a statement does: it begins as a step, evaluates its parts in order, and ends in one of the five ways
     pub exec : TypedStatement → RunState → StatementOutcome
     exec (Empty place) w = begin_step place w Proceeds
     exec (Assign place variable e) w = begin_step place w (λ u. then_value (evaluate s e u) (λ v x. Proceeds (store s.home variable v x)))
     exec (Invoke place instance method arguments) w = begin_step place w (λ u. dropped (call s instance method arguments u))
+    exec (Evaluate place e) w = begin_step place w (λ u. then_value (evaluate s e u) (λ v x. Proceeds x))
+    exec (SetParameters place instance values) w = begin_step place w (with_parameters_set instance values)
     exec (Construct place instance method arguments) w = begin_step place w (constructed instance method arguments)
     exec (Leave place) w = begin_step place w Leaves
     exec (Continue place) w = begin_step place w Continues

@@ -16,6 +16,7 @@ use Rattle.ds2_meaning.specs.declared.location.Reference.TheVariants.{At, Local}
 use Rattle.ds2_meaning.specs.declared.readings.Reading.{Reading}
 use Rattle.ds2_meaning.specs.declared.readings.Reading.TheVariants.{Set, Merge, From}
 use Rattle.ds2_meaning.specs.ExampleWords.{col, natural, fixed, global, value_of_type, variable_of, local, int, decimal_constant, text_constant, binary, plus, less, negated, function_of, assign_at, assign_local, bigint, by_value, bigint_column, output_of, body_of, unit_with, program_with, seen, ran, ends_with, faults_at}
+use Rattle.ds2_meaning.specs.HashObjects.{no_objects}
 use Rattle.ds2_meaning.specs.Method.{MethodTree}
 use Rattle.ds2_meaning.specs.ProgramExamples.{tables_of, input_of, by_ascending, reader, with_columns, rows_over, two, getting, merging, summing, totals, sales}
 use Rattle.ds2_meaning.specs.ProgramMeaning.{program_answer}
@@ -168,9 +169,9 @@ pub record CallExamples : Type 0 where
   -- dcl package p q(1); dcl package p r(2); dcl package e w; x = q.get(); z = r.get();
   pub own_variables : ran (record (program_with (codes "x" ∷ codes "z" ∷ []) (
       assign_at 80 (codes "x") (Called (Some (codes "q")) 1 NoArgument BigInt) ∷ assign_at 92 (codes "z") (Called (Some (codes "r")) 1 NoArgument BigInt) ∷ [])) {
-        instances = record { name = codes "q"; package' = codes "p"; variables = bigint (codes "k") ∷ []; methods = keeping_its_argument ∷ getting ∷ [] }
-            ∷ record { name = codes "r"; package' = codes "p"; variables = bigint (codes "k") ∷ []; methods = keeping_its_argument ∷ getting ∷ [] }
-            ∷ record { name = codes "w"; package' = codes "e"; variables = []; methods = [] } ∷ [];
+        instances = record { name = codes "q"; package' = codes "p"; variables = bigint (codes "k") ∷ []; objects = no_objects; methods = keeping_its_argument ∷ getting ∷ [] }
+            ∷ record { name = codes "r"; package' = codes "p"; variables = bigint (codes "k") ∷ []; objects = no_objects; methods = keeping_its_argument ∷ getting ∷ [] }
+            ∷ record { name = codes "w"; package' = codes "e"; variables = []; objects = no_objects; methods = [] } ∷ [];
         init = body_of (Construct (col 60) (codes "q") (Some 0) (ByValue (int 1) NoArgument) ∷ Construct (col 65) (codes "r") (Some 0) (ByValue (int 2) NoArgument) ∷ Construct (col 70) (codes "w") None NoArgument ∷ []);
       }) 20
       ≡ ends_with ((natural 1 ∷ natural 2 ∷ []) ∷ []) (13 ∷ 14 ∷ 20 ∷ [])

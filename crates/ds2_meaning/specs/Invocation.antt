@@ -6,11 +6,12 @@ use Rattle.ds2_value.specs.declared.fault.Fault.TheVariants.{BudgetSpent, DepthR
 use Rattle.ds2_value.specs.declared.value.Value.{Value}
 use Rattle.ds2_value.specs.declared.value.Value.TheVariants.{Null}
 use Rattle.ds2_meaning.specs.declared.methods.Parameter.{Parameter}
+use Rattle.ds2_meaning.specs.HashObjects.{DeclaredObjects}
 use Rattle.ds2_meaning.specs.Location.{Home}
 use Rattle.ds2_meaning.specs.RunState.{RunState, StatementOutcome, Proceeds, Leaves, Continues, Returns, Faults, noting_failure, with_progress}
 use Rattle.ds2_meaning.specs.Evaluation.{Calls, CallEnd, Answers, CallBreaks}
 use Rattle.ds2_meaning.specs.Execution.{exec_all}
-use Rattle.ds2_meaning.specs.Method.{MethodTree, Methods, locals_at_entry, last_values}
+use Rattle.ds2_meaning.specs.Method.{MethodTree, Declarations, locals_at_entry, last_values}
 
 -- the state in which a method begins: a call is a step that keeps the place, and it leaves this much of the budget
 abbrev pub method_state : List Parameter → List Value → ℕ → RunState → RunState
@@ -40,17 +41,19 @@ call_finding (suc left) w go = go left
 
 -- a method is carried out with calls of one level less. A method that is not there is never called in a typed unit, and the
 -- fault given for it means nothing
-abbrev pub carried_out : Calls → Home → Option MethodTree → List Value → ℕ → RunState → CallEnd
-carried_out calls home None arguments left w = call_raises DepthReached w
-carried_out calls home (Some method) arguments left w =
-    returned method.parameters w (exec_all (record { calls = calls; outputs = []; home = home }) method.body (method_state method.parameters arguments left w))
+abbrev pub carried_out : Calls → DeclaredObjects → Home → Option MethodTree → List Value → ℕ → RunState → CallEnd
+carried_out calls objects home None arguments left w = call_raises DepthReached w
+carried_out calls objects home (Some method) arguments left w =
+    returned method.parameters w
+    (exec_all (record { calls = calls; objects = objects; outputs = []; home = home }) method.body (method_state method.parameters arguments left w))
 
 -- one more call than there may be under way: DepthReached, after its step
 abbrev pub call_too_deep : ℕ → RunState → CallEnd
 call_too_deep left w = CallBreaks DepthReached (with_progress (without_call left w.progress) w)
 
 -- calls where so many further methods may be under way
-abbrev pub invoke : Methods → ℕ → Calls
-invoke methods zero home number arguments w = call_finding w.progress.left w (λ left. call_too_deep left w)
-invoke methods (suc depth) home number arguments w =
-    call_finding w.progress.left w (λ left. carried_out (invoke methods depth) home (slice_get (methods home) number) arguments left w)
+abbrev pub invoke : Declarations → ℕ → Calls
+invoke declared zero home number arguments w = call_finding w.progress.left w (λ left. call_too_deep left w)
+invoke declared (suc depth) home number arguments w =
+    call_finding w.progress.left w
+    (λ left. carried_out (invoke declared depth) (declared.objects home) home (slice_get (declared.methods home) number) arguments left w)

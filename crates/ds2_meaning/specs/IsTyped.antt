@@ -1,6 +1,8 @@
 -- Which programs are typed: by cases over the tree, every name is known, every type fits, and no statement has a flag as its target.
-use Rattle.std.specs.Prelude.{◌≡◌, ◌≤◌, ◌<◌, ◌+◌, IsTrue, ℕ, min, max, Bool, true, false, bytes_eq, if◌then◌else◌, not, ◌&&◌, List, [], ◌∷◌, length, map, slice_get, Option, Some, None}
-use Rattle.ds2_value.specs.Row.{Columns}
+use Rattle.std.specs.List.{list_all}
+use Rattle.std.specs.Prelude.{◌≡◌, ◌≤◌, ◌<◌, ◌+◌, IsTrue, ℕ, min, max, Bool, true, false, bytes_eq, if◌then◌else◌, not, ◌&&◌, List, [], ◌∷◌, ◌++◌, length, map, slice_get, is_some, Option, Some, None}
+use Rattle.ds2_value.specs.HashList.{HashItem, HashItems}
+use Rattle.ds2_value.specs.Row.{Row, Columns}
 use Rattle.ds2_value.specs.Schema.{has_column}
 use Rattle.ds2_value.specs.Types.{in_bounds, fits, takes}
 use Rattle.ds2_value.specs.declared.ty.Ty.{Ty}
@@ -14,6 +16,11 @@ use Rattle.ds2_meaning.specs.declared.expressions.Prefix.TheVariants as prefix
 use Rattle.ds2_meaning.specs.declared.globals.OutputColumn.{OutputColumn}
 use Rattle.ds2_meaning.specs.declared.globals.OutputTable.{OutputTable}
 use Rattle.ds2_meaning.specs.declared.globals.Variable.{Variable}
+use Rattle.ds2_meaning.specs.declared.hashes.DeclaredHash.{DeclaredHash}
+use Rattle.ds2_meaning.specs.declared.hashes.DeclaredIterator.{DeclaredIterator}
+use Rattle.ds2_meaning.specs.declared.hashes.HashVariable.{HashVariable}
+use Rattle.ds2_meaning.specs.declared.hashes.LoadedTable.{LoadedTable}
+use Rattle.ds2_meaning.specs.declared.hashes.ThreadInstance.{ThreadInstance}
 use Rattle.ds2_meaning.specs.declared.location.Global.{Global}
 use Rattle.ds2_meaning.specs.declared.location.Global.TheVariants.{Named, First, Last, Present, Parameter}
 use Rattle.ds2_meaning.specs.declared.location.Reference.{Reference}
@@ -23,11 +30,12 @@ use Rattle.ds2_meaning.specs.declared.readings.ByVariable.{ByVariable}
 use Rattle.ds2_meaning.specs.declared.readings.Input.{Input}
 use Rattle.ds2_meaning.specs.declared.readings.Reading.{Reading}
 use Rattle.ds2_meaning.specs.declared.readings.Reading.TheVariants.{From}
-use Rattle.ds2_meaning.specs.Location.{Home, Location, Storage, held}
+use Rattle.ds2_meaning.specs.HashObjects.{DeclaredObjects, hash_named, iterator_named, object_at}
+use Rattle.ds2_meaning.specs.Location.{Home, Location, Storage, held, items_held}
 use Rattle.ds2_meaning.specs.Method.{MethodTree}
-use Rattle.ds2_meaning.specs.ProgramMeaning.{output_columns}
-use Rattle.ds2_meaning.specs.ProgramTree.{BodyTree, InstanceTree, UnitTree, ProgramTree, OverTables, OverStage, data_vector, is_listed, methods_of, reader_of}
-use Rattle.ds2_meaning.specs.Reading.{inputs_of, bys_of, stage_columns}
+use Rattle.ds2_meaning.specs.ProgramMeaning.{global_name, output_columns}
+use Rattle.ds2_meaning.specs.ProgramTree.{BodyTree, InstanceTree, UnitTree, ProgramTree, OverTables, OverStage, data_vector, is_listed, methods_of, objects_of, reader_of}
+use Rattle.ds2_meaning.specs.Reading.{inputs_of, bys_of, stage_instance, stage_columns}
 use Rattle.ds2_meaning.specs.TypedExpression as e
 use Rattle.ds2_meaning.specs.TypedStatement as s
 
@@ -44,11 +52,14 @@ with_parameters_of [] variables = variables
 with_parameters_of (p ∷ ps) variables = record { name = p.name; ty = p.ty } ∷ with_parameters_of ps variables
 
 -- what the statements of a method may name: globals with their types, its parameters and locals, the methods that they may call,
--- whether it is a system method, how many outputs it may write to, and what it returns where it returns a value
+-- the hash objects and iterators of its unit, the instances of thread programs whose parameters it may set, whether it is a system
+-- method, how many outputs it may write to, and what it returns where it returns a value
 pub record NamesInScope : Type 0 where
   pub globals : Global → Option Ty
   pub locals : List Variable
   pub methods : Option (List ℕ) → List MethodTree
+  pub objects : DeclaredObjects
+  pub threads : List ThreadInstance
   pub is_system : Bool
   pub outputs : ℕ
   pub returns : Option Ty
@@ -57,6 +68,11 @@ pub record NamesInScope : Type 0 where
 abbrev pub reference_type : NamesInScope → Reference → Option Ty
 reference_type names (At global) = names.globals global
 reference_type names (Local name) = type_in names.locals name
+
+-- the parameters of the instance of a thread program of this name
+abbrev pub thread_parameters : List ThreadInstance → List ℕ → Option (List Variable)
+thread_parameters [] name = None
+thread_parameters (i ∷ instances) name = if bytes_eq i.name name then Some i.parameters else thread_parameters instances name
 
 -- a statement may set a variable: it is no flag
 abbrev pub IsTarget : Reference → Type 0
@@ -178,6 +194,8 @@ expression_type (e.Chain first links) = chain_type (expression_type first) links
 expression_type (e.Compared c left right) = BigInt
 expression_type (e.Applied f arguments ty) = ty
 expression_type (e.Called instance method arguments ty) = ty
+expression_type (e.HashCalled hash f) = BigInt
+expression_type (e.IteratorCalled iterator f) = BigInt
 
 -- the types of expressions in order
 abbrev pub expression_types : e.TypedExpressions → List Ty
@@ -204,6 +222,8 @@ module _ (names : NamesInScope) where
     IsTypedExpression (e.Applied f arguments ty) = AreTypedExpressions arguments × IsApplication f (expression_types arguments) ty
     IsTypedExpression (e.Called instance number arguments ty) =
         (method : MethodTree) × (slice_get (names.methods instance) number ≡ Some method) × (method.returns ≡ Some ty) × AreTypedArguments method.parameters arguments
+    IsTypedExpression (e.HashCalled hash f) = IsTrue (is_some (hash_named names.objects.hashes hash))
+    IsTypedExpression (e.IteratorCalled iterator f) = IsTrue (is_some (iterator_named names.objects.iterators iterator))
 
     -- the further operands of a chain, behind operands of this type
     pub AreTypedLinks : Ty → e.Links → Type 0
@@ -272,6 +292,18 @@ module _ (names : NamesInScope) where
   HasConstructorArguments instance None arguments = arguments ≡ e.NoArgument
   HasConstructorArguments instance (Some number) arguments = IsTypedCall (Some instance) number arguments
 
+  -- values for the parameters of a thread program, each in the type of its parameter
+  abbrev pub AreParameterValues : List Variable → List s.ParameterValue → Type 0
+  AreParameterValues [] [] = Unit {0}
+  AreParameterValues (p ∷ parameters) (v ∷ values) =
+      (v.parameter ≡ p.name) × IsTypedExpression v.value × (expression_type v.value ≡ p.ty) × AreParameterValues parameters values
+  AreParameterValues _ _ = ⊥
+
+  -- values for the parameters of an instance of a thread program that may be set
+  abbrev pub AreValuesFor : Option (List Variable) → List s.ParameterValue → Type 0
+  AreValuesFor None values = ⊥
+  AreValuesFor (Some parameters) values = AreParameterValues parameters values
+
   abbrev mutual
     -- a statement, inside a loop or not, whose names are known and whose types fit
     pub IsTypedStatement : Bool → s.TypedStatement → Type 0
@@ -279,6 +311,8 @@ module _ (names : NamesInScope) where
     IsTypedStatement loop (s.Assign place variable value) =
         IsTarget variable × IsTypedExpression value × (reference_type names variable ≡ Some (expression_type value))
     IsTypedStatement loop (s.Invoke place instance number arguments) = IsTypedCall instance number arguments
+    IsTypedStatement loop (s.Evaluate place value) = IsTypedExpression value
+    IsTypedStatement loop (s.SetParameters place instance values) = AreValuesFor (thread_parameters names.threads instance) values
     IsTypedStatement loop (s.Construct place instance constructor arguments) = ⊥
     IsTypedStatement loop (s.Leave place) = IsTrue loop
     IsTypedStatement loop (s.Continue place) = IsTrue loop
@@ -370,17 +404,30 @@ variable_names variables = map (λ (v : Variable). v.name) variables
 abbrev pub AreTypedVariables : List Variable → Type 0
 AreTypedVariables variables = AreInBounds variables × IsTrue (are_distinct (variable_names variables))
 
--- a method among these globals and methods
-abbrev pub IsTypedMethod : (Global → Option Ty) → (Option (List ℕ) → List MethodTree) → MethodTree → Type 0
-IsTypedMethod globals methods method =
+-- what a method among these globals, methods and hash objects may name
+abbrev pub names_in_method : (Global → Option Ty) → (Option (List ℕ) → List MethodTree) → DeclaredObjects → MethodTree → NamesInScope
+names_in_method globals methods objects method = record {
+  globals = globals;
+  locals = with_parameters_of method.parameters method.locals;
+  methods = methods;
+  objects = objects;
+  threads = [];
+  is_system = false;
+  outputs = 0;
+  returns = method.returns;
+}
+
+-- a method among these globals, methods and hash objects
+abbrev pub IsTypedMethod : (Global → Option Ty) → (Option (List ℕ) → List MethodTree) → DeclaredObjects → MethodTree → Type 0
+IsTypedMethod globals methods objects method =
     AreTypedVariables (with_parameters_of method.parameters method.locals)
-    × AreTypedStatements (record { globals = globals; locals = with_parameters_of method.parameters method.locals; methods = methods; is_system = false; outputs = 0; returns = method.returns }) false method.body
+    × AreTypedStatements (names_in_method globals methods objects method) false method.body
     × ReturnsWhatItSays method method.returns
 
--- methods among these globals and methods
-abbrev pub AreTypedMethods : (Global → Option Ty) → (Option (List ℕ) → List MethodTree) → List MethodTree → Type 0
-AreTypedMethods globals methods [] = Unit {0}
-AreTypedMethods globals methods (m ∷ more) = IsTypedMethod globals methods m × AreTypedMethods globals methods more
+-- methods among these globals, methods and hash objects
+abbrev pub AreTypedMethods : (Global → Option Ty) → (Option (List ℕ) → List MethodTree) → DeclaredObjects → List MethodTree → Type 0
+AreTypedMethods globals methods objects [] = Unit {0}
+AreTypedMethods globals methods objects (m ∷ more) = IsTypedMethod globals methods objects m × AreTypedMethods globals methods objects more
 
 -- the type of a flag of this name, where the list has it
 abbrev pub flag_type : Bool → Option Ty
@@ -421,7 +468,20 @@ package_methods methods (Some instance) = []
 
 -- what a system method of a program with these locals may name
 abbrev pub names_in_body : UnitTree → List Variable → NamesInScope
-names_in_body p locals = record { globals = globals_of p; locals = locals; methods = methods_of p; is_system = true; outputs = length p.outputs; returns = None }
+names_in_body p locals = record {
+  globals = globals_of p;
+  locals = locals;
+  methods = methods_of p;
+  objects = p.objects;
+  threads = [];
+  is_system = true;
+  outputs = length p.outputs;
+  returns = None;
+}
+
+-- likewise `init`, which may set the parameters of its instances of thread programs
+abbrev pub names_in_init : UnitTree → List Variable → NamesInScope
+names_in_init p locals = record (names_in_body p locals) { threads = p.threads }
 
 -- a system method of a program
 abbrev pub IsTypedBody : UnitTree → BodyTree → Type 0
@@ -438,13 +498,68 @@ AreBehindConstructors names (i ∷ instances) _ = ⊥
 
 -- `init`, with the constructors of the program's instances in front
 abbrev pub IsTypedInit : UnitTree → BodyTree → Type 0
-IsTypedInit p body = AreTypedVariables body.locals × AreBehindConstructors (names_in_body p body.locals) p.instances body.statements
+IsTypedInit p body = AreTypedVariables body.locals × AreBehindConstructors (names_in_init p body.locals) p.instances body.statements
+
+-- the variables of a hash object are globals of their types
+abbrev pub AreHashVariables : (Global → Option Ty) → List HashVariable → Type 0
+AreHashVariables globals [] = Unit {0}
+AreHashVariables globals (v ∷ variables) = (globals v.global ≡ Some v.ty) × IsTrue (in_bounds v.ty) × AreHashVariables globals variables
+
+-- a call may set the data variables of a hash object
+abbrev pub AreHashTargets : List HashVariable → Type 0
+AreHashTargets [] = Unit {0}
+AreHashTargets (v ∷ variables) = IsTarget (At v.global) × AreHashTargets variables
+
+-- the type of the column of this name
+abbrev pub column_type : Columns → List ℕ → Option Ty
+column_type [] name = None
+column_type (c ∷ columns) name = if bytes_eq c.name name then Some c.ty else column_type columns name
+
+-- each variable of a hash object takes the values of the column of its name
+abbrev pub AreLoadedVariables : Columns → List HashVariable → Type 0
+AreLoadedVariables columns [] = Unit {0}
+AreLoadedVariables columns (v ∷ variables) =
+    ((ty : Ty) × (column_type columns (global_name v.global) ≡ Some ty) × IsTrue (takes v.ty ty)) × AreLoadedVariables columns variables
+
+-- the table of a hash object, where there is one
+abbrev pub IsTypedLoad : DeclaredHash → Option LoadedTable → Type 0
+IsTypedLoad hash None = Unit {0}
+IsTypedLoad hash (Some loaded) = AreLoadedVariables loaded.columns hash.key_variables × AreLoadedVariables loaded.columns hash.data_variables
+
+-- hash objects among these globals
+abbrev pub AreTypedHashes : (Global → Option Ty) → List DeclaredHash → Type 0
+AreTypedHashes globals [] = Unit {0}
+AreTypedHashes globals (h ∷ hashes) =
+    (AreHashVariables globals h.key_variables × AreHashVariables globals h.data_variables × AreHashTargets h.data_variables × IsTypedLoad h h.loaded)
+    × AreTypedHashes globals hashes
+
+-- each iterator is one of a hash object that is there
+abbrev pub AreTypedIterators : List DeclaredHash → List DeclaredIterator → Type 0
+AreTypedIterators hashes [] = Unit {0}
+AreTypedIterators hashes (i ∷ iterators) = IsTrue (is_some (hash_named hashes i.hash)) × AreTypedIterators hashes iterators
+
+-- the hash objects and iterators of a unit with these globals
+abbrev pub AreTypedObjects : (Global → Option Ty) → DeclaredObjects → Type 0
+AreTypedObjects globals objects = AreTypedHashes globals objects.hashes × AreTypedIterators objects.hashes objects.iterators
+
+-- the names of hash objects and iterators
+abbrev pub object_names : DeclaredObjects → List (List ℕ)
+object_names objects = map (λ (h : DeclaredHash). h.name) objects.hashes ++ map (λ (i : DeclaredIterator). i.name) objects.iterators
 
 -- the instances of a program
 abbrev pub AreTypedInstances : List InstanceTree → Type 0
 AreTypedInstances [] = Unit {0}
 AreTypedInstances (i ∷ instances) =
-    AreTypedVariables i.variables × AreTypedMethods (package_globals i.variables) (package_methods i.methods) i.methods × AreTypedInstances instances
+    AreTypedVariables i.variables
+    × IsTrue (are_distinct (variable_names i.variables ++ object_names i.objects))
+    × AreTypedObjects (package_globals i.variables) i.objects
+    × AreTypedMethods (package_globals i.variables) (package_methods i.methods) i.objects i.methods
+    × AreTypedInstances instances
+
+-- the names that a program gives to its variables, hash objects, iterators and instances
+abbrev pub names_given : UnitTree → List (List ℕ)
+names_given p =
+    variable_names (data_vector p) ++ object_names p.objects ++ map (λ (i : InstanceTree). i.name) p.instances ++ map (λ (i : ThreadInstance). i.name) p.threads
 
 -- each of these columns is a variable whose type takes the values of the column
 abbrev pub AreVariables : List Variable → Columns → Type 0
@@ -482,11 +597,12 @@ AreTypedOutputs variables (output ∷ outputs) =
 pub record IsTypedUnit (p : UnitTree) : Type 0 where
   pub variables : AreTypedVariables (data_vector p)
   pub parameters : AreTypedVariables p.parameters
-  pub names : IsTrue (are_distinct (map (λ (i : InstanceTree). i.name) p.instances))
+  pub names : IsTrue (are_distinct (names_given p))
   pub instances : AreTypedInstances p.instances
+  pub objects : AreTypedObjects (globals_of p) p.objects
   pub reading : IsTypedReading (data_vector p) p.reading
   pub outputs : AreTypedOutputs (data_vector p) p.outputs
-  pub methods : AreTypedMethods (globals_of p) (methods_of p) p.methods
+  pub methods : AreTypedMethods (globals_of p) (methods_of p) p.objects p.methods
   pub init : IsTypedInit p p.init
   pub run : IsTypedBody p p.run
   pub term : IsTypedBody p p.term
@@ -506,11 +622,17 @@ abbrev pub AreStageColumns : Columns → List OutputTable → Type 0
 AreStageColumns columns (output ∷ []) = columns ≡ output_columns output
 AreStageColumns columns _ = ⊥
 
+-- a program and the thread program that it reads from fit: its columns are those of that one's output, and its instance has that
+-- one's parameters
+abbrev pub FitsStage : UnitTree → UnitTree → Type 0
+FitsStage p stage =
+    ReadsStage p.reading × AreStageColumns (stage_columns p.reading) stage.outputs
+    × (thread_parameters p.threads (stage_instance p.reading) ≡ Some stage.parameters)
+
 -- a typed program: it and the thread program that it reads from are typed
 abbrev pub IsTypedProgram : ProgramTree → Type 0
 IsTypedProgram (OverTables p) = IsTypedUnit p × ReadsNoStage p.reading
-IsTypedProgram (OverStage p stage) =
-    IsTypedUnit p × ReadsStage p.reading × AreStageColumns (stage_columns p.reading) (reader_of stage).outputs × IsTypedProgram stage
+IsTypedProgram (OverStage p stage) = IsTypedUnit p × FitsStage p (reader_of stage) × IsTypedProgram stage
 
 -- ---- what is kept
 
@@ -524,6 +646,19 @@ abbrev pub location_type : UnitTree → Home → Global → Option Ty
 location_type p None global = globals_of p global
 location_type p (Some instance) global = package_globals (instance_variables p.instances instance) global
 
--- each value that is kept fits the type of its location
-abbrev pub StorageFits : UnitTree → Storage → Type 0
-StorageFits p c = (at : Location) (ty : Ty) → location_type p at.home at.global ≡ Some ty → IsTrue (fits (held (c at)) ty)
+-- a row has a value of its type for each variable of a hash object
+abbrev pub row_fits_variables : Row → List HashVariable → Bool
+row_fits_variables [] [] = true
+row_fits_variables (v ∷ row) (x ∷ variables) = fits v x.ty && row_fits_variables row variables
+row_fits_variables _ _ = false
+
+-- each item has a key and data for the variables of its hash object
+abbrev pub items_fit : DeclaredHash → HashItems → Bool
+items_fit hash items =
+    list_all (λ (item : HashItem). row_fits_variables item.0 hash.key_variables && row_fits_variables item.1 hash.data_variables) items
+
+-- what is kept fits: each value the type of its location, and the items of each hash object its variables
+pub record StorageFits (p : UnitTree) (c : Storage) : Type 0 where
+  pub values : (at : Location) (ty : Ty) → location_type p at.home at.global ≡ Some ty → IsTrue (fits (held (c at)) ty)
+  pub items : (home : Home) (name : List ℕ) (hash : DeclaredHash) → hash_named (objects_of p home).hashes name ≡ Some hash
+      → IsTrue (items_fit hash (items_held (c (object_at home name))))

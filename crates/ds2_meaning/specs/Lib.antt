@@ -2,6 +2,7 @@ pub mod Location
 pub mod TypedExpression
 pub mod TypedStatement
 pub mod RunState
+pub mod HashObjects
 pub mod ValueOperations
 pub mod Evaluation
 pub mod Execution
@@ -20,8 +21,3 @@ pub mod BudgetLaws
 pub mod TableLaws
 pub mod IsTyped
 pub mod TypedExamples
-pub mod SourceUnit
-pub mod Uses
-pub mod Refusals
-pub mod NameRules
-pub mod NameExamples

@@ -1,5 +1,5 @@
 -- Where a program keeps something, and what is kept there.
-use Rattle.std.specs.Prelude.{ℕ, ◌&&◌, Bool, true, false, bytes_eq, if◌then◌else◌, List, Option, Some, None}
+use Rattle.std.specs.Prelude.{ℕ, ◌&&◌, Bool, true, false, bytes_eq, if◌then◌else◌, List, [], Option, Some, None}
 use Rattle.ds2_value.specs.HashList.{HashItems}
 use Rattle.ds2_value.specs.declared.value.Value.{Value}
 use Rattle.ds2_value.specs.declared.value.Value.TheVariants.{Null}
@@ -48,6 +48,16 @@ Storage = Location → Content
 abbrev pub held : Content → Value
 held (Holds v) = v
 held _ = Null
+
+-- the items that are kept
+abbrev pub items_held : Content → HashItems
+items_held (Items items) = items
+items_held _ = []
+
+-- the position that is kept
+abbrev pub position_held : Content → Option ℕ
+position_held (Position position) = position
+position_held _ = None
 
 -- a location gets a new content, and every other one keeps its own
 abbrev pub with_content : Location → Content → Storage → Storage

@@ -4,6 +4,7 @@ use Rattle.ds2_value.specs.declared.ty.Ty.{Ty}
 use Rattle.ds2_value.specs.declared.value.Value.{Value}
 use Rattle.ds2_meaning.specs.declared.globals.Variable.{Variable}
 use Rattle.ds2_meaning.specs.declared.methods.Parameter.{Parameter}
+use Rattle.ds2_meaning.specs.HashObjects.{DeclaredObjects}
 use Rattle.ds2_meaning.specs.Location.{Home}
 use Rattle.ds2_meaning.specs.TypedStatement.{TypedStatements}
 use Rattle.ds2_meaning.specs.RunState.{Locals, no_locals, with_local}
@@ -19,6 +20,11 @@ pub record MethodTree : Type 0 where
 -- the methods of each home
 abbrev pub Methods : Type 0
 Methods = Home → List MethodTree
+
+-- what the code of each home may call: methods, and hash objects with their iterators
+pub record Declarations : Type 0 where
+  pub methods : Methods
+  pub objects : Home → DeclaredObjects
 
 -- the parameters have the arguments' values, and every local is null
 abbrev pub locals_at_entry : List Parameter → List Value → Locals

@@ -17,6 +17,7 @@ use Rattle.ds2_meaning.specs.declared.readings.Input.{Input}
 use Rattle.ds2_meaning.specs.declared.readings.Reading.{Reading}
 use Rattle.ds2_meaning.specs.declared.readings.Reading.TheVariants.{Nothing, Set, Merge, From}
 use Rattle.ds2_meaning.specs.ExampleWords.{col, natural, fixed, value_of_type, variable_of, int, binary, plus, function_of, assign_at, bigint, output_column, output_of, body_of, bigint_column, program_with, Seen, seen, ran, ends_with}
+use Rattle.ds2_meaning.specs.HashObjects.{no_objects}
 use Rattle.ds2_meaning.specs.Method.{MethodTree}
 use Rattle.ds2_meaning.specs.ProgramMeaning.{program_answer, tables_left}
 use Rattle.ds2_meaning.specs.ProgramTree.{UnitTree, ProgramTree, OverTables, OverStage}
@@ -48,6 +49,8 @@ reader reading declared columns body = record {
   columns = map bigint columns;
   retained = [];
   instances = [];
+  objects = no_objects;
+  threads = [];
   reading = reading;
   outputs = output_of (map bigint declared) ∷ [];
   methods = [];
@@ -139,7 +142,7 @@ pub record UnitExamples : Type 0 where
   -- package p; dcl bigint k; method p(); k = 7; end; method get() returns bigint; return k; end; endpackage;
   -- and dcl package p q(); x = q.get(); the program's own k stays null
   pub constructed_first : ran (record (program_with (codes "x" ∷ codes "k" ∷ []) (assign_at 80 (codes "x") (Called (Some (codes "q")) 1 NoArgument BigInt) ∷ [])) {
-    instances = record { name = codes "q"; package' = codes "p"; variables = bigint (codes "k") ∷ []; methods = keeping_seven ∷ getting ∷ [] } ∷ [];
+    instances = record { name = codes "q"; package' = codes "p"; variables = bigint (codes "k") ∷ []; objects = no_objects; methods = keeping_seven ∷ getting ∷ [] } ∷ [];
     init = body_of (Construct (col 60) (codes "q") (Some 0) NoArgument ∷ []);
   }) 10
       ≡ ends_with ((natural 7 ∷ Null ∷ []) ∷ []) (7 ∷ 7 ∷ 10 ∷ [])
@@ -212,6 +215,8 @@ summing first last = record {
   columns = record { name = codes "region"; ty = Varchar 1 } ∷ record { name = codes "amt"; ty = DecimalOf 3 2 } ∷ [];
   retained = codes "total" ∷ [];
   instances = [];
+  objects = no_objects;
+  threads = [];
   reading = Set (record { table = codes "sales"; present = None; columns = record { name = codes "region"; ty = Varchar 1 } ∷ record { name = codes "amt"; ty = DecimalOf 3 2 } ∷ [] } ∷ []) (by_ascending (codes "region") ∷ []);
   outputs = record { name = codes "sums"; overwrites = false; columns = map output_column sums_variables } ∷ [];
   methods = [];
@@ -233,6 +238,8 @@ totals stage = OverStage (record {
   columns = sums_variables;
   retained = [];
   instances = [];
+  objects = no_objects;
+  threads = record { name = codes "s"; parameters = [] } ∷ [];
   reading = From (codes "s") 4 sums_columns;
   outputs = record { name = codes "totals"; overwrites = false; columns = map output_column sums_variables } ∷ [];
   methods = [];

@@ -4,8 +4,11 @@ use Rattle.std.specs.List.{list_any}
 use Rattle.ds2_meaning.specs.declared.globals.OutputColumn.{OutputColumn}
 use Rattle.ds2_meaning.specs.declared.globals.OutputTable.{OutputTable}
 use Rattle.ds2_meaning.specs.declared.globals.Variable.{Variable}
+use Rattle.ds2_meaning.specs.declared.hashes.ThreadInstance.{ThreadInstance}
 use Rattle.ds2_meaning.specs.declared.readings.Reading.{Reading}
-use Rattle.ds2_meaning.specs.Method.{MethodTree, Methods}
+use Rattle.ds2_meaning.specs.HashObjects.{DeclaredObjects, no_objects}
+use Rattle.ds2_meaning.specs.Location.{Home}
+use Rattle.ds2_meaning.specs.Method.{MethodTree, Methods, Declarations}
 use Rattle.ds2_meaning.specs.Reading.{is_column}
 use Rattle.ds2_meaning.specs.TypedStatement.{TypedStatements, have_output}
 
@@ -14,11 +17,13 @@ pub record BodyTree : Type 0 where
   pub locals : List Variable
   pub statements : TypedStatements
 
--- an instance of a package: its name, the package's name, and the variables and methods of the package
+-- an instance of a package: its name, the package's name, and the variables, hash objects with iterators, and methods of the
+-- package
 pub record InstanceTree : Type 0 where
   pub name : List ℕ
   pub package' : List ℕ
   pub variables : List Variable
+  pub objects : DeclaredObjects
   pub methods : List MethodTree
 
 -- a data or thread program, without the thread program that it reads from
@@ -32,6 +37,9 @@ pub record UnitTree : Type 0 where
   -- the names that `retain` lists
   pub retained : List (List ℕ)
   pub instances : List InstanceTree
+  pub objects : DeclaredObjects
+  -- the instances of thread programs
+  pub threads : List ThreadInstance
   pub reading : Reading
   pub outputs : List OutputTable
   pub methods : List MethodTree
@@ -83,6 +91,20 @@ instance_methods (instance ∷ instances) name = if bytes_eq instance.name name 
 abbrev pub methods_of : UnitTree → Methods
 methods_of p None = p.methods
 methods_of p (Some instance) = instance_methods p.instances instance
+
+-- the hash objects and iterators of the instance of this name
+abbrev pub instance_objects : List InstanceTree → List ℕ → DeclaredObjects
+instance_objects [] name = no_objects
+instance_objects (instance ∷ instances) name = if bytes_eq instance.name name then instance.objects else instance_objects instances name
+
+-- the hash objects and iterators of the program itself, and those of its instances
+abbrev pub objects_of : UnitTree → Home → DeclaredObjects
+objects_of p None = p.objects
+objects_of p (Some instance) = instance_objects p.instances instance
+
+-- what the code of the program and of its instances may call
+abbrev pub declarations_of : UnitTree → Declarations
+declarations_of p = record { methods = methods_of p; objects = objects_of p }
 
 -- an `output` statement stands in the program
 abbrev pub program_has_output : UnitTree → Bool

@@ -10,7 +10,7 @@ use Rattle.ds2_value.specs.declared.value.Value.{Value}
 use Rattle.ds2_value.specs.declared.value.Value.TheVariants.{Null}
 use Rattle.ds2_meaning.specs.declared.location.Reference.{Reference}
 use Rattle.ds2_meaning.specs.declared.location.Reference.TheVariants.{At, Local}
-use Rattle.ds2_meaning.specs.Location.{Home, Storage, Holds, held, with_content}
+use Rattle.ds2_meaning.specs.Location.{Home, Location, Content, Storage, Holds, held, with_content}
 
 -- the values of a method's parameters and locals, by name
 abbrev pub Locals : Type 0
@@ -52,6 +52,10 @@ abbrev pub store : Home → Reference → Value → RunState → RunState
 store home (At global) v w =
     record { storage = with_content (record { home = home; global = global }) (Holds v) w.storage; locals = w.locals; progress = w.progress }
 store home (Local name) v w = record { storage = w.storage; locals = with_local name v w.locals; progress = w.progress }
+
+-- a location gets a new content
+abbrev pub keep_at : Location → Content → RunState → RunState
+keep_at at c w = record { storage = with_content at c w.storage; locals = w.locals; progress = w.progress }
 
 -- a row is added to an output
 abbrev pub write_row : ℕ → Row → RunState → RunState

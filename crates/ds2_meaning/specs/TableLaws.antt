@@ -1,24 +1,44 @@
--- A program's answer depends on the tables that its reading statements mention alone.
-use Rattle.std.specs.Prelude.{◌≡◌, ℕ, List, [], ◌∷◌, map, Some}
+-- A program's answer depends on the tables that its reading statements and its hash objects mention alone.
+use Rattle.std.specs.Prelude.{◌≡◌, ℕ, List, [], ◌∷◌, ◌++◌, map, Option, Some, None}
 use Rattle.ds2_base.specs.declared.place.Place.{Place}
 use Rattle.ds2_value.specs.declared.fault.Ending.TheVariants.{Faulted}
 use Rattle.ds2_value.specs.declared.fault.Fault.{Fault}
 use Rattle.ds2_value.specs.declared.value.Value.{Value}
 use Rattle.ds2_table.specs.OneThread.{Answer}
+use Rattle.ds2_meaning.specs.declared.hashes.DeclaredHash.{DeclaredHash}
+use Rattle.ds2_meaning.specs.declared.hashes.LoadedTable.{LoadedTable}
 use Rattle.ds2_meaning.specs.declared.readings.Input.{Input}
 use Rattle.ds2_meaning.specs.declared.readings.Reading.{Reading}
 use Rattle.ds2_meaning.specs.ProgramMeaning.{program_answer, tables_left}
-use Rattle.ds2_meaning.specs.ProgramTree.{UnitTree, ProgramTree, OverTables, OverStage}
+use Rattle.ds2_meaning.specs.ProgramTree.{InstanceTree, UnitTree, ProgramTree, OverTables, OverStage}
 use Rattle.ds2_meaning.specs.Reading.{TableRows, inputs_of}
 
 -- the names of the tables of a reading statement
 abbrev pub tables_read : Reading → List (List ℕ)
 tables_read reading = map (λ (input : Input). input.table) (inputs_of reading)
 
+-- the names of the tables that hash objects are loaded from
+abbrev pub tables_loaded : List DeclaredHash → List (List ℕ)
+tables_loaded [] = []
+tables_loaded (h ∷ hashes) = of_load h.loaded ++ tables_loaded hashes
+  where
+    of_load : Option LoadedTable → List (List ℕ)
+    of_load None = []
+    of_load (Some loaded) = loaded.table ∷ []
+
+-- the names of the tables that the hash objects of instances are loaded from
+abbrev pub tables_loaded_by : List InstanceTree → List (List ℕ)
+tables_loaded_by [] = []
+tables_loaded_by (i ∷ instances) = tables_loaded i.objects.hashes ++ tables_loaded_by instances
+
+-- the names of the tables that the hash objects of a program and of its instances are loaded from
+abbrev pub tables_at_opening : UnitTree → List (List ℕ)
+tables_at_opening p = tables_loaded p.objects.hashes ++ tables_loaded_by p.instances
+
 -- the names of the tables that a program mentions, those of the thread program that it reads from among them
 abbrev pub tables_mentioned : ProgramTree → List (List ℕ)
-tables_mentioned (OverTables p) = tables_read p.reading
-tables_mentioned (OverStage p stage) = tables_mentioned stage
+tables_mentioned (OverTables p) = tables_at_opening p ++ tables_read p.reading
+tables_mentioned (OverStage p stage) = tables_at_opening p ++ tables_mentioned stage
 
 -- two stores have the same rows under each of these names
 abbrev pub AgreeUnder : List (List ℕ) → TableRows → TableRows → Type 0

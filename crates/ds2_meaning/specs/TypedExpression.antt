@@ -1,6 +1,8 @@
 -- Typed expressions, as plain data. The nodes are those of the code's tree.
 use Rattle.std.specs.Prelude.{ℕ, Bool, List, Option}
 use Rattle.ds2_value.specs.declared.comparison.Comparison.{Comparison}
+use Rattle.ds2_value.specs.declared.hash_function.HashFunction.{HashFunction}
+use Rattle.ds2_value.specs.declared.hash_function.IteratorFunction.{IteratorFunction}
 use Rattle.ds2_value.specs.declared.ty.Ty.{Ty}
 use Rattle.ds2_value.specs.declared.value.Value.{Value}
 use Rattle.ds2_meaning.specs.declared.expressions.Operation.{Operation}
@@ -29,6 +31,9 @@ mutual
     Applied : Function → (arguments : TypedExpressions) → Ty → TypedExpression
     -- the result of a method: of an instance's package, or of the unit itself, by its number there
     Called : (instance : Option (List ℕ)) → (method : ℕ) → (arguments : TypedArguments) → Ty → TypedExpression
+    -- the code that a hash object of the unit, or an iterator, answers a call with
+    HashCalled : (hash : List ℕ) → HashFunction → TypedExpression
+    IteratorCalled : (iterator : List ℕ) → IteratorFunction → TypedExpression
 
   -- the further operands of a chain, each with its operation, and whether the value before it is widened
   pub data Links : Type 0 where

@@ -10,6 +10,11 @@ pub data Item : Type 0 where
   Shown : TypedExpression → Item
   Labelled : (name : List ℕ) → TypedExpression → Item
 
+-- a parameter of a thread program, and the value that it gets
+pub record ParameterValue : Type 0 where
+  pub parameter : List ℕ
+  pub value : TypedExpression
+
 mutual
   -- a statement at its place
   pub data TypedStatement : Type 0 where
@@ -19,6 +24,10 @@ mutual
     Assign : Place → Reference → (value : TypedExpression) → TypedStatement
     -- a call whose result is dropped
     Invoke : Place → (instance : Option (List ℕ)) → (method : ℕ) → (arguments : TypedArguments) → TypedStatement
+    -- a call of a function, a hash object or an iterator, whose value is dropped
+    Evaluate : Place → (value : TypedExpression) → TypedStatement
+    -- the parameters of an instance of a thread program get values
+    SetParameters : Place → (instance : List ℕ) → (values : List ParameterValue) → TypedStatement
     -- the declaration of an instance: a call of its constructor, where its package has one
     Construct : Place → (instance : List ℕ) → (constructor : Option ℕ) → (arguments : TypedArguments) → TypedStatement
     -- leave; continue; return; and return value;

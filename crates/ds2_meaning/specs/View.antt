@@ -13,11 +13,14 @@ use Rattle.ds2_meaning.specs.declared.expressions.Link as code_link
 use Rattle.ds2_meaning.specs.declared.statements.Statement.TheFolds.{fold-Statement}
 use Rattle.ds2_meaning.specs.declared.statements.Statement.TheOpen as statement_node
 use Rattle.ds2_meaning.specs.declared.statements.Statement as code_statement
+use Rattle.ds2_meaning.specs.declared.statements.ParameterSetting.{ParameterSetting}
 use Rattle.ds2_meaning.specs.declared.statements.PutItem.{PutItem}
 use Rattle.ds2_meaning.specs.declared.statements.PutItem.TheVariants as put_item
 use Rattle.ds2_meaning.specs.declared.methods.Method as code_method
 use Rattle.ds2_meaning.specs.declared.methods.SystemMethod.{SystemMethod}
 use Rattle.ds2_meaning.specs.declared.globals.Variable.{Variable}
+use Rattle.ds2_meaning.specs.declared.hashes.DeclaredHash.{DeclaredHash}
+use Rattle.ds2_meaning.specs.declared.hashes.DeclaredIterator.{DeclaredIterator}
 use Rattle.ds2_meaning.specs.declared.readings.Reading.{Reading}
 use Rattle.ds2_meaning.specs.declared.readings.Reading.TheVariants.{Nothing, Once}
 use Rattle.ds2_meaning.specs.declared.units.Instance.{Instance}
@@ -26,6 +29,7 @@ use Rattle.ds2_meaning.specs.declared.units.TypedData.{TypedData}
 use Rattle.ds2_meaning.specs.declared.units.TypedThread.{TypedThread}
 use Rattle.ds2_meaning.specs.declared.units.TypedThread.TheFolds.{fold-TypedThread}
 use Rattle.ds2_meaning.specs.declared.units.TypedThread.TheOpen as thread_node
+use Rattle.ds2_meaning.specs.HashObjects.{DeclaredObjects}
 use Rattle.ds2_meaning.specs.TypedExpression as tree
 use Rattle.ds2_meaning.specs.TypedStatement as statement
 use Rattle.ds2_meaning.specs.Method.{MethodTree}
@@ -67,6 +71,8 @@ expression_part (node.Chain first links) = tree.Chain first.value (in_a_row link
 expression_part (node.Compared comparison left right) = tree.Compared comparison left.value right.value
 expression_part (node.Applied function arguments ty) = tree.Applied function (all_expressions arguments) ty
 expression_part (node.Called call ty) = tree.Called call.instance call.method call.arguments ty
+expression_part (node.HashCalled hash f) = tree.HashCalled hash f
+expression_part (node.IteratorCalled iterator f) = tree.IteratorCalled iterator f
 
 -- a call, from what its arguments are
 abbrev pub call_part : node.Call-F (Part tree.TypedArguments) tree.TypedExpression CallTree (Part tree.Links) → CallTree
@@ -98,6 +104,10 @@ item_tree (put_item.Constant t) = statement.Text t
 item_tree (put_item.Value e) = statement.Shown (typed_expression e)
 item_tree (put_item.Named name e) = statement.Labelled name (typed_expression e)
 
+-- a parameter of a thread program and the value that it gets
+abbrev pub parameter_tree : ParameterSetting → statement.ParameterValue
+parameter_tree p = record { parameter = p.parameter; value = typed_expression p.value }
+
 -- an `if` with what stands in its else part
 abbrev pub if_tree : Place → tree.TypedExpression → statement.TypedStatement → Option statement.TypedStatement → statement.TypedStatement
 if_tree place condition on None = statement.If place condition on
@@ -127,6 +137,8 @@ abbrev pub statement_part : statement_node.Statement-F statement.TypedStatement 
 statement_part (statement_node.Empty place) = statement.Empty place
 statement_part (statement_node.Assign place variable e) = statement.Assign place variable (typed_expression e)
 statement_part (statement_node.Invoke place call) = let c = call_tree call in statement.Invoke place c.instance c.method c.arguments
+statement_part (statement_node.Evaluate place e) = statement.Evaluate place (typed_expression e)
+statement_part (statement_node.SetParameters place instance values) = statement.SetParameters place instance (map parameter_tree values)
 statement_part (statement_node.Leave place) = statement.Leave place
 statement_part (statement_node.Continue place) = statement.Continue place
 statement_part (statement_node.Return place) = statement.Return place
@@ -166,9 +178,13 @@ abbrev pub system_tree : Option SystemMethod → BodyTree
 system_tree None = record { locals = []; statements = statement.Finish }
 system_tree (Some m) = record { locals = m.locals; statements = typed_statements m.body }
 
+-- the hash objects and iterators of a unit
+abbrev pub objects_tree : List DeclaredHash → List DeclaredIterator → DeclaredObjects
+objects_tree hashes iterators = record { hashes = hashes; iterators = iterators }
+
 -- an instance as its meaning sees it
 abbrev pub instance_tree : Instance → InstanceTree
-instance_tree i = record { name = i.name; package' = i.package.name; variables = i.package.variables; methods = map typed_method i.package.methods }
+instance_tree i = record { name = i.name; package' = i.package.name; variables = i.package.variables; objects = objects_tree i.package.hashes i.package.iterators; methods = map typed_method i.package.methods }
 
 -- the constructors of instances in order, and then other statements
 abbrev pub constructors_first : List Instance → statement.TypedStatements → statement.TypedStatements
@@ -195,6 +211,8 @@ unit_tree thread parameters p = record {
   columns = p.columns;
   retained = p.retained;
   instances = map instance_tree p.instances;
+  objects = objects_tree p.hashes p.iterators;
+  threads = p.threads;
   reading = reading_with_run p.run p.reading;
   outputs = p.outputs;
   methods = map typed_method p.methods;

@@ -5,7 +5,7 @@
 
 use crate::Reference;
 use ds2_base::{List, Name};
-use ds2_value::{Comparison, Ty, Value};
+use ds2_value::{Comparison, HashFunction, IteratorFunction, Ty, Value};
 
 /// What stands between two operands of a chain. The operands are of the operation's types.
 #[derive(Clone, Copy, Debug, PartialEq, Eq)]
@@ -128,6 +128,16 @@ pub enum Expression {
     Called {
         call: Call,
         ty: Ty,
+    },
+    /// The code that a hash object of the same unit answers a call with, or for `num_items` the number of its items.
+    HashCalled {
+        hash: Name,
+        function: HashFunction,
+    },
+    /// The code that an iterator of the same unit answers a call with.
+    IteratorCalled {
+        iterator: Name,
+        function: IteratorFunction,
     },
 }
 

@@ -2,7 +2,6 @@
 ghost use Rattle.ds2_meaning.specs.BudgetLaws.{NoStatementRaisesTheBudget, LoopsAreTheirTurns};
 ghost use Rattle.ds2_meaning.specs.ExpressionExamples.{IntegerExamples, DecimalExamples, TruthExamples, TextExamples};
 ghost use Rattle.ds2_meaning.specs.FurtherExamples.{NullExamples, ConversionExamples, RoundExamples, CallExamples, ReadingExamples, FaultExamples};
-ghost use Rattle.ds2_meaning.specs.NameExamples.{NameExamples};
 ghost use Rattle.ds2_meaning.specs.ProgramExamples.{UnitExamples, LoadExamples, StageExamples};
 ghost use Rattle.ds2_meaning.specs.StatementExamples.{ChoiceExamples, LoopExamples, OutputExamples, MethodExamples};
 ghost use Rattle.ds2_meaning.specs.TypedExamples.{TypedExamples};
@@ -18,7 +17,7 @@ pub fn loops_are_their_turns()
     ensures { LoopsAreTheirTurns }
 {}
 
-/// A program's answer depends on the tables that its reading statements mention alone.
+/// A program's answer depends on the tables that its reading statements and its hash objects mention alone.
 pub fn tables_mentioned_decide()
     ensures { TablesMentionedDecide }
 {}
@@ -116,9 +115,4 @@ pub fn fault_examples()
 /// A program that is typed, and programs that are not.
 pub fn typed_examples()
     ensures { TypedExamples }
-{}
-
-/// Small sources and the refusals of their names.
-pub fn name_examples()
-    ensures { NameExamples }
 {}

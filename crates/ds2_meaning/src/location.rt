@@ -5,7 +5,7 @@ use ds2_base::Name;
 /// Something outside the methods that a unit names. A flag and a variable of one name are two globals.
 #[derive(Drop)]
 pub enum Global {
-    /// A declared variable, a column, or an instance of a package.
+    /// A declared variable, a column, a hash object or an iterator.
     Named(Name),
     /// The flag `first.v` of a BY variable.
     First(Name),

@@ -3,7 +3,7 @@
 //! Each has its place, that of its first token. The parts of a chain of `if` and `else if` stand in a list.
 
 use crate::{Call, Expression, Reference};
-use ds2_base::{List, Place, Text};
+use ds2_base::{List, Name, Place, Text};
 
 /// A statement.
 #[derive(Drop)]
@@ -23,6 +23,17 @@ pub enum Statement {
     Invoke {
         place: Place,
         call: Call,
+    },
+    /// A call of a function, a hash object or an iterator, whose value is dropped.
+    Evaluate {
+        place: Place,
+        value: Expression,
+    },
+    /// `instance.setparms(value, ..);`: the parameters of an instance of a thread program get values.
+    SetParameters {
+        place: Place,
+        instance: Name,
+        values: List<ParameterSetting>,
     },
     /// `leave;`
     Leave {
@@ -116,6 +127,13 @@ pub struct When {
     /// Its conditions, or the values with which that of the `select` is compared.
     pub tests: List<Expression>,
     pub then: Statement,
+}
+
+/// A parameter of a thread program, and the value that it gets, in its type.
+#[derive(Drop)]
+pub struct ParameterSetting {
+    pub parameter: Name,
+    pub value: Expression,
 }
 
 /// An item of `put`.

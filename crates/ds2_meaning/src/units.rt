@@ -1,6 +1,9 @@
 //! Typed units.
 
-use crate::{Argument, Method, OutputTable, Reading, SystemMethod, Variable};
+use crate::{
+    Argument, DeclaredHash, DeclaredIterator, Method, OutputTable, Reading, SystemMethod,
+    ThreadInstance, Variable,
+};
 use ds2_base::{List, Name, Place};
 
 /// A unit of a source whose names and types fit.
@@ -39,6 +42,8 @@ pub struct TypedPackage {
     pub name: Name,
     /// The variables that it declares, in order.
     pub variables: List<Variable>,
+    pub hashes: List<DeclaredHash>,
+    pub iterators: List<DeclaredIterator>,
     pub methods: List<Method>,
 }
 
@@ -65,6 +70,10 @@ pub struct Program {
     /// The names that `retain` lists.
     pub retained: List<Name>,
     pub instances: List<Instance>,
+    pub hashes: List<DeclaredHash>,
+    pub iterators: List<DeclaredIterator>,
+    /// The instances of thread programs that it declares, those that it does not read from too.
+    pub threads: List<ThreadInstance>,
     pub reading: Reading,
     pub outputs: List<OutputTable>,
     pub methods: List<Method>,

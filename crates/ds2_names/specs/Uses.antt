@@ -10,7 +10,7 @@ use Rattle.ds2_tree.specs.declared.expressions.Callee.TheVariants as callee
 use Rattle.ds2_tree.specs.declared.globals.Parameter as source_parameter
 use Rattle.ds2_tree.specs.declared.statements.PutItem.{PutItem}
 use Rattle.ds2_tree.specs.declared.statements.PutItem.TheVariants as item
-use Rattle.ds2_meaning.specs.SourceUnit.{spelled_name}
+use Rattle.ds2_names.specs.SourceUnit.{spelled_name}
 
 -- a use of a name
 pub data NameUse : Type 0 where
@@ -55,12 +55,8 @@ abbrev pub in_out_of : Option Method → List Bool
 in_out_of None = []
 in_out_of (Some m) = map (λ (p : source_parameter.Parameter). is_some p.in_out) m.parameters.list
 
-module _ (methods : List Method) where
-  -- for each parameter of what is called whether it is in_out
-  abbrev pub in_out_parameters : Callee → List Bool
-  in_out_parameters (callee.Function name) = in_out_of (method_named methods (spelled_name name))
-  in_out_parameters _ = []
-
+-- the uses of names, where `in_out_parameters` tells for each parameter of what is called whether it is in_out
+module _ (in_out_parameters : Callee → List Bool) where
   abbrev mutual
     -- the uses of names in an expression, in order
     pub uses : Expression → List NameUse

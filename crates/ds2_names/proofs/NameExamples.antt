@@ -1,6 +1,6 @@
 -- The examples of refusals of names.
 use Rattle.std.proofs.Common.{refl}
-use Rattle.ds2_meaning.specs.NameExamples.{NameExamples}
+use Rattle.ds2_names.specs.NameExamples.{NameExamples}
 
 pub name_examples : NameExamples
 name_examples = record {

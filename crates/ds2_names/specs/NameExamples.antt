@@ -11,8 +11,8 @@ use Rattle.ds2_tree.specs.declared.globals.Declaration.TheVariants.{Variables}
 use Rattle.ds2_tree.specs.declared.globals.TypeName.TheVariants as type_name
 use Rattle.ds2_tree.specs.declared.readings.Reading.TheVariants as reading
 use Rattle.ds2_meaning.specs.ExampleWords.{col, bigint_column}
-use Rattle.ds2_meaning.specs.NameRules.{name_refusal}
-use Rattle.ds2_meaning.specs.SourceUnit.{TableColumns}
+use Rattle.ds2_names.specs.SourceUnit.{TableColumns}
+use Rattle.ds2_names.specs.UnitRules.{name_refusal}
 use Rattle.ds2_meaning.specs.declared.refusals.ScopeKind.TheVariants.{UnknownName, Misplaced}
 
 -- a word in this column

@@ -1,0 +1,10 @@
+pub mod OperatorExamples
+pub mod CallExamples
+pub mod SourceExamples
+pub mod Given
+pub mod Outcome
+pub mod Returning
+pub mod Operands
+pub mod Links
+pub mod Comparisons
+pub mod Functions

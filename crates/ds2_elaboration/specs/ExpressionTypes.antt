@@ -1,0 +1,279 @@
+-- What becomes of the expressions of a method.
+use Rattle.std.specs.Prelude.{ℕ, ℤ, max, nat_eq, ◌+◌, ◌++◌, Bool, true, false, not, bytes_eq, codes, if◌then◌else◌, List, [], ◌∷◌, length, filter, position, unwrap_or, is_some, Option, Some, None}
+use Rattle.ds2_base.specs.Characters.{char_count}
+use Rattle.ds2_base.specs.declared.place.Place.{Place}
+use Rattle.ds2_decimal.specs.Decimal.{Decimal, digit_count}
+use Rattle.ds2_token.specs.Values.{token_integer, token_decimal, token_text}
+use Rattle.ds2_token.specs.Words.{is_integer, is_decimal, is_word}
+use Rattle.ds2_token.specs.declared.token.Token.{Token}
+use Rattle.ds2_tree.specs.Expressions.{Expression, Constant, Null, Variable, Member, Call, Parenthesis, Sign, Chain, Comparison, Not, Operands, NoOperand, Operand, Arguments, NoArgument, Argument}
+use Rattle.ds2_tree.specs.Globals.{Method}
+use Rattle.ds2_tree.specs.declared.expressions.Callee.{Callee}
+use Rattle.ds2_tree.specs.declared.expressions.Callee.TheVariants as callee
+use Rattle.ds2_tree.specs.declared.expressions.ChainKind.{ChainKind}
+use Rattle.ds2_tree.specs.declared.expressions.ChainKind.TheVariants as chain
+use Rattle.ds2_value.specs.declared.ty.Ty.{Ty}
+use Rattle.ds2_value.specs.declared.ty.Ty.TheVariants.{BigInt, Decimal as DecimalOf, Varchar}
+use Rattle.ds2_value.specs.declared.value.Value.TheVariants.{Null as NullValue, Int, Dec, Txt}
+use Rattle.ds2_meaning.specs.declared.globals.Variable as typed
+use Rattle.ds2_meaning.specs.declared.location.Global.{Global}
+use Rattle.ds2_meaning.specs.declared.location.Global.TheVariants.{Named, First, Last, Present}
+use Rattle.ds2_meaning.specs.declared.location.Reference.{Reference}
+use Rattle.ds2_meaning.specs.declared.location.Reference.TheVariants.{At, Local}
+use Rattle.ds2_meaning.specs.declared.methods.Parameter.{Parameter}
+use Rattle.ds2_meaning.specs.IsTyped.{expression_type, type_in}
+use Rattle.ds2_meaning.specs.ProgramTree.{is_listed}
+use Rattle.ds2_meaning.specs.declared.refusals.TypeKind.TheVariants.{TypeClash}
+use Rattle.ds2_names.specs.SourceUnit.{spelled_name, is_system_name}
+use Rattle.ds2_meaning.specs.TypedExpression as tree
+use Rattle.ds2_names.specs.Uses.{first_place, method_named}
+use Rattle.ds2_elaboration.specs.FunctionTypes.{ElaboratedArgument, elaborated_null_test, elaborated_function}
+use Rattle.ds2_elaboration.specs.OperatorTypes.{operator_refusals, ElaboratedLink, elaborated_link, elaborated_comparison, elaborated_sign, elaborated_not}
+use Rattle.ds2_elaboration.specs.SourceTypes.{is_one_type, elaborated_parameters, returned_type}
+use Rattle.ds2_elaboration.specs.Typings.{TypeRefusals, type_refusal_at, clash_unless, Typing, Known, NullAt, Unknown, ElaboratedExpression, form_of_type, typing_behind, form_of_operands, elaborated_null, elaborated_nameless, where_known, where_both_known, null_clash, truth_refusals, assigned_refusals, assigned_node}
+
+-- ---- constants
+
+-- an integer constant is a BIGINT; each integer of a source is in its bounds
+abbrev pub integer_constant : Token → tree.TypedExpression
+integer_constant t = of_value (token_integer t)
+  where
+    of_value : Option ℤ → tree.TypedExpression
+    of_value None = tree.Constant NullValue BigInt
+    of_value (Some i) = tree.Constant (Int i) BigInt
+
+-- a decimal constant has as many digits as it is written with, leading zeros not counted, at least one and at least those behind
+-- its point
+abbrev pub decimal_type : Decimal → Ty
+decimal_type d = DecimalOf (max 1 (max (digit_count d) d.scale)) d.scale
+
+-- a decimal constant; each decimal of a source is in its bounds
+abbrev pub typed_decimal : Token → tree.TypedExpression
+typed_decimal t = of_value (token_decimal t)
+  where
+    of_value : Option Decimal → tree.TypedExpression
+    of_value None = tree.Constant NullValue (DecimalOf 1 0)
+    of_value (Some d) = tree.Constant (Dec d) (decimal_type d)
+
+-- a text constant is a VARCHAR of its characters, at least one; each text of a source is one
+abbrev pub typed_text : Token → tree.TypedExpression
+typed_text t = of_value (token_text t)
+  where
+    of_value : Option (List ℕ) → tree.TypedExpression
+    of_value None = tree.Constant NullValue (Varchar 1)
+    of_value (Some text) = tree.Constant (Txt text) (Varchar (max 1 (char_count text)))
+
+-- a constant
+abbrev pub constant_node : Token → tree.TypedExpression
+constant_node t = if is_integer t then integer_constant t else if is_decimal t then typed_decimal t else typed_text t
+
+-- ---- names
+
+-- what the statements of a method see: the variables of the vector, the `in=` flags and BY variables, the parameters and locals
+-- that hide them, the methods of the unit that can be called, the names of its outputs, and the type that the method returns
+pub record TypeScope : Type 0 where
+  pub variables : List typed.Variable
+  pub flags : List (List ℕ)
+  pub bys : List (List ℕ)
+  pub locals : List typed.Variable
+  pub methods : List Method
+  pub outputs : List (List ℕ)
+  pub returns : Option Ty
+
+-- a variable that a name stands for, with its type
+pub record KnownVariable : Type 0 where
+  pub reference : Reference
+  pub ty : Ty
+
+-- what a name stands for: a parameter or local, else a variable of the vector, else an `in=` flag
+abbrev pub known_variable : TypeScope → List ℕ → Option KnownVariable
+known_variable scope name = of_local (type_in scope.locals name)
+  where
+    of_global : Option Ty → Option KnownVariable
+    of_global (Some ty) = Some (record { reference = At (Named name); ty = ty })
+    of_global None = if is_listed scope.flags name then Some (record { reference = At (Present name); ty = BigInt }) else None
+
+    of_local : Option Ty → Option KnownVariable
+    of_local (Some ty) = Some (record { reference = Local name; ty = ty })
+    of_local None = of_global (type_in scope.variables name)
+
+-- the value of a variable
+abbrev pub variable_node : KnownVariable → tree.TypedExpression
+variable_node v = tree.Variable v.reference v.ty
+
+-- a variable that a name stands for, as an expression
+abbrev pub elaborated_variable : TypeScope → Token → ElaboratedExpression
+elaborated_variable scope name = of_variable (known_variable scope (spelled_name name))
+  where
+    of_variable : Option KnownVariable → ElaboratedExpression
+    of_variable None = elaborated_nameless name.place
+    of_variable (Some v) = form_of_operands [] (variable_node v)
+
+-- a flag of a BY variable, which is a BIGINT
+abbrev pub flag_node : Global → tree.TypedExpression
+flag_node global = tree.Variable (At global) BigInt
+
+-- `first.v` and `last.v` of a BY variable
+abbrev pub elaborated_flag : TypeScope → Token → Token → ElaboratedExpression
+elaborated_flag scope object member =
+    if not (is_listed scope.bys (spelled_name member)) then elaborated_nameless object.place
+    else if is_word (codes "first") object then form_of_operands [] (flag_node (First (spelled_name member)))
+    else if is_word (codes "last") object then form_of_operands [] (flag_node (Last (spelled_name member)))
+    else elaborated_nameless object.place
+
+-- ---- calls of methods
+
+-- the methods of a unit that can be called: all but `init`, `run` and `term`
+abbrev pub callable_methods : List Method → List Method
+callable_methods methods = filter (λ (m : Method). not (is_system_name (spelled_name m.name))) methods
+
+-- the number of the first method of this name, from 0
+abbrev pub number_of_method : List Method → List ℕ → ℕ
+number_of_method methods name = unwrap_or (position (λ (m : Method). bytes_eq (spelled_name m.name) name) methods) 0
+
+-- arguments of a call: the rules that are broken in them, and what they become
+pub record ElaboratedArguments : Type 0 where
+  pub refusals : TypeRefusals
+  pub arguments : tree.TypedArguments
+
+-- no argument, and these broken rules
+abbrev pub no_arguments : TypeRefusals → ElaboratedArguments
+no_arguments refusals = record { refusals = refusals; arguments = tree.NoArgument }
+
+-- an argument by value, before the others: it is assigned to the parameter's type
+abbrev pub value_argument : Ty → ElaboratedArgument → ElaboratedArguments → ElaboratedArguments
+value_argument ty x rest =
+    record { refusals = assigned_refusals ty x.place x.value ++ rest.refusals; arguments = tree.ByValue (assigned_node ty x.value) rest.arguments }
+
+-- a variable may be set: it is no flag
+abbrev pub is_settable_reference : Reference → Bool
+is_settable_reference (At (Named name)) = true
+is_settable_reference (Local name) = true
+is_settable_reference _ = false
+
+-- the variable that an expression is, where it may be set
+abbrev pub reference_in : tree.TypedExpression → Option Reference
+reference_in (tree.Variable reference ty) = if is_settable_reference reference then Some reference else None
+reference_in _ = None
+
+-- a variable, or one that is never met
+abbrev pub reference_or_none : Option Reference → Reference
+reference_or_none None = Local []
+reference_or_none (Some reference) = reference
+
+-- an in_out argument, before the others: a variable of exactly the parameter's type, else TypeClash at it; what is no variable is
+-- refused by the rules of names
+abbrev pub in_out_argument : Ty → ElaboratedArgument → ElaboratedArguments → ElaboratedArguments
+in_out_argument ty x rest =
+    record {
+      refusals =
+          x.value.refusals
+          ++ clash_unless (is_some (reference_in x.value.node)) x.place
+          ++ where_known x.value.typing (λ own. clash_unless (is_one_type own ty) x.place)
+          ++ rest.refusals;
+      arguments = tree.InOut (reference_or_none (reference_in x.value.node)) rest.arguments;
+    }
+
+-- the arguments for the parameters of a method whose name stands at this place, in order; another number of them is refused by
+-- the rules of names
+abbrev pub arguments_for : Place → List Parameter → List ElaboratedArgument → ElaboratedArguments
+arguments_for name [] [] = no_arguments []
+arguments_for name [] (x ∷ xs) = no_arguments (type_refusal_at TypeClash name)
+arguments_for name (p ∷ ps) [] = no_arguments (type_refusal_at TypeClash name)
+arguments_for name (p ∷ ps) (x ∷ xs) =
+    if p.is_in_out then in_out_argument p.ty x (arguments_for name ps xs) else value_argument p.ty x (arguments_for name ps xs)
+
+-- a call of a method as an expression; one that returns nothing is TypeClash at its name
+abbrev pub elaborated_method_call : TypeScope → Token → Method → List ElaboratedArgument → ElaboratedExpression
+elaborated_method_call scope name method xs = of_type (returned_type method.returns)
+  where
+    arguments : ElaboratedArguments
+    arguments = arguments_for name.place (elaborated_parameters method) xs
+
+    node : Ty → tree.TypedExpression
+    node ty = tree.Called None (number_of_method scope.methods (spelled_name name)) arguments.arguments ty
+
+    of_type : Option Ty → ElaboratedExpression
+    of_type (Some ty) = form_of_type ty arguments.refusals (node ty)
+    of_type None = form_of_operands (arguments.refusals ++ clash_unless false name.place) (node BigInt)
+
+-- a call of a name: of the unit's method, else of a function
+abbrev pub elaborated_named_call : TypeScope → Token → List ElaboratedArgument → ElaboratedExpression
+elaborated_named_call scope name xs = of_method (method_named scope.methods (spelled_name name))
+  where
+    of_method : Option Method → ElaboratedExpression
+    of_method (Some method) = elaborated_method_call scope name method xs
+    of_method None = elaborated_function name xs
+
+-- a call
+abbrev pub elaborated_call : TypeScope → Callee → List ElaboratedArgument → ElaboratedExpression
+elaborated_call scope (callee.Function name) xs = elaborated_named_call scope name xs
+elaborated_call scope (callee.Null keyword) xs = elaborated_null_test keyword.place xs
+elaborated_call scope (callee.Method object dot method) xs = elaborated_nameless object.place
+
+-- ---- expressions
+
+-- what becomes of the further operands of a chain: the rules that are broken up to its end, and the links
+pub record ElaboratedLinks : Type 0 where
+  pub refusals : TypeRefusals
+  pub links : tree.Links
+
+-- a link in front of further ones
+abbrev pub with_link : ElaboratedLink → ElaboratedLinks → ElaboratedLinks
+with_link link rest = record { refusals = rest.refusals; links = tree.Link link.widens link.operation link.operand link.ty rest.links }
+
+-- a further operand of a chain breaks its own rules, and those of its operator beside what stands before it
+abbrev pub link_refusals : ChainKind → Token → Typing → ElaboratedExpression → TypeRefusals
+link_refusals kind operator left x =
+    x.refusals ++ null_clash left ++ null_clash x.typing ++ where_both_known left x.typing (operator_refusals kind operator)
+
+-- the operands of a chain of `and` or `or` are numbers, each by itself
+abbrev pub is_truth_chain : ChainKind → Bool
+is_truth_chain chain.And = true
+is_truth_chain chain.Or = true
+is_truth_chain _ = false
+
+-- a chain: that of `and` or `or` is a BIGINT always
+abbrev pub elaborated_chain : ChainKind → ElaboratedExpression → ElaboratedLinks → ElaboratedExpression
+elaborated_chain kind x rest =
+    if is_truth_chain kind then form_of_type BigInt rest.refusals (tree.Chain x.node rest.links)
+    else form_of_operands rest.refusals (tree.Chain x.node rest.links)
+
+module _ (scope : TypeScope) where
+  abbrev mutual
+    -- what becomes of an expression
+    pub elaborated : Expression → ElaboratedExpression
+    elaborated (Constant t) = form_of_operands [] (constant_node t)
+    elaborated (Null keyword) = elaborated_null keyword.place
+    elaborated (Variable name) = elaborated_variable scope name
+    elaborated (Member object dot member) = elaborated_flag scope object member
+    elaborated (Call f opening arguments closing) = elaborated_call scope f (elaborated_arguments arguments)
+    elaborated (Parenthesis opening inner closing) = elaborated inner
+    elaborated (Sign operator operand) = elaborated_sign operator (elaborated operand)
+    elaborated (Chain kind first rest) =
+        let x = elaborated first in
+        if is_truth_chain kind then elaborated_chain kind x (truth_links kind (truth_refusals (first_place first) x) rest)
+        else elaborated_chain kind x (value_links kind x.typing (expression_type x.node) x.refusals rest)
+    elaborated (Comparison left operator right) = elaborated_comparison operator (elaborated left) (elaborated right)
+    elaborated (Not operator operand) = elaborated_not (first_place operand) (elaborated operand)
+
+    -- the further operands of a chain of `and` or `or`, behind these broken rules
+    pub truth_links : ChainKind → TypeRefusals → Operands → ElaboratedLinks
+    truth_links kind before NoOperand = record { refusals = before; links = tree.NoLink }
+    truth_links kind before (Operand operator value rest) =
+        let x = elaborated value in
+        with_link (elaborated_link kind operator BigInt x.node) (truth_links kind (before ++ truth_refusals (first_place value) x) rest)
+
+    -- the further operands of another chain, behind what has this type and breaks these rules
+    pub value_links : ChainKind → Typing → Ty → TypeRefusals → Operands → ElaboratedLinks
+    value_links kind left ty before NoOperand = record { refusals = before; links = tree.NoLink }
+    value_links kind left ty before (Operand operator value rest) =
+        let x = elaborated value in
+        let broken = before ++ link_refusals kind operator left x in
+        let link = elaborated_link kind operator ty x.node in
+        with_link link (value_links kind (typing_behind broken link.ty) link.ty broken rest)
+
+    -- what becomes of arguments, in order
+    pub elaborated_arguments : Arguments → List ElaboratedArgument
+    elaborated_arguments NoArgument = []
+    elaborated_arguments (Argument comma value rest) = record { place = first_place value; value = elaborated value } ∷ elaborated_arguments rest

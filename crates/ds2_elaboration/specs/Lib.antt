@@ -1,0 +1,15 @@
+pub mod SourceTypes
+pub mod Typings
+pub mod OperatorTypes
+pub mod FunctionTypes
+pub mod ExpressionTypes
+pub mod StatementTypes
+pub mod ProgramTypes
+pub mod Elaboration
+pub mod Layout
+pub mod SourceWords
+pub mod OperatorExamples
+pub mod CallExamples
+pub mod SourceExamples
+pub mod ElaborationLaws
+pub mod TypedForms

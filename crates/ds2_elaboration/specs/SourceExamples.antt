@@ -1,0 +1,171 @@
+-- Small programs and sources: what they become, or where they are refused, and their layouts.
+use Rattle.std.specs.Prelude.{◌≡◌, ℕ, codes, false, true, bytes_eq, if◌then◌else◌, List, [], ◌∷◌, map, Option, Some, None, Result, Ok, Err}
+use Rattle.ds2_tree.specs.Globals.{GlobalItem, Listed}
+use Rattle.ds2_tree.specs.Statements.{Statement}
+use Rattle.ds2_tree.specs.Units.{DataProgram, AData}
+use Rattle.ds2_tree.specs.declared.readings.By.{By}
+use Rattle.ds2_tree.specs.declared.readings.Input.{Input}
+use Rattle.ds2_tree.specs.declared.readings.Reading.{Reading}
+use Rattle.ds2_tree.specs.declared.readings.Reading.TheVariants as read_as
+use Rattle.ds2_tree.specs.declared.units.OutputOption.{OutputOption}
+use Rattle.ds2_tree.specs.declared.units.OutputOption.TheVariants as option
+use Rattle.ds2_value.specs.Row.{Columns}
+use Rattle.ds2_value.specs.declared.ty.Ty.{Ty}
+use Rattle.ds2_value.specs.declared.ty.Ty.TheVariants.{BigInt, Decimal as DecimalOf, Char, Varchar}
+use Rattle.ds2_meaning.specs.declared.globals.OutputTable.{OutputTable}
+use Rattle.ds2_meaning.specs.declared.globals.Variable.{Variable}
+use Rattle.ds2_meaning.specs.declared.location.Global.TheVariants.{Named, First, Last, Present}
+use Rattle.ds2_meaning.specs.declared.readings.Reading as typed_reading
+use Rattle.ds2_meaning.specs.declared.readings.Reading.TheVariants as typed_as
+use Rattle.ds2_meaning.specs.declared.refusals.ScopeKind.TheVariants.{UnknownName}
+use Rattle.ds2_meaning.specs.declared.refusals.TypeKind.TheVariants.{TypeClash, NoReturn}
+use Rattle.ds2_meaning.specs.ExampleWords.{col, int, local, bigint, bigint_column, assign_at}
+use Rattle.ds2_meaning.specs.Method.{MethodTree}
+use Rattle.ds2_names.specs.NameExamples.{word_in}
+use Rattle.ds2_meaning.specs.ProgramTree.{UnitTree}
+use Rattle.ds2_names.specs.SourceUnit.{TableColumns}
+use Rattle.ds2_meaning.specs.TypedExpression.{Widen, Convert}
+use Rattle.ds2_meaning.specs.TypedStatement.{TypedStatements, Finish, Next, ReturnValue}
+use Rattle.ds2_elaboration.specs.declared.layout.Layout.{Layout}
+use Rattle.ds2_elaboration.specs.declared.layout.SlotRole.TheVariants.{Cleared, Kept, Column, Flag}
+use Rattle.ds2_names.specs.SourceLimits.{before_all}
+use Rattle.ds2_elaboration.specs.Elaboration.{ProgramRefusal, OfNames, OfTypes, elaborated_program, elaborated_source}
+use Rattle.ds2_elaboration.specs.Layout.{slot_for, layout_of}
+use Rattle.ds2_elaboration.specs.OperatorExamples.{no_columns_at_all, program_around, statements_of_run, refused_in}
+use Rattle.ds2_elaboration.specs.ProgramTypes.{typed_program}
+use Rattle.ds2_elaboration.specs.SourceWords.{name_at, integer_at, sets, if_at, returns_at, bigint_word, declares, returning, method_at, program_from}
+
+-- ---- programs that read tables
+
+-- the tables of the store: each has one column k, of a type of its own
+abbrev pub small_tables : TableColumns
+small_tables table =
+    if bytes_eq table (codes "whole") then bigint_column (codes "k") ∷ []
+    else if bytes_eq table (codes "fixed") then record { name = codes "k"; ty = DecimalOf 3 1 } ∷ []
+    else if bytes_eq table (codes "short") then record { name = codes "k"; ty = Char 2 } ∷ []
+    else if bytes_eq table (codes "long") then record { name = codes "k"; ty = Char 3 } ∷ []
+    else []
+
+-- a table of a reading statement
+abbrev pub read_at : ℕ → List ℕ → Input
+read_at column table = record { table = word_in column table; flag = None }
+
+-- set and these tables;
+abbrev pub set_of_tables : List Input → Option Reading
+set_of_tables inputs = Some (read_as.Set (word_in 100 (codes "set")) inputs (col 999) None)
+
+-- a program with these declarations that reads these tables and does nothing
+abbrev pub reading_program : List GlobalItem → List Input → DataProgram
+reading_program globals inputs = program_from (method_at 80 (codes "run") [] None (set_of_tables inputs) [] ∷ globals)
+
+-- the columns of the reading statement of a program that is not refused
+abbrev pub columns_of : Result UnitTree ProgramRefusal → Result (List Variable) ProgramRefusal
+columns_of (Ok p) = Ok p.columns
+columns_of (Err refusal) = Err refusal
+
+-- what the columns of two tables become beside declared variables
+abbrev pub columns_over : List GlobalItem → List ℕ → List ℕ → Result (List Variable) ProgramRefusal
+columns_over globals first second = columns_of (elaborated_program small_tables (before_all []) (reading_program globals (read_at 104 first ∷ read_at 112 second ∷ [])))
+
+-- a TypeClash in this column
+abbrev pub clash_in : ℕ → Result (List Variable) ProgramRefusal
+clash_in column = Err (OfTypes (record { kind = TypeClash; place = col column }))
+
+-- ---- methods and outputs
+
+-- method h() returns bigint; and this statement, end; beside i
+abbrev pub program_with_method : Statement → DataProgram
+program_with_method statement =
+    program_from (declares 10 bigint_word (codes "i") ∷ method_at 60 (codes "h") [] (returning bigint_word) None (statement ∷ []) ∷ [])
+
+-- the statements of the methods of a program
+abbrev pub bodies_of : UnitTree → List TypedStatements
+bodies_of p = map (λ (m : MethodTree). m.body) p.methods
+
+-- data out(rename=(k=z)) none(drop=(k)); with the declared variables i and k
+abbrev pub program_with_options : DataProgram
+program_with_options = record {
+  keyword = word_in 1 (codes "data");
+  outputs =
+      record { table = word_in 6 (codes "out"); options = Some (record { opening = col 9; list = option.Rename (word_in 10 (codes "rename")) (col 16) (col 17) (record { old = word_in 18 (codes "k"); equals = col 19; new = word_in 20 (codes "z") } ∷ []) (col 21) ∷ []; closing = col 22 }) }
+      ∷ record { table = word_in 24 (codes "rest"); options = Some (record { opening = col 28; list = option.Listed (word_in 29 (codes "drop")) (col 33) (col 34) (word_in 35 (codes "k") ∷ []) (col 36) ∷ option.Overwrite (word_in 37 (codes "overwrite")) (col 46) (word_in 47 (codes "yes")) ∷ []; closing = col 50 }) }
+      ∷ [];
+  semicolon = col 51;
+  globals = declares 60 bigint_word (codes "i") ∷ declares 70 bigint_word (codes "k") ∷ [];
+  end_keyword = word_in 999 (codes "enddata");
+  end = col 999;
+}
+
+-- what becomes of methods, columns and outputs
+pub record ProgramTypeExamples : Type 0 where
+  -- if i then return 1; : does not surely return
+  pub no_return : statements_of_run (elaborated_program no_columns_at_all (before_all []) (program_with_method (if_at 75 (name_at 78 (codes "i"))))) ≡ refused_in NoReturn 67
+  -- return 1;
+  pub surely_returned : statements_of_run (elaborated_program no_columns_at_all (before_all []) (program_with_method (returns_at 75 (integer_at 82 (codes "1"))))) ≡ Ok Finish
+  -- return a; of a BIGINT from a method that returns decimal(5,2)
+  pub returned_value_converted : bodies_of (typed_program no_columns_at_all (program_around []))
+      ≡ Next (ReturnValue (col 40) (Convert (Widen (local (codes "a"))) (DecimalOf 5 2))) Finish ∷ Finish ∷ []
+  -- set short long; : the columns join
+  pub columns_joined : columns_over [] (codes "short") (codes "long") ≡ Ok (record { name = codes "k"; ty = Char 3 } ∷ [])
+  -- set whole fixed; : a BIGINT counts as 19 digits
+  pub numbers_joined : columns_over [] (codes "whole") (codes "fixed") ≡ Ok (record { name = codes "k"; ty = DecimalOf 20 1 } ∷ [])
+  -- set whole short; : at the second table
+  pub columns_clash : columns_over [] (codes "whole") (codes "short") ≡ clash_in 112
+  -- dcl bigint k; set whole fixed; : the declared variable isn't what the join gives
+  pub declared_clashes : columns_over (declares 10 bigint_word (codes "k") ∷ []) (codes "whole") (codes "fixed") ≡ clash_in 112
+  -- dcl bigint k; set fixed whole; : at the first table
+  pub declared_clashes_first : columns_over (declares 10 bigint_word (codes "k") ∷ []) (codes "fixed") (codes "whole") ≡ clash_in 104
+  -- out has z in place of k, rest has i alone and may be written over
+  pub outputs_made : (typed_program no_columns_at_all program_with_options).outputs
+      ≡ record { name = codes "out"; overwrites = false; columns = record { name = codes "i"; source = codes "i"; ty = BigInt } ∷ record { name = codes "z"; source = codes "k"; ty = BigInt } ∷ [] }
+      ∷ record { name = codes "rest"; overwrites = true; columns = record { name = codes "i"; source = codes "i"; ty = BigInt } ∷ [] } ∷ []
+  -- no `run`: no load; `run` without a reading statement: one
+  pub no_load : (typed_program no_columns_at_all program_with_options).reading ≡ typed_as.Nothing
+  pub one_load : (typed_program no_columns_at_all (program_around [])).reading ≡ typed_as.Once
+
+-- ---- sources
+
+-- for each program of a source that is not refused its columns
+abbrev pub columns_of_each : Result (List UnitTree) ProgramRefusal → Result (List (List Variable)) ProgramRefusal
+columns_of_each (Ok programs) = Ok (map (λ (p : UnitTree). p.columns) programs)
+columns_of_each (Err refusal) = Err refusal
+
+-- data out; dcl bigint i; method run(); i = 1; end; and a second program that is made of these globals
+abbrev pub two_programs : List GlobalItem → List GlobalItem → Result (List (List Variable)) ProgramRefusal
+two_programs first second = columns_of_each (elaborated_source small_tables (AData (program_from first) ∷ AData (program_from second) ∷ []))
+
+-- method run(); target = i; end; beside i
+abbrev pub setting_program : List ℕ → List GlobalItem
+setting_program target = declares 10 bigint_word (codes "i") ∷ method_at 80 (codes "run") [] None None (sets 100 target (name_at 104 (codes "i")) ∷ []) ∷ []
+
+-- what becomes of sources of two programs
+pub record TwoProgramExamples : Type 0 where
+  -- the second program reads what the first one makes
+  pub later_program_reads : two_programs (setting_program (codes "i")) (method_at 80 (codes "run") [] None (set_of_tables (read_at 104 (codes "out") ∷ [])) [] ∷ [])
+      ≡ Ok ([] ∷ (bigint (codes "i") ∷ []) ∷ [])
+  -- the first program's refusal is given, and the second's is not
+  pub first_program_refused : two_programs (setting_program (codes "q")) (setting_program (codes "r")) ≡ Err (OfNames (record { kind = UnknownName; place = col 100 }))
+  -- the second program's names are looked at behind the first program's types
+  pub second_program_refused : two_programs (setting_program (codes "i")) (setting_program (codes "q")) ≡ Err (OfNames (record { kind = UnknownName; place = col 100 }))
+
+-- ---- layouts
+
+-- dcl bigint i j; retain i; method run(); set whole (in=p); by k; end;
+abbrev pub flagged_program : DataProgram
+flagged_program = program_from (
+    declares 10 bigint_word (codes "i") ∷ declares 12 bigint_word (codes "j") ∷ Listed (word_in 20 (codes "retain")) (word_in 27 (codes "i") ∷ []) (col 28)
+    ∷ method_at 80 (codes "run") [] None (Some (read_as.Set (word_in 100 (codes "set"))
+    (record { table = word_in 104 (codes "whole"); flag = Some (record { opening = col 110; keyword = word_in 111 (codes "in"); equals = col 113; name = word_in 114 (codes "p"); closing = col 115 }) } ∷ []) (col 116)
+    (Some (record { keyword = word_in 118 (codes "by"); variables = record { descending = None; name = word_in 121 (codes "k") } ∷ []; end = col 122 })))) [] ∷ [])
+
+-- the slots of small programs
+pub record LayoutExamples : Type 0 where
+  -- i is kept, j is set to null, k is a column; then the flags p, first.k and last.k; the output has i, j and k
+  pub slots_in_order : layout_of (typed_program small_tables flagged_program) ≡ record {
+    slots =
+        slot_for None (Named (codes "i")) BigInt Kept ∷ slot_for None (Named (codes "j")) BigInt Cleared ∷ slot_for None (Named (codes "k")) BigInt Column
+        ∷ slot_for None (Present (codes "p")) BigInt Flag ∷ slot_for None (First (codes "k")) BigInt Flag ∷ slot_for None (Last (codes "k")) BigInt Flag ∷ [];
+    projections = (0 ∷ 1 ∷ 2 ∷ []) ∷ [];
+  }
+  -- a renamed output has the slot of the old name
+  pub renamed_output : (layout_of (typed_program no_columns_at_all program_with_options)).projections ≡ (0 ∷ 1 ∷ []) ∷ (0 ∷ []) ∷ []

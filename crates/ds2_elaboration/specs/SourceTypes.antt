@@ -1,0 +1,148 @@
+-- The types of what the source of a data program names: declared variables, columns joined over the tables, parameters and locals.
+use Rattle.std.specs.Prelude.{ℕ, Bool, true, false, ◌&&◌, ◌==◌, bytes_eq, codes, if◌then◌else◌, List, [], ◌∷◌, ◌++◌, map, filter, not, is_some, Option, Some, None}
+use Rattle.ds2_base.specs.declared.place.Place.{Place}
+use Rattle.ds2_token.specs.Words.{is_word}
+use Rattle.ds2_token.specs.declared.token.Token.{Token}
+use Rattle.ds2_tree.specs.Globals.{Method}
+use Rattle.ds2_tree.specs.Units.{DataProgram}
+use Rattle.ds2_tree.specs.declared.globals.Parameter as source_parameter
+use Rattle.ds2_tree.specs.declared.globals.Returns.{Returns}
+use Rattle.ds2_tree.specs.declared.globals.Scale.{Scale}
+use Rattle.ds2_tree.specs.declared.globals.TypeName.{TypeName}
+use Rattle.ds2_tree.specs.declared.globals.TypeName.TheVariants as type_name
+use Rattle.ds2_tree.specs.declared.globals.VariableDeclaration.{VariableDeclaration}
+use Rattle.ds2_tree.specs.declared.readings.Input as source_input
+use Rattle.ds2_value.specs.Row.{Columns}
+use Rattle.ds2_value.specs.Types.{join_of}
+use Rattle.ds2_value.specs.declared.ty.Ty.{Ty}
+use Rattle.ds2_value.specs.declared.ty.Ty.TheVariants.{BigInt, Decimal as DecimalOf, Char, Varchar}
+use Rattle.ds2_meaning.specs.declared.globals.Variable as typed
+use Rattle.ds2_meaning.specs.declared.methods.Parameter as typed_parameter
+use Rattle.ds2_meaning.specs.IsTyped.{type_in, with_parameters_of}
+use Rattle.ds2_names.specs.NameRules.{from_each, spelled_number}
+use Rattle.ds2_names.specs.SourceUnit.{TableColumns, spelled_name, PlacedName, variable_declarations, source_methods, reading_of_run, tables_of_reading, names_of_source}
+
+-- ---- spelled types
+
+-- the scale that a type gives; 0 where it is left out
+abbrev pub scale_or_zero : Option Scale → ℕ
+scale_or_zero None = 0
+scale_or_zero (Some scale) = spelled_number scale.number
+
+-- the type that a type name spells
+abbrev pub spelled_type : TypeName → Ty
+spelled_type (type_name.BigInt keyword) = BigInt
+spelled_type (type_name.Decimal keyword opening precision scale closing) = DecimalOf (spelled_number precision) (scale_or_zero scale)
+spelled_type (type_name.Text keyword opening width closing) =
+    if is_word (codes "char") keyword then Char (spelled_number width) else Varchar (spelled_number width)
+
+-- the variables of declarations, with their types
+abbrev pub declared_variables : List VariableDeclaration → List typed.Variable
+declared_variables declarations =
+    from_each (λ (v : VariableDeclaration). map (λ (t : Token). record { name = spelled_name t; ty = spelled_type v.ty }) v.names) declarations
+
+-- a parameter of a method, with its type
+abbrev pub elaborated_parameter : source_parameter.Parameter → typed_parameter.Parameter
+elaborated_parameter p = record { name = spelled_name p.name; ty = spelled_type p.ty; is_in_out = is_some p.in_out }
+
+-- the parameters of a method, with their types
+abbrev pub elaborated_parameters : Method → List typed_parameter.Parameter
+elaborated_parameters m = map elaborated_parameter m.parameters.list
+
+-- the parameters and locals of a method, with their types
+abbrev pub variables_in_method : Method → List typed.Variable
+variables_in_method m = with_parameters_of (elaborated_parameters m) (declared_variables m.locals)
+
+-- the type that a method returns, where it returns a value
+abbrev pub returned_type : Option Returns → Option Ty
+returned_type None = None
+returned_type (Some returns) = Some (spelled_type returns.ty)
+
+-- ---- columns
+
+-- two types are the same one
+abbrev pub is_one_type : Ty → Ty → Bool
+is_one_type BigInt BigInt = true
+is_one_type (DecimalOf p s) (DecimalOf q t) = (p == q) && (s == t)
+is_one_type (Char n) (Char m) = n == m
+is_one_type (Varchar n) (Varchar m) = n == m
+is_one_type _ _ = false
+
+-- the type of a column of this name
+abbrev pub type_of_column : List ℕ → Columns → Option Ty
+type_of_column name [] = None
+type_of_column name (c ∷ columns) = if bytes_eq c.name name then Some c.ty else type_of_column name columns
+
+-- what is known of the type of a column over the first tables of a statement: none of them has it, its type, or that a rule is
+-- broken
+pub data ColumnTyping : Type 0 where
+  Absent : ColumnTyping
+  Joined : Ty → ColumnTyping
+  Clashed : ColumnTyping
+
+-- a declared variable of a column's name has the type that it and the column join to; where none is declared any type will do
+abbrev pub agrees_with_declared : Option Ty → Ty → Bool
+agrees_with_declared None ty = true
+agrees_with_declared (Some declared) ty = is_join (join_of declared ty)
+  where
+    is_join : Option Ty → Bool
+    is_join None = false
+    is_join (Some joined) = is_one_type joined declared
+
+-- the type that the tables join to up to here, where the declared variable agrees with it
+abbrev pub agreed : Option Ty → Option Ty → ColumnTyping
+agreed declared None = Clashed
+agreed declared (Some ty) = if agrees_with_declared declared ty then Joined ty else Clashed
+
+-- what is known of the type of a column with one table more
+abbrev pub with_table : Option Ty → ColumnTyping → Option Ty → ColumnTyping
+with_table declared typing None = typing
+with_table declared Absent (Some ty) = agreed declared (Some ty)
+with_table declared (Joined so_far) (Some ty) = agreed declared (join_of so_far ty)
+with_table declared Clashed (Some ty) = Clashed
+
+-- the type of a column over these further tables, joined from the left
+abbrev pub joined_over : TableColumns → Option Ty → List ℕ → ColumnTyping → List source_input.Input → ColumnTyping
+joined_over tables declared name typing [] = typing
+joined_over tables declared name typing (i ∷ inputs) =
+    joined_over tables declared name (with_table declared typing (type_of_column name (tables (spelled_name i.table)))) inputs
+
+-- the place of the table at which this one step breaks a rule: none where it was broken before
+abbrev pub clash_at_table : Place → ColumnTyping → ColumnTyping → List Place
+clash_at_table place Clashed behind = []
+clash_at_table place before Clashed = place ∷ []
+clash_at_table place before behind = []
+
+-- the first of these further tables at which the join of a column, or the join with its declared variable, fails
+abbrev pub clashing_table : TableColumns → Option Ty → List ℕ → ColumnTyping → List source_input.Input → List Place
+clashing_table tables declared name typing [] = []
+clashing_table tables declared name typing (i ∷ inputs) =
+    let behind = with_table declared typing (type_of_column name (tables (spelled_name i.table))) in
+    clash_at_table i.table.place typing behind ++ clashing_table tables declared name behind inputs
+
+-- the type of a column whose tables join; BIGINT stands for what has none, which is refused
+abbrev pub joined_type : ColumnTyping → Ty
+joined_type (Joined ty) = ty
+joined_type _ = BigInt
+
+-- ---- the program data vector
+
+-- the declared variables of a program
+abbrev pub program_variables : DataProgram → List typed.Variable
+program_variables u = declared_variables (variable_declarations u.globals)
+
+-- the tables of the reading statement of `run`
+abbrev pub program_inputs : DataProgram → List source_input.Input
+program_inputs u = tables_of_reading (reading_of_run (source_methods u.globals))
+
+-- the columns of the reading statement that are not declared, with the types that their tables join to
+abbrev pub column_variables : TableColumns → DataProgram → List typed.Variable
+column_variables tables u =
+    map (λ (n : PlacedName). record { name = n.name; ty = joined_type (joined_over tables None n.name Absent (program_inputs u)) }) (names_of_source tables u).columns
+
+-- TypeClash of columns: for each column of the statement the first table at which its types do not fit
+abbrev pub clashing_tables : TableColumns → DataProgram → List Place
+clashing_tables tables u =
+    let of_name = λ (name : List ℕ). clashing_table tables (type_in (program_variables u) name) name Absent (program_inputs u) in
+    from_each (λ (v : typed.Variable). of_name v.name) (program_variables u)
+    ++ from_each (λ (n : PlacedName). of_name n.name) (names_of_source tables u).columns

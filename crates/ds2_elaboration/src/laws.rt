@@ -1,0 +1,71 @@
+//! Laws of the elaboration, over the definitions alone.
+ghost use Rattle.ds2_elaboration.specs.ElaborationLaws.{FirstRefusals, OneOutcome, ReturningIsKept};
+ghost use Rattle.ds2_elaboration.specs.TypedForms.{EveryFormIsTyped};
+ghost use Rattle.ds2_elaboration.specs.OperatorExamples.{OperatorExamples, TruthTypeExamples, AssignmentExamples};
+ghost use Rattle.ds2_elaboration.specs.CallExamples.{FunctionExamples, MethodCallExamples, ChoiceTypeExamples};
+ghost use Rattle.ds2_elaboration.specs.SourceExamples.{ProgramTypeExamples, TwoProgramExamples, LayoutExamples};
+
+/// Operators between operands, in small statements.
+pub fn operator_examples()
+    ensures { OperatorExamples }
+{}
+
+/// Conditions and comparisons, in small statements.
+pub fn truth_type_examples()
+    ensures { TruthTypeExamples }
+{}
+
+/// Assignments and constants, in small statements.
+pub fn assignment_examples()
+    ensures { AssignmentExamples }
+{}
+
+/// Functions, in small statements.
+pub fn function_examples()
+    ensures { FunctionExamples }
+{}
+
+/// Calls of methods, in small statements.
+pub fn method_call_examples()
+    ensures { MethodCallExamples }
+{}
+
+/// Choices and loops, in small statements.
+pub fn choice_type_examples()
+    ensures { ChoiceTypeExamples }
+{}
+
+/// Methods, columns and outputs, in small programs.
+pub fn program_type_examples()
+    ensures { ProgramTypeExamples }
+{}
+
+/// Sources of several programs.
+pub fn two_program_examples()
+    ensures { TwoProgramExamples }
+{}
+
+/// Layouts of small programs.
+pub fn layout_examples()
+    ensures { LayoutExamples }
+{}
+
+/// Assigned values, operators and functions of numbers and texts become typed expressions where they break no rule.
+pub fn every_form_is_typed()
+    ensures { EveryFormIsTyped }
+{}
+
+/// Of the broken rules of a program the one with the least place is given, and at one place the first kind.
+pub fn first_refusals()
+    ensures { FirstRefusals }
+{}
+
+/// A program becomes its typed program, is refused for its names, or for its types, and each exactly where the rules say so.
+pub fn one_outcome()
+    ensures { OneOutcome }
+{}
+
+/// Statements that surely return become statements that surely return.
+pub fn returning_is_kept()
+    ensures { ReturningIsKept }
+{}
