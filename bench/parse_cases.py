@@ -127,7 +127,9 @@ def is_refused(match, following):
         return following == "." or int(spelling) >= 2**63
     if kind == "mark":
         return spelling + following == "/*"
-    return (kind == "word" and len(spelling) > 64) or spelling == '""'
+    if kind == "quoted":
+        return not 1 <= len(spelling) - 2 <= 64 or spelling[1] in " \t\r\n" or re.search(r"[\t\r\n]| \"$", spelling) is not None
+    return kind == "word" and len(spelling) > 64
 
 
 def tokens(text):

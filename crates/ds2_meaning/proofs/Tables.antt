@@ -6,9 +6,9 @@ use Rattle.ds2_value.specs.declared.value.Value.{Value}
 use Rattle.ds2_meaning.specs.declared.hashes.DeclaredHash.{DeclaredHash}
 use Rattle.ds2_meaning.specs.declared.hashes.LoadedTable.{LoadedTable}
 use Rattle.ds2_meaning.specs.declared.readings.Input.{Input}
-use Rattle.ds2_meaning.specs.HashObjects.{DeclaredObjects, object_at}
+use Rattle.ds2_meaning.specs.HashObjects.{object_at}
 use Rattle.ds2_meaning.specs.Location.{Home, Storage, Items, with_content}
-use Rattle.ds2_meaning.specs.ProgramMeaning.{program_units, program_over_loads, nothing_kept, with_rows_as_items, first_items, with_hashes_opened, with_iterators_opened, with_objects_opened, with_instances_opened, with_parameters, opening_of, parameters_given, tables_made, tables_left_at}
+use Rattle.ds2_meaning.specs.ProgramMeaning.{program_units, program_over_loads, nothing_kept, with_rows_as_items, first_items, with_hashes_opened, with_iterators_opened, with_instances_opened, with_parameters, opening_of, parameters_given, tables_made, tables_left_at}
 use Rattle.ds2_meaning.specs.ProgramTree.{InstanceTree, UnitTree, ProgramTree, OverTables, OverStage, reader_of, data_vector}
 use Rattle.ds2_meaning.specs.Reading.{TableRows, inputs_of, input_tables, keyed_loads, settings_of, row_settings, stage_instance, stage_columns}
 use Rattle.ds2_meaning.specs.TableLaws.{tables_read, tables_loaded, tables_loaded_by, tables_at_opening, tables_mentioned, AgreeUnder, TablesMentionedDecide, FaultLeavesNoTable}

@@ -37,4 +37,22 @@ typed_examples = record {
   leave_wants_a_loop = λ h. cc (h.0.run.1.0);
   constructors_stand_in_init = λ h. absurd (h.0.run.1.0);
   names_are_known = λ h. cc (h.0.run.1.0.1);
+  hash_is_typed = (
+    record {
+      variables = ((refl, (refl, tt)), refl);
+      parameters = (tt, refl);
+      names = refl;
+      instances = tt;
+      objects = ((((refl, refl, tt), (refl, refl, tt), (tt, tt), tt), tt), (refl, tt));
+      reading = tt;
+      outputs = (omega arith, (refl, (refl, tt)), tt);
+      methods = tt;
+      init = ((tt, refl), tt);
+      run = ((tt, refl), (refl, tt));
+      term = ((tt, refl), tt);
+    },
+    tt,
+  );
+  hashes_are_known = λ h. cc (h.0.run.1.0);
+  parameters_are_set_in_init = λ h. absurd (h.0.run.1.0);
 }

@@ -17,7 +17,10 @@ pub mod ExpressionExamples
 pub mod StatementExamples
 pub mod ProgramExamples
 pub mod FurtherExamples
+pub mod HashExamples
+pub mod EdgeExamples
 pub mod BudgetLaws
 pub mod TableLaws
 pub mod IsTyped
+pub mod StorageLaws
 pub mod TypedExamples

@@ -1,10 +1,13 @@
 //! Laws of the meaning, over the definitions alone.
 ghost use Rattle.ds2_meaning.specs.BudgetLaws.{NoStatementRaisesTheBudget, LoopsAreTheirTurns};
+ghost use Rattle.ds2_meaning.specs.EdgeExamples.{EdgeExamples, TextLimitExamples};
 ghost use Rattle.ds2_meaning.specs.ExpressionExamples.{IntegerExamples, DecimalExamples, TruthExamples, TextExamples};
 ghost use Rattle.ds2_meaning.specs.FurtherExamples.{NullExamples, ConversionExamples, RoundExamples, CallExamples, ReadingExamples, FaultExamples};
+ghost use Rattle.ds2_meaning.specs.HashExamples.{HashExamples, InstanceExamples, IteratorExamples};
 ghost use Rattle.ds2_meaning.specs.ProgramExamples.{UnitExamples, LoadExamples, StageExamples};
 ghost use Rattle.ds2_meaning.specs.StatementExamples.{ChoiceExamples, LoopExamples, OutputExamples, MethodExamples};
 ghost use Rattle.ds2_meaning.specs.TypedExamples.{TypedExamples};
+ghost use Rattle.ds2_meaning.specs.StorageLaws.{OpeningFits};
 ghost use Rattle.ds2_meaning.specs.TableLaws.{TablesMentionedDecide, FaultLeavesNoTable};
 
 /// No statement raises the budget, whatever methods it calls.
@@ -26,6 +29,14 @@ pub fn tables_mentioned_decide()
 pub fn fault_leaves_no_table()
     ensures { FaultLeavesNoTable }
 {}
+
+/// What a typed program keeps before its first unit fits, over tables whose rows fit and with values that fit its parameters.
+pub fn opening_fits()
+    ensures { OpeningFits }
+{
+    ds2_value::laws::fitting_is_held();
+    ds2_value::laws::assigned_fits();
+}
 
 /// Operators on BIGINT values, in small programs.
 pub fn integer_examples()
@@ -115,4 +126,29 @@ pub fn fault_examples()
 /// A program that is typed, and programs that are not.
 pub fn typed_examples()
     ensures { TypedExamples }
+{}
+
+/// Calls of hash objects, in small programs.
+pub fn hash_examples()
+    ensures { HashExamples }
+{}
+
+/// Calls of iterators, in small programs.
+pub fn iterator_examples()
+    ensures { IteratorExamples }
+{}
+
+/// Instances with hash objects of their own, and parameters of thread programs, in small programs.
+pub fn instance_examples()
+    ensures { InstanceExamples }
+{}
+
+/// Null on the right, ways out of loops, merges over several keys and columns in wider variables, in small programs.
+pub fn edge_examples()
+    ensures { EdgeExamples }
+{}
+
+/// Texts of more than 1,024 characters, in small programs.
+pub fn text_limit_examples()
+    ensures { TextLimitExamples }
 {}

@@ -1,1 +1,2 @@
 pub mod NameExamples
+pub mod InstanceExamples

@@ -5,3 +5,4 @@ pub mod NameRules
 pub mod UnitRules
 pub mod SourceLimits
 pub mod NameExamples
+pub mod InstanceExamples

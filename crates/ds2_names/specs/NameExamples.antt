@@ -1,9 +1,9 @@
 -- Small sources and the refusals of their names.
-use Rattle.std.specs.Prelude.{◌≡◌, ℕ, codes, List, [], ◌∷◌, Option, Some, None}
+use Rattle.std.specs.Prelude.{◌≡◌, ℕ, codes, List, [], ◌∷◌, Some, None}
 use Rattle.ds2_token.specs.declared.kinds.TokenKind.TheVariants.{Word, Mark}
 use Rattle.ds2_token.specs.declared.token.Token.{Token}
-use Rattle.ds2_tree.specs.Expressions.{Expression, Variable, Chain, NoOperand, Operand}
-use Rattle.ds2_tree.specs.Globals.{Method, Declared, Defined}
+use Rattle.ds2_tree.specs.Expressions.{Variable, Chain, NoOperand, Operand}
+use Rattle.ds2_tree.specs.Globals.{Declared, Defined}
 use Rattle.ds2_tree.specs.Statements.{Statement, Assignment, Leave, NoStatement, Then}
 use Rattle.ds2_tree.specs.Units.{DataProgram}
 use Rattle.ds2_tree.specs.declared.expressions.ChainKind.TheVariants.{Sum}

@@ -1,28 +1,16 @@
 -- The rules of names of a unit of a source: for each rule on what a name means the places at which it is broken.
-use Rattle.std.specs.Prelude.{ℕ, zero, suc, ◌+◌, ◌-◌, ◌*◌, Bool, true, false, not, ◌&&◌, ◌||◌, nat_le, nat_lt, nat_eq, bytes_eq, codes, if◌then◌else◌, List, [], ◌∷◌, ◌++◌, length, map, filter, fold, is_some, is_none, unwrap_or, Option, Some, None}
+use Rattle.std.specs.Prelude.{ℕ, zero, suc, ◌+◌, ◌-◌, ◌*◌, Bool, true, false, not, ◌&&◌, ◌||◌, nat_le, nat_eq, bytes_eq, codes, if◌then◌else◌, List, [], ◌∷◌, ◌++◌, length, map, filter, fold, is_some, unwrap_or, Option, Some, None}
 use Rattle.std.specs.List.{list_all, list_any}
 use Rattle.std.specs.Option.{option_map_or}
 use Rattle.ds2_base.specs.declared.place.Place.{Place}
-use Rattle.ds2_base.specs.declared.place.Refusal.{Refusal}
 use Rattle.ds2_token.specs.Words.{is_word}
 use Rattle.ds2_token.specs.declared.token.Token.{Token}
-use Rattle.ds2_tree.specs.Expressions.{Expression, Variable, Arguments, NoArgument, Argument}
+use Rattle.ds2_tree.specs.Expressions.{Variable, Arguments, NoArgument, Argument}
 use Rattle.ds2_tree.specs.Globals.{Method, GlobalItem, Listed}
-use Rattle.ds2_tree.specs.Statements as s
-use Rattle.ds2_tree.specs.Units.{DataProgram}
 use Rattle.ds2_tree.specs.declared.expressions.Callee.{Callee}
 use Rattle.ds2_tree.specs.declared.expressions.Callee.TheVariants as callee
 use Rattle.ds2_tree.specs.declared.globals.Constant.{Constant}
-use Rattle.ds2_tree.specs.declared.globals.Parameter as source_parameter
-use Rattle.ds2_tree.specs.declared.globals.Returns.{Returns}
-use Rattle.ds2_tree.specs.declared.globals.Scale.{Scale}
-use Rattle.ds2_tree.specs.declared.globals.TypeName.{TypeName}
-use Rattle.ds2_tree.specs.declared.globals.TypeName.TheVariants as type_name
-use Rattle.ds2_tree.specs.declared.globals.VariableDeclaration.{VariableDeclaration}
 use Rattle.ds2_tree.specs.declared.readings.Input as source_input
-use Rattle.ds2_tree.specs.declared.readings.Reading as source_reading
-use Rattle.ds2_tree.specs.declared.readings.Reading.TheVariants as reading
-use Rattle.ds2_tree.specs.declared.readings.Threads.{Threads}
 use Rattle.ds2_tree.specs.declared.units.OutputOption.{OutputOption}
 use Rattle.ds2_tree.specs.declared.units.OutputOption.TheVariants as option
 use Rattle.ds2_tree.specs.declared.units.OutputOptions.{OutputOptions}
@@ -31,11 +19,8 @@ use Rattle.ds2_tree.specs.declared.units.Renaming.{Renaming}
 use Rattle.ds2_value.specs.Row.{Columns}
 use Rattle.ds2_value.specs.Schema.{has_column}
 use Rattle.ds2_meaning.specs.ProgramTree.{is_listed}
-use Rattle.ds2_names.specs.Refusals.{scope_rank, least_refusal, broken_at}
-use Rattle.ds2_names.specs.SourceUnit.{TableColumns, spelled_name, spelled_text, PlacedName, placed_name, names_alone, is_earlier, variable_declarations, listed_tokens, is_system_name, local_names, UnitKind, OfPackage, OfThread, OfData, UnitSource, is_package, is_thread, InstanceOf, AnyPackage, HashObject, HashIterator, AnyThread, SourceInstance, instance_named, KnownPackage, KnownThread, KnownUnit, package_named, thread_named, known_names, tables_of_reading, stage_token, stage_read, SourceNames, names_of_source, vector_names, plain_globals, instance_names, all_globals, is_named}
+use Rattle.ds2_names.specs.SourceUnit.{TableColumns, spelled_name, spelled_text, PlacedName, placed_name, names_alone, is_earlier, listed_tokens, is_system_name, local_names, UnitSource, is_package, InstanceOf, AnyPackage, HashObject, HashIterator, AnyThread, SourceInstance, instance_named, KnownPackage, KnownThread, KnownUnit, package_named, thread_named, known_names, tables_of_reading, stage_token, SourceNames, vector_names, plain_globals, instance_names, all_globals, is_named}
 use Rattle.ds2_names.specs.Uses.{NameUse, Values, Members, HandsOver, CallsOn, Sets, WritesTo, first_place, method_named, in_out_of, statements_uses}
-use Rattle.ds2_meaning.specs.declared.refusals.ScopeKind.{ScopeKind}
-use Rattle.ds2_meaning.specs.declared.refusals.ScopeKind.TheVariants as kind
 
 -- ---- words
 
@@ -468,11 +453,15 @@ handed_constants (true ∷ in_out) (c ∷ constants) = constant_place c ∷ hand
 handed_constants (false ∷ in_out) (c ∷ constants) = handed_constants in_out constants
 handed_constants _ _ = []
 
+-- a name is that of an instance, and of no other global
+abbrev pub is_only_instance : SourceNames → List ℕ → Bool
+is_only_instance names name = is_named (instance_names names) name && not (is_named (plain_globals names) name)
+
 -- what is no variable in the declaration of an instance: a key variable of a hash object that is an instance, a data variable that
 -- may not be set, and a constant for an in_out parameter of a constructor
 abbrev pub not_variable_in_instance : SourceNames → InstanceOf → List Place
 not_variable_in_instance names (HashObject keys items table) =
-    from_each (λ (t : Token). place_unless (not (is_named (instance_names names) (spelled_name t))) t.place) keys
+    from_each (λ (t : Token). place_unless (not (is_only_instance names (spelled_name t))) t.place) keys
     ++ from_each (λ (t : Token). place_unless (is_settable_global names (spelled_name t)) t.place) items
 not_variable_in_instance names (AnyPackage package' arguments) =
     option_map_or (λ (p : KnownPackage). handed_constants (constructor_parameters p) arguments) (package_named names.known (spelled_name package')) []

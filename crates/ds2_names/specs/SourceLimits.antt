@@ -12,7 +12,7 @@ use Rattle.ds2_tree.specs.declared.units.OutputTable as source_output
 use Rattle.ds2_names.specs.NameRules.{from_each, place_unless, columns_left}
 use Rattle.ds2_meaning.specs.ProgramTree.{is_listed}
 use Rattle.ds2_names.specs.Refusals.{scope_rank, least_refusal, broken_at}
-use Rattle.ds2_names.specs.SourceUnit.{TableColumns, spelled_name, spelled_text, PlacedName, placed_name, names_alone, source_methods, UnitKind, OfPackage, OfThread, OfData, UnitSource, unit_of_package, unit_of_thread, unit_of_data, InstanceOf, AnyPackage, AnyThread, SourceInstance, source_instances, sized_table, KnownPackage, KnownThread, KnownUnit, Packaged, Threaded, package_named, thread_named, tables_of_reading, SourceNames, names_of_unit}
+use Rattle.ds2_names.specs.SourceUnit.{TableColumns, spelled_name, spelled_text, PlacedName, placed_name, names_alone, source_methods, UnitKind, OfPackage, OfThread, OfData, UnitSource, unit_of_package, unit_of_thread, unit_of_data, InstanceOf, AnyPackage, AnyThread, SourceInstance, source_instances, sized_table, KnownPackage, KnownThread, KnownUnit, Packaged, Threaded, package_named, thread_named, tables_of_reading, names_of_unit}
 use Rattle.ds2_names.specs.UnitRules.{broken_name_rules}
 use Rattle.ds2_meaning.specs.declared.refusals.ScopeKind.{ScopeKind}
 use Rattle.ds2_meaning.specs.declared.refusals.ScopeKind.TheVariants as kind

@@ -1,18 +1,14 @@
 -- The rules of a unit of a source that count its names and place its parts, and all rules of names together.
-use Rattle.std.specs.Prelude.{ℕ, zero, suc, ◌+◌, ◌-◌, ◌*◌, Bool, true, false, not, ◌&&◌, ◌||◌, nat_le, nat_lt, nat_eq, bytes_eq, codes, if◌then◌else◌, List, [], ◌∷◌, ◌++◌, length, map, filter, fold, is_some, is_none, unwrap_or, Option, Some, None}
-use Rattle.std.specs.List.{list_all, list_any}
+use Rattle.std.specs.Prelude.{ℕ, ◌+◌, Bool, true, false, not, ◌&&◌, ◌||◌, nat_le, nat_lt, nat_eq, bytes_eq, codes, if◌then◌else◌, List, [], ◌∷◌, ◌++◌, length, map, filter, is_some, is_none, Option, Some, None}
 use Rattle.std.specs.Option.{option_map_or}
 use Rattle.ds2_base.specs.declared.place.Place.{Place}
 use Rattle.ds2_base.specs.declared.place.Refusal.{Refusal}
-use Rattle.ds2_token.specs.Words.{is_word}
 use Rattle.ds2_token.specs.declared.token.Token.{Token}
-use Rattle.ds2_tree.specs.Expressions.{Expression, Variable, Arguments, NoArgument, Argument}
+use Rattle.ds2_tree.specs.Expressions.{Expression}
 use Rattle.ds2_tree.specs.Globals.{Method, GlobalItem, Listed}
 use Rattle.ds2_tree.specs.Statements as s
 use Rattle.ds2_tree.specs.Units.{DataProgram}
-use Rattle.ds2_tree.specs.declared.expressions.Callee.{Callee}
 use Rattle.ds2_tree.specs.declared.expressions.Callee.TheVariants as callee
-use Rattle.ds2_tree.specs.declared.globals.Constant.{Constant}
 use Rattle.ds2_tree.specs.declared.globals.Parameter as source_parameter
 use Rattle.ds2_tree.specs.declared.globals.Returns.{Returns}
 use Rattle.ds2_tree.specs.declared.globals.Scale.{Scale}
@@ -25,15 +21,10 @@ use Rattle.ds2_tree.specs.declared.readings.Reading.TheVariants as reading
 use Rattle.ds2_tree.specs.declared.readings.Threads.{Threads}
 use Rattle.ds2_tree.specs.declared.units.OutputOption.{OutputOption}
 use Rattle.ds2_tree.specs.declared.units.OutputOption.TheVariants as option
-use Rattle.ds2_tree.specs.declared.units.OutputOptions.{OutputOptions}
 use Rattle.ds2_tree.specs.declared.units.OutputTable as source_output
-use Rattle.ds2_tree.specs.declared.units.Renaming.{Renaming}
-use Rattle.ds2_value.specs.Row.{Columns}
-use Rattle.ds2_value.specs.Schema.{has_column}
-use Rattle.ds2_meaning.specs.ProgramTree.{is_listed}
 use Rattle.ds2_names.specs.Refusals.{scope_rank, least_refusal, broken_at}
-use Rattle.ds2_names.specs.SourceUnit.{TableColumns, spelled_name, spelled_text, PlacedName, placed_name, names_alone, is_earlier, variable_declarations, listed_tokens, is_system_name, local_names, UnitKind, OfPackage, OfThread, OfData, UnitSource, is_package, is_thread, InstanceOf, AnyPackage, HashObject, HashIterator, AnyThread, SourceInstance, instance_named, KnownPackage, KnownThread, KnownUnit, package_named, thread_named, known_names, tables_of_reading, stage_token, stage_read, SourceNames, names_of_source, vector_names, plain_globals, instance_names, all_globals, is_named}
-use Rattle.ds2_names.specs.Uses.{NameUse, Values, Members, HandsOver, CallsOn, Sets, WritesTo, first_place, method_named, in_out_of, statements_uses}
+use Rattle.ds2_names.specs.SourceUnit.{TableColumns, spelled_name, PlacedName, placed_name, is_earlier, variable_declarations, local_names, UnitKind, OfPackage, OfThread, OfData, is_package, is_thread, InstanceOf, AnyPackage, HashObject, AnyThread, SourceInstance, KnownThread, KnownUnit, thread_named, tables_of_reading, stage_token, stage_read, SourceNames, names_of_source, instance_names, all_globals}
+use Rattle.ds2_names.specs.Uses.{NameUse, CallsOn}
 use Rattle.ds2_meaning.specs.declared.refusals.ScopeKind.{ScopeKind}
 use Rattle.ds2_meaning.specs.declared.refusals.ScopeKind.TheVariants as kind
 use Rattle.ds2_names.specs.NameRules.{from_each, place_unless, spelled_number, uses_in, visible_instance, options_of, output_names, is_thread_instance, later_places, is_system, columns_left, unknown_names, duplicate_names, unknown_methods, wrong_counts, not_variables, aliased_arguments}

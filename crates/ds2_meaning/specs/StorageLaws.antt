@@ -1,0 +1,40 @@
+-- What a typed program keeps before its first unit fits.
+use Rattle.std.specs.Prelude.{IsTrue, List, [], ◌∷◌, Option, Some, None}
+use Rattle.ds2_value.specs.Schema.{types_in_bounds}
+use Rattle.ds2_value.specs.Types.{fits}
+use Rattle.ds2_value.specs.declared.value.Value.{Value}
+use Rattle.ds2_table.specs.Table.{rows_fit}
+use Rattle.ds2_meaning.specs.declared.globals.Variable.{Variable}
+use Rattle.ds2_meaning.specs.declared.hashes.DeclaredHash.{DeclaredHash}
+use Rattle.ds2_meaning.specs.declared.hashes.LoadedTable.{LoadedTable}
+use Rattle.ds2_meaning.specs.IsTyped.{IsTypedUnit, StorageFits}
+use Rattle.ds2_meaning.specs.ProgramMeaning.{opening_of}
+use Rattle.ds2_meaning.specs.ProgramTree.{InstanceTree, UnitTree}
+use Rattle.ds2_meaning.specs.Reading.{TableRows}
+
+-- the rows of the table that a hash object is loaded from fit its columns
+abbrev pub LoadFits : TableRows → Option LoadedTable → Type 0
+LoadFits tables None = Unit {0}
+LoadFits tables (Some loaded) = IsTrue (types_in_bounds loaded.columns) × IsTrue (rows_fit (tables loaded.table) loaded.columns)
+
+-- likewise for each of several hash objects
+abbrev pub LoadsFit : TableRows → List DeclaredHash → Type 0
+LoadsFit tables [] = Unit {0}
+LoadsFit tables (h ∷ hashes) = LoadFits tables h.loaded × LoadsFit tables hashes
+
+-- likewise for the hash objects of instances
+abbrev pub InstanceLoadsFit : TableRows → List InstanceTree → Type 0
+InstanceLoadsFit tables [] = Unit {0}
+InstanceLoadsFit tables (i ∷ instances) = LoadsFit tables i.objects.hashes × InstanceLoadsFit tables instances
+
+-- values fit the parameters that they are for
+abbrev pub ParametersFit : List Variable → List Value → Type 0
+ParametersFit [] values = Unit {0}
+ParametersFit (p ∷ parameters) [] = Unit {0}
+ParametersFit (p ∷ parameters) (v ∷ values) = IsTrue (fits v p.ty) × ParametersFit parameters values
+
+-- over tables whose rows fit, and with values that fit its parameters, what a typed program keeps before its first unit fits
+abbrev pub OpeningFits : Type 0
+OpeningFits = (p : UnitTree) (tables : TableRows) (values : List Value) → IsTypedUnit p
+    → LoadsFit tables p.objects.hashes → InstanceLoadsFit tables p.instances → ParametersFit p.parameters values
+    → StorageFits p (opening_of p tables values)
