@@ -221,8 +221,8 @@ abbrev pub parameter_n : ℕ → List ParameterValue
 parameter_n n = record { parameter = codes "n"; value = int n } ∷ []
 
 -- a program that reads from a thread program with a parameter n, which puts it; with these further statements in `init`
-abbrev pub setting : List TypedStatement → ProgramTree
-setting statements = with_init (putting (naming []))
+abbrev pub with_setparms : List TypedStatement → ProgramTree
+with_setparms statements = with_init (putting (naming []))
   where
     with_init : ProgramTree → ProgramTree
     with_init (OverTables p) = OverTables p
@@ -242,7 +242,7 @@ pub record InstanceExamples : Type 0 where
       }) 40
       ≡ ends_with ((natural 0 ∷ natural 0 ∷ natural 1 ∷ natural 1 ∷ natural 1 ∷ []) ∷ []) (40 ∷ 19 ∷ 40 ∷ [])
   -- s.setparms(1); s.setparms(2); t.setparms(3); : the last values of the instance that the program reads from
-  pub last_parameters : (seen (program_answer (setting (SetParameters (col 20) (codes "s") (parameter_n 1) ∷ SetParameters (col 40) (codes "s") (parameter_n 2) ∷ SetParameters (col 60) (codes "t") (parameter_n 3) ∷ [])) [] (λ name. []) 10 0))
+  pub last_parameters : (seen (program_answer (with_setparms (SetParameters (col 20) (codes "s") (parameter_n 1) ∷ SetParameters (col 40) (codes "s") (parameter_n 2) ∷ SetParameters (col 60) (codes "t") (parameter_n 3) ∷ [])) [] (λ name. []) 10 0))
       ≡ record { rows = (natural 1 ∷ []) ∷ []; lines = codes "2" ∷ codes "r" ∷ codes "t" ∷ []; ending = Some Normal; budgets_left = 7 ∷ 10 ∷ 8 ∷ 10 ∷ 9 ∷ 9 ∷ [] }
   -- t.setparms(3); : the parameters of the instance that the program reads from are null
-  pub other_parameters : (seen (program_answer (setting (SetParameters (col 60) (codes "t") (parameter_n 3) ∷ [])) [] (λ name. []) 10 0)).lines ≡ codes "null" ∷ codes "r" ∷ codes "t" ∷ []
+  pub other_parameters : (seen (program_answer (with_setparms (SetParameters (col 60) (codes "t") (parameter_n 3) ∷ [])) [] (λ name. []) 10 0)).lines ≡ codes "null" ∷ codes "r" ∷ codes "t" ∷ []

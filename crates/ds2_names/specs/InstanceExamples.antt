@@ -62,20 +62,20 @@ thread_at column thread name =
     Declared (declaration.Thread (word_in column (codes "dcl")) (word_in (column + 4) (codes "thread")) (word_in (column + 11) thread) (word_in (column + 13) name) (col (column + 14)))
 
 -- an integer constant
-abbrev pub integer_at : ℕ → Constant
-integer_at column = record { comma = None; minus = None; value = record { kind = Integer; spelling = codes "1"; place = col column } }
+abbrev pub integer_placed_at : ℕ → Constant
+integer_placed_at column = record { comma = None; minus = None; value = record { kind = Integer; spelling = codes "1"; place = col column } }
 
 -- a BIGINT parameter, by value or in_out
-abbrev pub parameter_at : ℕ → Option Token → List ℕ → source_parameter.Parameter
-parameter_at column in_out name = record { comma = None; in_out = in_out; ty = type_name.BigInt (word_in column (codes "bigint")); name = word_in (column + 7) name }
+abbrev pub parameter_placed_at : ℕ → Option Token → List ℕ → source_parameter.Parameter
+parameter_placed_at column in_out name = record { comma = None; in_out = in_out; ty = type_name.BigInt (word_in column (codes "bigint")); name = word_in (column + 7) name }
 
 -- the word in_out
 abbrev pub word_in_out : ℕ → Option Token
 word_in_out column = Some (word_in column (codes "in_out"))
 
 -- method name(parameters); with this reading statement and these statements
-abbrev pub method_at : ℕ → List ℕ → List source_parameter.Parameter → Option source_reading.Reading → List s.Statement → Method
-method_at column name parameters reads statements = record {
+abbrev pub method_placed_at : ℕ → List ℕ → List source_parameter.Parameter → Option source_reading.Reading → List s.Statement → Method
+method_placed_at column name parameters reads statements = record {
   keyword = word_in column (codes "method");
   name = word_in (column + 7) name;
   parameters = record { opening = col (column + 11); list = parameters; closing = col (column + 12) };
@@ -117,7 +117,7 @@ name_into column target name = s.Assignment (word_in column target) (col (column
 
 -- method run(); with these statements, in column 200
 abbrev pub running : List s.Statement → GlobalItem
-running statements = Defined (method_at 200 (codes "run") [] None statements)
+running statements = Defined (method_placed_at 200 (codes "run") [] None statements)
 
 -- data out; with these parts
 abbrev pub data_unit : List GlobalItem → UnitSource
@@ -151,7 +151,7 @@ refused_at kind column = Some (record { kind = kind; place = col column })
 abbrev pub package_p : Option Token → List KnownUnit
 package_p in_out = Packaged (record {
   name = codes "p";
-  methods = method_at 1 (codes "p") (parameter_at 12 in_out (codes "n") ∷ []) None [] ∷ method_at 100 (codes "m") (parameter_at 112 (word_in_out 112) (codes "a") ∷ []) None [] ∷ [];
+  methods = method_placed_at 1 (codes "p") (parameter_placed_at 12 in_out (codes "n") ∷ []) None [] ∷ method_placed_at 100 (codes "m") (parameter_placed_at 112 (word_in_out 112) (codes "a") ∷ []) None [] ∷ [];
   tokens = 40;
 }) ∷ []
 
@@ -182,25 +182,25 @@ pub record InstanceNameExamples : Type 0 where
   pub instance_as_target : refused [] (with_hash (running (name_into 220 (codes "h") (codes "k") ∷ []) ∷ [])) ≡ refused_at NotVariable 220
   -- k.find(); where k is a variable, and h.find(); in a method with a parameter h
   pub variable_as_instance : refused [] (with_hash (running (call_on 220 (codes "k") (codes "find") [] ∷ []) ∷ [])) ≡ refused_at UnknownName 220
-  pub hidden_instance : refused [] (with_hash (Defined (method_at 80 (codes "f") (parameter_at 92 None (codes "h") ∷ []) None (call_on 110 (codes "h") (codes "find") [] ∷ [])) ∷ running [] ∷ [])) ≡ refused_at UnknownName 110
+  pub hidden_instance : refused [] (with_hash (Defined (method_placed_at 80 (codes "f") (parameter_placed_at 92 None (codes "h") ∷ []) None (call_on 110 (codes "h") (codes "find") [] ∷ [])) ∷ running [] ∷ [])) ≡ refused_at UnknownName 110
   -- dcl package hiter i('H'); before dcl package hash h([k],[v]); and dcl package hiter i('g');
   pub later_hash : refused [] (data_unit (iterator_at 80 (codes "i") (codes "'H'") ∷ bigints_at 110 (codes "k" ∷ codes "v" ∷ []) ∷ hash_at 140 (codes "h") (codes "k") (codes "v") ∷ running [] ∷ [])) ≡ None
   pub no_such_hash : refused [] (with_hash (iterator_at 80 (codes "i") (codes "'g'") ∷ running [] ∷ [])) ≡ refused_at UnknownName 100
   -- two globals of one name: dcl package hash k([k],[v]);
   pub instance_of_a_variables_name : refused [] (with_hash (hash_at 80 (codes "k") (codes "v") (codes "v") ∷ running [] ∷ [])) ≡ refused_at DuplicateName 97
   -- method m(in_out bigint a); h.find(); end; and m(v); : the call may reach v
-  pub reached_by_a_hash : refused [] (with_hash (Defined (method_at 80 (codes "m") (parameter_at 99 (word_in_out 92) (codes "a") ∷ []) None (call_on 120 (codes "h") (codes "find") [] ∷ []))
+  pub reached_by_a_hash : refused [] (with_hash (Defined (method_placed_at 80 (codes "m") (parameter_placed_at 99 (word_in_out 92) (codes "a") ∷ []) None (call_on 120 (codes "h") (codes "find") [] ∷ []))
       ∷ running (call_of 220 (codes "m") (word_in 222 (codes "v") ∷ []) ∷ []) ∷ [])) ≡ refused_at AliasedArgument 222
   -- dcl package q i; where there is no q: calls on i are not refused
   pub unknown_package : refused [] (with_hash (running (call_on 220 (codes "i") (codes "m") [] ∷ []) ∷ instance_at 300 (codes "q") (codes "i") [] ∷ [])) ≡ refused_at UnknownName 312
   -- dcl package p i; dcl package p i(1); and dcl package p i(1); with an in_out parameter
   pub constructor_without_argument : refused (package_p None) (with_hash (instance_at 80 (codes "p") (codes "i") [] ∷ running [] ∷ [])) ≡ refused_at WrongCount 94
-  pub constructor_is_taken : refused (package_p None) (with_hash (instance_at 80 (codes "p") (codes "i") (integer_at 96 ∷ []) ∷ running [] ∷ [])) ≡ None
-  pub constant_for_in_out : refused (package_p (word_in_out 10)) (with_hash (instance_at 80 (codes "p") (codes "i") (integer_at 96 ∷ []) ∷ running [] ∷ [])) ≡ refused_at NotVariable 96
+  pub constructor_is_taken : refused (package_p None) (with_hash (instance_at 80 (codes "p") (codes "i") (integer_placed_at 96 ∷ []) ∷ running [] ∷ [])) ≡ None
+  pub constant_for_in_out : refused (package_p (word_in_out 10)) (with_hash (instance_at 80 (codes "p") (codes "i") (integer_placed_at 96 ∷ []) ∷ running [] ∷ [])) ≡ refused_at NotVariable 96
   -- i.m(v); and i.m(h); where h is an instance, and i.n();
-  pub call_of_a_package : refused (package_p None) (with_hash (instance_at 80 (codes "p") (codes "i") (integer_at 96 ∷ []) ∷ running (call_on 220 (codes "i") (codes "m") (word_in 231 (codes "v") ∷ []) ∷ []) ∷ [])) ≡ None
-  pub instance_for_in_out : refused (package_p None) (with_hash (instance_at 80 (codes "p") (codes "i") (integer_at 96 ∷ []) ∷ running (call_on 220 (codes "i") (codes "m") (word_in 231 (codes "h") ∷ []) ∷ []) ∷ [])) ≡ refused_at NotVariable 231
-  pub no_such_method : refused (package_p None) (with_hash (instance_at 80 (codes "p") (codes "i") (integer_at 96 ∷ []) ∷ running (call_on 220 (codes "i") (codes "n") [] ∷ []) ∷ [])) ≡ refused_at UnknownMethod 222
+  pub call_of_a_package : refused (package_p None) (with_hash (instance_at 80 (codes "p") (codes "i") (integer_placed_at 96 ∷ []) ∷ running (call_on 220 (codes "i") (codes "m") (word_in 231 (codes "v") ∷ []) ∷ []) ∷ [])) ≡ None
+  pub instance_for_in_out : refused (package_p None) (with_hash (instance_at 80 (codes "p") (codes "i") (integer_placed_at 96 ∷ []) ∷ running (call_on 220 (codes "i") (codes "m") (word_in 231 (codes "h") ∷ []) ∷ []) ∷ [])) ≡ refused_at NotVariable 231
+  pub no_such_method : refused (package_p None) (with_hash (instance_at 80 (codes "p") (codes "i") (integer_placed_at 96 ∷ []) ∷ running (call_on 220 (codes "i") (codes "n") [] ∷ []) ∷ [])) ≡ refused_at UnknownMethod 222
 
 -- ---- units
 
@@ -213,22 +213,22 @@ pub record UnitNameExamples : Type 0 where
   pub list_in_a_package : refused [] (package_unit (bigints_at 20 (codes "k" ∷ []) ∷ Listed (word_in 50 (codes "retain")) (word_in 57 (codes "k") ∷ []) (col 58) ∷ [])) ≡ refused_at Misplaced 50
   pub thread_in_a_package : refused (thread_t 1) (package_unit (thread_at 50 (codes "t") (codes "i") ∷ [])) ≡ refused_at Misplaced 50
   pub unknown_package_in_a_package : refused [] (package_unit (instance_at 50 (codes "q") (codes "i") [] ∷ [])) ≡ refused_at Misplaced 50
-  pub run_of_a_package : refused [] (package_unit (Defined (method_at 50 (codes "run") (parameter_at 62 None (codes "n") ∷ []) None []) ∷ Defined (method_at 150 (codes "go") [] None (call_of 170 (codes "run") (word_in 174 (codes "k") ∷ []) ∷ [])) ∷ bigints_at 10 (codes "k" ∷ []) ∷ [])) ≡ None
-  pub reading_in_a_package : refused [] (package_unit (Defined (method_at 50 (codes "run") [] from_i []) ∷ [])) ≡ refused_at Misplaced 215
+  pub run_of_a_package : refused [] (package_unit (Defined (method_placed_at 50 (codes "run") (parameter_placed_at 62 None (codes "n") ∷ []) None []) ∷ Defined (method_placed_at 150 (codes "go") [] None (call_of 170 (codes "run") (word_in 174 (codes "k") ∷ []) ∷ [])) ∷ bigints_at 10 (codes "k" ∷ []) ∷ [])) ≡ None
+  pub reading_in_a_package : refused [] (package_unit (Defined (method_placed_at 50 (codes "run") [] from_i []) ∷ [])) ≡ refused_at Misplaced 215
   -- set from i; y = c; and its columns
-  pub columns_of_a_thread : refused (thread_t 1) (data_unit (bigints_at 20 (codes "y" ∷ []) ∷ thread_at 50 (codes "t") (codes "i") ∷ Defined (method_at 200 (codes "run") [] from_i (name_into 230 (codes "y") (codes "c") ∷ [])) ∷ [])) ≡ None
+  pub columns_of_a_thread : refused (thread_t 1) (data_unit (bigints_at 20 (codes "y" ∷ []) ∷ thread_at 50 (codes "t") (codes "i") ∷ Defined (method_placed_at 200 (codes "run") [] from_i (name_into 230 (codes "y") (codes "c") ∷ [])) ∷ [])) ≡ None
   -- set from i; where i is one of an unknown thread program, and no column is left; and where there is no i
-  pub unknown_thread : refused [] (data_unit (thread_at 50 (codes "t") (codes "i") ∷ Defined (method_at 200 (codes "run") [] from_i []) ∷ [])) ≡ refused_at UnknownName 61
-  pub no_such_instance : refused [] (data_unit (bigints_at 20 (codes "y" ∷ []) ∷ Defined (method_at 200 (codes "run") [] from_i []) ∷ [])) ≡ refused_at UnknownName 224
+  pub unknown_thread : refused [] (data_unit (thread_at 50 (codes "t") (codes "i") ∷ Defined (method_placed_at 200 (codes "run") [] from_i []) ∷ [])) ≡ refused_at UnknownName 61
+  pub no_such_instance : refused [] (data_unit (bigints_at 20 (codes "y" ∷ []) ∷ Defined (method_placed_at 200 (codes "run") [] from_i []) ∷ [])) ≡ refused_at UnknownName 224
   -- a data program without a column
   pub nothing_left : refused [] (data_unit (running [] ∷ [])) ≡ refused_at NoColumns 6
   -- i.setparms(k); in `init` and in `run`, and i.setparms();
-  pub parameters_in_init : refused (thread_t 1) (data_unit (bigints_at 20 (codes "k" ∷ []) ∷ thread_at 50 (codes "t") (codes "i") ∷ Defined (method_at 70 (codes "init") [] None (call_on 90 (codes "i") (codes "setparms") (word_in 101 (codes "k") ∷ []) ∷ [])) ∷ running [] ∷ [])) ≡ None
+  pub parameters_in_init : refused (thread_t 1) (data_unit (bigints_at 20 (codes "k" ∷ []) ∷ thread_at 50 (codes "t") (codes "i") ∷ Defined (method_placed_at 70 (codes "init") [] None (call_on 90 (codes "i") (codes "setparms") (word_in 101 (codes "k") ∷ []) ∷ [])) ∷ running [] ∷ [])) ≡ None
   pub parameters_in_run : refused (thread_t 1) (data_unit (bigints_at 20 (codes "k" ∷ []) ∷ thread_at 50 (codes "t") (codes "i") ∷ running (call_on 220 (codes "i") (codes "setparms") (word_in 231 (codes "k") ∷ []) ∷ []) ∷ [])) ≡ refused_at Misplaced 220
-  pub missing_parameter : refused (thread_t 1) (data_unit (bigints_at 20 (codes "k" ∷ []) ∷ thread_at 50 (codes "t") (codes "i") ∷ Defined (method_at 70 (codes "init") [] None (call_on 90 (codes "i") (codes "setparms") [] ∷ [])) ∷ running [] ∷ [])) ≡ refused_at WrongCount 92
+  pub missing_parameter : refused (thread_t 1) (data_unit (bigints_at 20 (codes "k" ∷ []) ∷ thread_at 50 (codes "t") (codes "i") ∷ Defined (method_placed_at 70 (codes "init") [] None (call_on 90 (codes "i") (codes "setparms") [] ∷ [])) ∷ running [] ∷ [])) ≡ refused_at WrongCount 92
   -- thread t; in_out in its parameters, output t; and a chain of nine
-  pub in_out_of_a_thread : refused [] (record (thread_unit (bigints_at 50 (codes "k" ∷ []) ∷ [])) { parameters = parameter_at 20 (word_in_out 13) (codes "n") ∷ [] }) ≡ refused_at Misplaced 13
-  pub parameter_of_a_thread : refused [] (record (thread_unit (bigints_at 50 (codes "k" ∷ []) ∷ running (name_into 220 (codes "n") (codes "n") ∷ []) ∷ [])) { parameters = parameter_at 20 None (codes "n") ∷ [] }) ≡ None
+  pub in_out_of_a_thread : refused [] (record (thread_unit (bigints_at 50 (codes "k" ∷ []) ∷ [])) { parameters = parameter_placed_at 20 (word_in_out 13) (codes "n") ∷ [] }) ≡ refused_at Misplaced 13
+  pub parameter_of_a_thread : refused [] (record (thread_unit (bigints_at 50 (codes "k" ∷ []) ∷ running (name_into 220 (codes "n") (codes "n") ∷ []) ∷ [])) { parameters = parameter_placed_at 20 None (codes "n") ∷ [] }) ≡ None
   pub output_of_a_name : refused [] (thread_unit (bigints_at 50 (codes "k" ∷ []) ∷ running (s.Output (word_in 220 (codes "output")) (word_in 227 (codes "t") ∷ []) (col 228) ∷ []) ∷ [])) ≡ refused_at Misplaced 220
   pub chain_of_nine : refused (Threaded (record { name = codes "a"; parameters = []; columns = codes "c" ∷ []; chain = 8 }) ∷ []) (thread_unit (bigints_at 20 (codes "k" ∷ []) ∷ thread_at 50 (codes "a") (codes "i") ∷ [])) ≡ refused_at Misplaced 50
   pub chain_of_eight : refused (Threaded (record { name = codes "a"; parameters = []; columns = codes "c" ∷ []; chain = 7 }) ∷ []) (thread_unit (bigints_at 20 (codes "k" ∷ []) ∷ thread_at 50 (codes "a") (codes "i") ∷ [])) ≡ None
@@ -251,8 +251,8 @@ pub record LimitExamples : Type 0 where
   pub sixty_five_programs : scope_refusal two_columns (record (behind []) { data_programs = 64 }) (with_hash (running [] ∷ [])) ≡ refused_at TooManyNames 6
   pub sixty_four_programs : scope_refusal two_columns (record (behind []) { data_programs = 63 }) (with_hash (running [] ∷ [])) ≡ None
   -- the tokens of an instance's package
-  pub too_many_tokens_with_it : scope_refusal two_columns (record (behind (package_p None)) { tokens = 999961 }) (with_hash (instance_at 80 (codes "p") (codes "i") (integer_at 96 ∷ []) ∷ running [] ∷ [])) ≡ refused_at TooManyNames 94
-  pub just_enough_tokens : scope_refusal two_columns (record (behind (package_p None)) { tokens = 999960 }) (with_hash (instance_at 80 (codes "p") (codes "i") (integer_at 96 ∷ []) ∷ running [] ∷ [])) ≡ None
+  pub too_many_tokens_with_it : scope_refusal two_columns (record (behind (package_p None)) { tokens = 999961 }) (with_hash (instance_at 80 (codes "p") (codes "i") (integer_placed_at 96 ∷ []) ∷ running [] ∷ [])) ≡ refused_at TooManyNames 94
+  pub just_enough_tokens : scope_refusal two_columns (record (behind (package_p None)) { tokens = 999960 }) (with_hash (instance_at 80 (codes "p") (codes "i") (integer_placed_at 96 ∷ []) ∷ running [] ∷ [])) ≡ None
   -- set s; as the 17th table of the store, and as one that a program makes
-  pub seventeenth_table : scope_refusal two_columns (record (behind []) { mentioned = sixteen_tables }) (with_hash (Defined (method_at 200 (codes "run") [] from_s []) ∷ [])) ≡ refused_at TooManyNames 219
-  pub made_table : scope_refusal two_columns (record (behind []) { mentioned = sixteen_tables; made = codes "s" ∷ [] }) (with_hash (Defined (method_at 200 (codes "run") [] from_s []) ∷ [])) ≡ None
+  pub seventeenth_table : scope_refusal two_columns (record (behind []) { mentioned = sixteen_tables }) (with_hash (Defined (method_placed_at 200 (codes "run") [] from_s []) ∷ [])) ≡ refused_at TooManyNames 219
+  pub made_table : scope_refusal two_columns (record (behind []) { mentioned = sixteen_tables; made = codes "s" ∷ [] }) (with_hash (Defined (method_placed_at 200 (codes "run") [] from_s []) ∷ [])) ≡ None

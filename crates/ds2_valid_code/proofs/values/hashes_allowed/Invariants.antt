@@ -1,0 +1,14 @@
+use Rattle.std.proofs.Common.{◌≡◌, length}
+use Rattle.std.specs.List.{list_all}
+use Rattle.std.specs.Option.{option_map_or}
+use Rattle.std.proofs.Common.{true}
+use Rattle.ds2_code.specs.ValidCode.{reference_allowed}
+use Rattle.ds2_code.specs.declared.parts.HashPart.{HashPart}
+use Rattle.ds2_code.specs.declared.parts.HashTable.{HashTable}
+use Rattle.ds2_valid_code.proofs.values.hashes_allowed.Given as goal
+
+abbrev pub invariant-hashes : goal.invariant-hashes
+invariant-hashes l = list_all (λ (h : HashPart). option_map_or (λ (t : HashTable). reference_allowed t.table) h.loaded true) l.rest ≡ list_all (λ (h : HashPart). option_map_or (λ (t : HashTable). reference_allowed t.table) h.loaded true) l.hashes
+
+abbrev pub decreases-hashes : goal.decreases-hashes
+decreases-hashes l = length l.rest

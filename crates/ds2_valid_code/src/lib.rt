@@ -1,0 +1,22 @@
+//! Valid code: whether the parts of a program's code are valid, and code that is.
+//!
+//! [`verify`] gives the [`ProgramCode`] of parts exactly where they are valid code (`ds2_code`'s `specs/ValidCode.antt`), in time linear in
+//! them: no clause goes through the list once an entry, names are compared by hashing, and whose code an instruction is by the number of the
+//! first method with an equal signature. Each clause is a test of its own.
+#![tactic(auto)]
+
+mod jumps;
+mod layout;
+mod names;
+mod owner;
+mod program;
+mod results;
+mod rows;
+mod scan;
+mod stack;
+mod values;
+
+pub use jumps::jumps_are_bounded;
+pub use layout::{layout_is_fit, outputs_are_named_apart};
+pub use program::{ProgramCode, verify};
+pub use values::values_are_allowed;

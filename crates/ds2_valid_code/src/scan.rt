@@ -1,0 +1,246 @@
+//! Operand types along the list of instructions.
+ghost use Rattle.std.specs.Prelude.{◌≡◌, [], false, Some, None, IfOk, MatchOption, slice_get, slice_set, if◌then◌else◌};
+ghost use Rattle.ds2_code.specs.ValidCode.{stage_parameters, unit_entries};
+ghost use Rattle.ds2_valid_code.specs.declared.owner.CodeOwner.TheVariants.{Unit as UnitCode};
+ghost use Rattle.ds2_valid_code.specs.CodeScan.{arriving, standing, entry_found, types_onward, scan_code, is_clear_for, lands_clear, jumps_land, units_clear, methods_clear, entry_table, is_entered_clear, no_entries, with_unit_entries, with_method_entries, types_suffice};
+ghost use Rattle.ds2_valid_code.specs.Digests.{FindsByDigest};
+
+use crate::owner::{CodeOwner, numbers_by_digest, owner_of, same_owner};
+use crate::rows::types_behind;
+use crate::stack::TypeStack;
+use ds2_base::OutOfMemory;
+use ds2_code::{Instr, MethodPart, ProgramParts};
+use std::alloc::Global;
+use std::collections::HashMap;
+
+/// What is kept of an instruction: whose code it is, and whether no operand stands before it.
+#[derive(Clone, Copy, Debug, PartialEq, Eq)]
+pub(crate) struct CodeMark {
+    pub(crate) owner: CodeOwner,
+    pub(crate) is_empty: bool,
+}
+
+fn write(table: &mut Vec<Option<CodeOwner>>, at: u32, owner: CodeOwner)
+    ensures { table.new.items ≡ slice_set table.old.items at (Some owner) }
+{
+    if let Some(entry) = table.get_mut(at as usize) {
+        *entry = Some(owner);
+    }
+}
+
+fn no_entry(_: Instr) -> Option<CodeOwner>
+    ensures { result ≡ None }
+{
+    None
+}
+
+#[tactic(auto, using(crate::proofs::ScanLemmas::no_entries_drop, crate::proofs::ScanLemmas::entry_added))]
+fn blank_entries(alloc: Global, instrs: &[Instr]) -> Result<Vec<Option<CodeOwner>>, OutOfMemory>
+    ensures { IfOk result (λ table. table.items ≡ no_entries instrs.now) }
+{
+    let mut table: Vec<Option<CodeOwner>> = Vec::new(alloc);
+    'instrs: for instr in instrs {
+        table.push(no_entry(*instr))?;
+    }
+    Ok(table)
+}
+
+fn write_units(table: &mut Vec<Option<CodeOwner>>, units: &[u32])
+    ensures { table.new.items ≡ with_unit_entries table.old.items units.now }
+{
+    'units: for unit in units {
+        write(table, *unit, CodeOwner::Unit);
+    }
+}
+
+fn write_methods(
+    table: &mut Vec<Option<CodeOwner>>,
+    numbers: &HashMap<u64, usize>,
+    methods: &[MethodPart],
+)
+    requires { FindsByDigest numbers.now methods.now }
+    ensures { table.new.items ≡ with_method_entries methods.now table.old.items methods.now }
+{
+    'methods: for method in methods {
+        write(table, method.entry, owner_of(numbers, methods, method));
+    }
+}
+
+// Whose entry each instruction is.
+fn entries(
+    alloc: Global,
+    code: &ProgramParts,
+    numbers: &HashMap<u64, usize>,
+) -> Result<Vec<Option<CodeOwner>>, OutOfMemory>
+    requires { FindsByDigest numbers.now code.now.methods }
+    ensures { IfOk result (λ table. table.items ≡ entry_table code.now) }
+{
+    let mut table = blank_entries(alloc, code.instrs.as_slice())?;
+    write_units(&mut table, &[code.init, code.run, code.term]);
+    write_methods(&mut table, numbers, code.methods.as_slice());
+    Ok(table)
+}
+
+fn entry_at(table: &[Option<CodeOwner>], at: usize) -> Option<CodeOwner>
+    ensures { result ≡ entry_found (slice_get table.now at) }
+{
+    match table.get(at) {
+        None => None,
+        Some(entry) => *entry,
+    }
+}
+
+// Whether an instruction's entry fits what stands before it; the owner is then the entry's.
+fn arrives(
+    entry: Option<CodeOwner>,
+    came: bool,
+    owner: &mut CodeOwner,
+    types: &mut TypeStack,
+) -> bool
+    ensures { arriving entry came (standing owner.old types.old) ≡ (if result then Some (standing owner.new types.new) else None) }
+{
+    let Some(begun) = entry else {
+        return true;
+    };
+    if came {
+        if !same_owner(begun, *owner) {
+            return false;
+        }
+        if !types.is_empty() {
+            return false;
+        }
+    }
+    *owner = begun;
+    types.clear();
+    true
+}
+
+// Behind an instruction that the run does not fall through no operand stands.
+fn go_on(types: &mut TypeStack, falls: bool)
+    ensures { types.new ≡ types_onward falls types.old }
+{
+    if !falls {
+        types.clear();
+    }
+}
+
+// The marks of the instructions; none where one does not find what it needs.
+fn scan(
+    alloc: Global,
+    code: &ProgramParts,
+    stages: &[ProgramParts],
+    table: &[Option<CodeOwner>],
+) -> Result<Option<Vec<CodeMark>>, OutOfMemory>
+    ensures { IfOk result (λ found. MatchOption found (scan_code code.now (stage_parameters (slice_get stages.now 0)) table.now 0 false (standing UnitCode []) code.now.instrs ≡ None) (λ marks. scan_code code.now (stage_parameters (slice_get stages.now 0)) table.now 0 false (standing UnitCode []) code.now.instrs ≡ Some marks.items)) }
+{
+    let instrs = code.instrs.as_slice();
+    let mut marks: Vec<CodeMark> = Vec::new(alloc);
+    let mut types = TypeStack::new(alloc);
+    let mut owner = CodeOwner::Unit;
+    let mut came = false;
+    let mut at: usize = 0;
+    'scan: for instr in instrs {
+        if !arrives(entry_at(table, at), came, &mut owner, &mut types) {
+            return Ok(None);
+        }
+        let is_empty = types.is_empty();
+        marks.push(CodeMark { owner, is_empty })?;
+        if !types_behind(&mut types, owner, *instr, code, stages)? {
+            return Ok(None);
+        }
+        came = instr.falls_through();
+        go_on(&mut types, came);
+        at += 1;
+    }
+    if came {
+        return Ok(None);
+    }
+    Ok(Some(marks))
+}
+
+fn is_clear_for(marks: &[CodeMark], at: usize, owner: CodeOwner) -> bool
+    ensures { result ≡ is_clear_for (slice_get marks.now at) owner }
+{
+    match marks.get(at) {
+        None => false,
+        Some(mark) => same_owner(mark.owner, owner) && mark.is_empty,
+    }
+}
+
+fn lands_clear(marks: &[CodeMark], at: usize, target: Option<u32>) -> bool
+    ensures { result ≡ lands_clear marks.now (slice_get marks.now at) target }
+{
+    let Some(to) = target else {
+        return true;
+    };
+    match marks.get(at) {
+        None => false,
+        Some(mark) => is_clear_for(marks, to as usize, mark.owner),
+    }
+}
+
+fn jumps_land(marks: &[CodeMark], instrs: &[Instr]) -> bool
+    ensures { result ≡ jumps_land marks.now instrs.now 0 }
+{
+    let mut at: usize = 0;
+    'jumps: for instr in instrs {
+        if !lands_clear(marks, at, instr.jump_target()) {
+            return false;
+        }
+        at += 1;
+    }
+    true
+}
+
+fn units_clear(marks: &[CodeMark], units: &[u32]) -> bool
+    ensures { result ≡ units_clear marks.now units.now }
+{
+    'units: for unit in units {
+        if !is_clear_for(marks, *unit as usize, CodeOwner::Unit) {
+            return false;
+        }
+    }
+    true
+}
+
+fn methods_clear(marks: &[CodeMark], numbers: &HashMap<u64, usize>, methods: &[MethodPart]) -> bool
+    requires { FindsByDigest numbers.now methods.now }
+    ensures { result ≡ methods_clear marks.now methods.now methods.now }
+{
+    'methods: for method in methods {
+        if !is_clear_for(
+            marks,
+            method.entry as usize,
+            owner_of(numbers, methods, method),
+        ) {
+            return false;
+        }
+    }
+    true
+}
+
+fn is_entered_clear(marks: &[CodeMark], numbers: &HashMap<u64, usize>, code: &ProgramParts) -> bool
+    requires { FindsByDigest numbers.now code.now.methods }
+    ensures { result ≡ is_entered_clear code.now (Some marks.now) }
+{
+    jumps_land(marks, code.instrs.as_slice())
+        && units_clear(marks, &[code.init, code.run, code.term])
+        && methods_clear(marks, numbers, code.methods.as_slice())
+}
+
+/// Whether operand types are determined along the list and suffice. The thread program that the program reads from is the first of
+/// `stages`.
+pub(crate) fn types_suffice(
+    alloc: Global,
+    code: &ProgramParts,
+    stages: &[ProgramParts],
+) -> Result<bool, OutOfMemory>
+    ensures { IfOk result (λ suffice. suffice ≡ types_suffice code.now (stage_parameters (slice_get stages.now 0))) }
+{
+    let numbers = numbers_by_digest(alloc, code.methods.as_slice())?;
+    let table = entries(alloc, code, &numbers)?;
+    match scan(alloc, code, stages, &table)? {
+        None => Ok(false),
+        Some(marks) => Ok(is_entered_clear(&marks, &numbers, code)),
+    }
+}
