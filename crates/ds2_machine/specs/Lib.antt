@@ -1,0 +1,8 @@
+pub mod AtRest
+pub mod MachineView
+pub mod PileView
+pub mod Results
+pub mod Shapes
+pub mod Sink
+pub mod SlotSteps
+pub mod Kept

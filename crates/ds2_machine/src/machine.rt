@@ -1,0 +1,187 @@
+//! The machine between two units.
+ghost use Rattle.std.specs.Prelude.{◌≡◌, ◌+◌, ◌*◌, ◌≤◌, false, [], length, IfOk};
+ghost use Rattle.ds2_code.specs.CodeUnit.{code_unit, code_init, code_run, code_term, opening_data};
+ghost use Rattle.ds2_code.specs.ValidCode.{EndsInTime};
+ghost use Rattle.ds2_machine.specs.AtRest.{IsRunnable, HasNoHashes, IsEndingAt, IsUnitEnd, leaves_spent};
+ghost use Rattle.ds2_machine.specs.Shapes.{IsExecutable};
+
+use crate::slots::{clear, copy_all, nulls, set_values};
+use crate::state::{Halt, State};
+use crate::{UnitEnd, UnitLoad, UnitSink};
+use ds2_base::{OutOfMemory, Place};
+use ds2_code::ProgramParts;
+use ds2_code::laws::{run_has_one_end, units_begin_with_little, valid_code_ends};
+use ds2_value::{Ending, Value};
+use std::alloc::Global;
+use std::marker::Model;
+
+/// A machine for the code of one program. It holds the program's data from unit to unit.
+///
+/// A machine whose unit ended by a fault, or for want of memory, is spent: it runs no other unit.
+#[derive(Drop)]
+pub struct Machine {
+    state: State,
+    spent: bool,
+}
+
+impl Model for Machine {
+    ghost use Rattle.ds2_machine.specs.AtRest.{MachineAtRest};
+    ghost use Rattle.ds2_machine.specs.MachineView.{data_of_state};
+
+    ghost Value = { MachineAtRest };
+
+    ghost view = { λ m. record { state = data_of_state m.state; spent = m.spent } };
+}
+
+impl Machine {
+    /// A machine for this code before its first unit: all slots are null but for the program's own parameters, which have the given
+    /// values, and so many parameters of the thread program that it reads from are null.
+    pub fn open(
+        alloc: Global,
+        code: &ProgramParts,
+        given: &[Value],
+        parameters: usize,
+    ) -> Result<Machine, OutOfMemory>
+        requires { HasNoHashes code.now }
+        ensures { IfOk result (λ machine. machine ≡ record { state = opening_data code.now given.now [] parameters; spent = false }) }
+    {
+        let mut slots = nulls(alloc, code.slots.len())?;
+        set_values(alloc, &mut slots, code.parameters.as_slice(), given)?;
+        let stage = nulls(alloc, parameters)?;
+        Ok(Machine {
+            state: State::new(alloc, slots, stage),
+            spent: false,
+        })
+    }
+
+    /// Whether the last unit came to no normal end, so that no other may run.
+    pub fn spent(&self) -> bool
+        ensures { result ≡ self.now.spent }
+    {
+        self.spent
+    }
+
+    /// The values that were set for the parameters of the thread program that the program reads from; null where none was.
+    pub fn stage_parameters(&self) -> &[Value]
+        ensures { result.now ≡ self.now.state.parameters }
+    {
+        self.state.parameters.as_slice()
+    }
+
+    /// An equal machine.
+    pub fn copy(&self, alloc: Global) -> Result<Machine, OutOfMemory>
+        ensures { IfOk result (λ machine. machine ≡ self.now) }
+    {
+        let slots = copy_all(alloc, self.state.slots.as_slice())?;
+        let parameters = copy_all(alloc, self.state.parameters.as_slice())?;
+        Ok(Machine {
+            state: State::new(alloc, slots, parameters),
+            spent: self.spent,
+        })
+    }
+
+    /// Runs the unit `init` of the code that the machine was opened for, with a budget of at most a thousand million steps and calls.
+    ///
+    /// Rows and lines go to the sink as they are written. Want of memory ends the unit wherever it is.
+    pub fn call_init<S: UnitSink>(
+        &mut self,
+        alloc: Global,
+        code: &ProgramParts,
+        budget: u64,
+        sink: &mut S,
+    ) -> Result<UnitEnd, OutOfMemory>
+        requires runnable { IsRunnable code.now }
+        requires budget { budget ≤ 1000000000 }
+        requires ready { self.old.spent ≡ false }
+        ensures ran { IfOk result (λ end. IsUnitEnd S.has_taken sink.old sink.new (code_init code.now budget self.old.state) end self.new.state) }
+        ensures bound { IfOk result (λ end. end.executed ≤ (budget + 1) * length code.now.instrs) }
+        ensures spent { self.new.spent ≡ leaves_spent result }
+    {
+        valid_code_ends();
+        self.unit(alloc, code, code.init, budget, sink)
+    }
+
+    /// Runs the unit `run` on a load, as [`Machine::call_init`] runs `init`: slots that `run` sets to null are null, and those of the
+    /// load have its values.
+    pub fn call_run<L: UnitLoad, S: UnitSink>(
+        &mut self,
+        alloc: Global,
+        code: &ProgramParts,
+        load: &L,
+        budget: u64,
+        sink: &mut S,
+    ) -> Result<UnitEnd, OutOfMemory>
+        requires runnable { IsRunnable code.now }
+        requires budget { budget ≤ 1000000000 }
+        requires ready { self.old.spent ≡ false }
+        ensures ran { IfOk result (λ end. IsUnitEnd S.has_taken sink.old sink.new (code_run code.now budget (L.settings load.now) self.old.state) end self.new.state) }
+        ensures bound { IfOk result (λ end. end.executed ≤ (budget + 1) * length code.now.instrs) }
+        ensures spent { self.new.spent ≡ leaves_spent result }
+    {
+        valid_code_ends();
+        self.spent = true;
+        clear(&mut self.state.slots, code.slots.as_slice());
+        load.set_into(alloc, &mut self.state.slots)?;
+        self.unit(alloc, code, code.run, budget, sink)
+    }
+
+    /// Runs the unit `term`, as [`Machine::call_init`] runs `init`.
+    pub fn call_term<S: UnitSink>(
+        &mut self,
+        alloc: Global,
+        code: &ProgramParts,
+        budget: u64,
+        sink: &mut S,
+    ) -> Result<UnitEnd, OutOfMemory>
+        requires runnable { IsRunnable code.now }
+        requires budget { budget ≤ 1000000000 }
+        requires ready { self.old.spent ≡ false }
+        ensures ran { IfOk result (λ end. IsUnitEnd S.has_taken sink.old sink.new (code_term code.now budget self.old.state) end self.new.state) }
+        ensures bound { IfOk result (λ end. end.executed ≤ (budget + 1) * length code.now.instrs) }
+        ensures spent { self.new.spent ≡ leaves_spent result }
+    {
+        valid_code_ends();
+        self.unit(alloc, code, code.term, budget, sink)
+    }
+
+    // Runs a unit from its entry.
+    fn unit<S: UnitSink>(
+        &mut self,
+        alloc: Global,
+        code: &ProgramParts,
+        entry: u32,
+        budget: u64,
+        sink: &mut S,
+    ) -> Result<UnitEnd, OutOfMemory>
+        requires executable { IsExecutable code.now }
+        requires budget { budget ≤ 1000000000 }
+        requires ends { EndsInTime code.now budget (code_unit code.now entry budget self.old.state) }
+        ensures ran { IfOk result (λ end. IsUnitEnd S.has_taken sink.old sink.new (code_unit code.now entry budget self.old.state) end self.new.state) }
+        ensures spent { self.new.spent ≡ leaves_spent result }
+    {
+        run_has_one_end();
+        units_begin_with_little();
+        self.spent = true;
+        self.state.begin(entry, budget);
+        let ran = self.state.run(alloc, code, sink)?;
+        let ending = ending_of(ran.halt, self.state.place);
+        self.spent = ending != Ending::Normal;
+        Ok(UnitEnd {
+            ending,
+            left: self.state.left,
+            executed: ran.executed,
+        })
+    }
+}
+
+// How the unit ended, where it came to its end; a fault is at the place of the step that is under way.
+fn ending_of(halt: Halt, place: Place) -> Ending
+    requires { halt ≡ Halt.Stuck → ⊥ }
+    ensures { IsEndingAt halt place result }
+{
+    match halt {
+        Halt::Normal => Ending::Normal,
+        Halt::Faulted(kind) => Ending::Faulted { kind, place },
+        Halt::Stuck => unreachable!(),
+    }
+}

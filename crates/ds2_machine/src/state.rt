@@ -1,0 +1,512 @@
+//! The machine between two instructions.
+ghost use Rattle.ds2_base.specs.Says.{Says};
+ghost use Rattle.std.specs.Prelude.{Result as CallResult, ◌≡◌, ◌<◌, ◌^◌, [], IsTrue, Some, IfOk, OnOk};
+ghost use Rattle.ds2_value.specs.Operations.{is_true};
+ghost use Rattle.ds2_value.specs.Row.{Row};
+ghost use Rattle.ds2_code.specs.CodeBound.{work_left};
+ghost use Rattle.ds2_code.specs.CodeUnit.{unit_begun};
+ghost use Rattle.ds2_code.specs.CodeRun.{perform, goes_to, on_desk, on_step, on_condition, place_tested, on_method, on_return, with_in_outs};
+ghost use Rattle.ds2_code.specs.Desk.{IntoSlot, IntoLocal, IntoParameter, top_into, without_top, loaded_value, take_off};
+ghost use Rattle.ds2_code.specs.InstructionTable.{kind_of, Loads, Writes, Enters, GoesBack};
+ghost use Rattle.ds2_machine.specs.MachineView.{UnitTold, nothing_told, machine_of_state, desk_of_state, data_of_state, progress_of_state, HasRunTo, IsQuietStep, IsSunkStep, AreTaken, with_operands};
+ghost use Rattle.ds2_machine.specs.Results.{as_list};
+ghost use Rattle.ds2_machine.specs.Shapes.{IsExecutable, HasQuietShape, is_executed, has_type_in_bounds, operation_operands, load_source_of, store_target_of};
+
+use crate::UnitSink;
+use crate::arguments::Arguments;
+use crate::frames::{Frames, Waiting};
+use crate::operation::computed;
+use crate::pile::Pile;
+use crate::shape::{Quiet, Shape, Source, Target, shape_of};
+use crate::slots::{copy_at, set};
+use ds2_base::{List, OutOfMemory, Place, Stop};
+use ds2_code::laws::instructions_leave_less;
+use ds2_code::{Instr, MethodPart, ParameterPart, ProgramParts};
+use ds2_value::{CALL_DEPTH, Fault, Truth, Value};
+use std::alloc::Global;
+
+/// How a run ends. A run of valid code is never stuck.
+#[derive(Clone, Copy)]
+pub enum Halt {
+    Normal,
+    Faulted(Fault),
+    Stuck,
+}
+
+/// How a run ended, and how many instructions it executed, the one that ended it too.
+#[derive(Clone, Copy)]
+pub struct Ran {
+    pub halt: Halt,
+    pub executed: u64,
+}
+
+/// A machine between two instructions.
+#[derive(Drop)]
+pub struct State {
+    /// The number of the next instruction.
+    pub at: usize,
+    /// The operands of all methods that are under way.
+    pub operands: Pile,
+    /// The locals of all methods that are under way.
+    pub locals: Pile,
+    /// The callers that wait.
+    pub frames: Frames,
+    /// The arguments of a call, while they are taken off the operands.
+    pub arguments: Arguments,
+    /// The global slots.
+    pub slots: List<Value>,
+    /// The parameters of the thread program that the program reads from.
+    pub parameters: List<Value>,
+    /// Where the step that is under way stands.
+    pub place: Place,
+    /// How many steps and calls may still begin.
+    pub left: u64,
+}
+
+impl State {
+    /// A machine with this data that has executed nothing.
+    pub fn new(alloc: Global, slots: List<Value>, parameters: List<Value>) -> State
+        ensures { data_of_state result ≡ record { slots = slots; hashes = []; iterators = []; parameters = parameters } }
+    {
+        State {
+            at: 0,
+            operands: Pile::new(alloc),
+            locals: Pile::new(alloc),
+            frames: Frames::new(alloc),
+            arguments: Arguments::new(alloc),
+            slots,
+            parameters,
+            place: Place { line: 0, column: 0 },
+            left: 0,
+        }
+    }
+
+    /// Goes to the entry of a unit, with a budget.
+    pub fn begin(&mut self, entry: u32, budget: u64)
+        ensures { machine_of_state self.new nothing_told ≡ unit_begun entry budget (data_of_state self.old) }
+    {
+        self.at = entry as usize;
+        self.operands.clear();
+        self.locals.clear();
+        self.frames.clear();
+        self.place = Place { line: 0, column: 0 };
+        self.left = budget;
+    }
+
+    /// Runs to the end of the unit.
+    pub fn run<S: UnitSink>(
+        &mut self,
+        alloc: Global,
+        code: &ProgramParts,
+        sink: &mut S,
+    ) -> Result<Ran, OutOfMemory>
+        requires executable { IsExecutable code.now }
+        requires small { work_left code.now.instrs (machine_of_state self.old nothing_told) < 2 ^ 63 }
+        ensures { IfOk result (λ ran. HasRunTo S.has_taken sink.old sink.new code.now (machine_of_state self.old nothing_told) ran.executed ran.halt self.new) }
+    {
+        instructions_leave_less();
+        let mut executed: u64 = 0;
+        'steps: loop {
+            let next = code.instrs.get(self.at);
+            executed += 1;
+            let Some(instr) = next else {
+                return Ok(Ran {
+                    halt: Halt::Stuck,
+                    executed,
+                });
+            };
+            if let Some(halt) = self.act(alloc, code, *instr, sink)? {
+                return Ok(Ran { halt, executed });
+            }
+        }
+    }
+
+    /// Executes one instruction, and tells how it ends the unit: None where the machine goes on.
+    #[inline]
+    pub fn act<S: UnitSink>(
+        &mut self,
+        alloc: Global,
+        code: &ProgramParts,
+        instr: Instr,
+        sink: &mut S,
+    ) -> Result<Option<Halt>, OutOfMemory>
+        requires at { self.old.at < 2 ^ 32 }
+        requires executed { IsTrue (is_executed instr) }
+        requires bounds { IsTrue (has_type_in_bounds instr) }
+        ensures { IfOk result (λ halt. IsSunkStep S.has_taken sink.old sink.new (λ told. perform code.now (kind_of instr) (machine_of_state self.old told)) self.new halt) }
+    {
+        match shape_of(instr) {
+            Shape::Write(number) => self.write(alloc, code, number, sink),
+            Shape::Quiet(quiet) => self.act_quietly(alloc, code, instr, quiet),
+        }
+    }
+
+    // Executes one instruction that writes nothing.
+    #[inline]
+    fn act_quietly(
+        &mut self,
+        alloc: Global,
+        code: &ProgramParts,
+        instr: Instr,
+        quiet: Quiet,
+    ) -> Result<Option<Halt>, OutOfMemory>
+        requires at { self.old.at < 2 ^ 32 }
+        requires executed { IsTrue (is_executed instr) }
+        requires bounds { IsTrue (has_type_in_bounds instr) }
+        requires shape { HasQuietShape quiet (kind_of instr) }
+        ensures { IfOk result (λ halt. (told : UnitTold) → IsQuietStep (perform code.now (kind_of instr) (machine_of_state self.old told)) told self.new halt) }
+    {
+        match quiet {
+            Quiet::Operation(n) => self.operate(alloc, code, instr, n),
+            Quiet::Load(source) => self.load(alloc, code, source),
+            Quiet::Store(target) => Ok(self.store(target)),
+            Quiet::Discard => Ok(self.discard()),
+            Quiet::Tick(place) => Ok(self.tick(place)),
+            Quiet::Jump(to) => Ok(self.jump(to)),
+            Quiet::Test(wanted, to) => Ok(self.test(wanted, to)),
+            Quiet::Enter(number) => self.call(code, number),
+            Quiet::GoBack(has_result) => self.go_back(alloc, code, has_result),
+            Quiet::Raise(fault) => Ok(Some(Halt::Faulted(fault))),
+            Quiet::Finish => Ok(Some(Halt::Normal)),
+        }
+    }
+
+    // Puts the result of an operation in the place of its operands.
+    #[inline]
+    fn operate(
+        &mut self,
+        alloc: Global,
+        code: &ProgramParts,
+        instr: Instr,
+        n: usize,
+    ) -> Result<Option<Halt>, OutOfMemory>
+        requires at { self.old.at < 2 ^ 32 }
+        requires executed { IsTrue (is_executed instr) }
+        requires bounds { IsTrue (has_type_in_bounds instr) }
+        requires operands { operation_operands (kind_of instr) ≡ Some n }
+        ensures { IfOk result (λ halt. (told : UnitTold) → IsQuietStep (perform code.now (kind_of instr) (machine_of_state self.old told)) told self.new halt) }
+    {
+        let Some(operands) = self.operands.last(n) else {
+            return Ok(Some(Halt::Stuck));
+        };
+        let outcome = outcome_of(computed(alloc, instr, operands))?;
+        match outcome {
+            Err(fault) => Ok(Some(Halt::Faulted(fault))),
+            Ok(value) => {
+                self.operands.replace_last(n, value)?;
+                self.at += 1;
+                Ok(None)
+            }
+        }
+    }
+
+    // Puts a value of a constant, a slot or a local on top of the operands.
+    #[inline]
+    fn load(
+        &mut self,
+        alloc: Global,
+        code: &ProgramParts,
+        source: Source,
+    ) -> Result<Option<Halt>, OutOfMemory>
+        requires { self.old.at < 2 ^ 32 }
+        ensures { IfOk result (λ halt. (told : UnitTold) → IsQuietStep (perform code.now (Loads (load_source_of source)) (machine_of_state self.old told)) told self.new halt) }
+    {
+        let value = self.value_of(alloc, code, source)?;
+        self.operands.push(value)?;
+        self.at += 1;
+        Ok(None)
+    }
+
+    // The value of a constant, a slot or a local, null where there is none.
+    #[inline]
+    fn value_of(
+        &self,
+        alloc: Global,
+        code: &ProgramParts,
+        source: Source,
+    ) -> Result<Value, OutOfMemory>
+        ensures { IfOk result (λ value. value ≡ loaded_value code.now.constants (load_source_of source) (desk_of_state self.now)) }
+    {
+        match source {
+            Source::Constant(k) => match code.constants.get(k as usize) {
+                None => Ok(Value::Null),
+                Some(constant) => constant.value.copy(alloc),
+            },
+            Source::Slot(n) => copy_at(alloc, self.slots.as_slice(), n as usize),
+            Source::Local(n) => copy_at(alloc, self.locals.own(), n as usize),
+        }
+    }
+
+    // Pops the topmost operand into a slot, a local or a parameter.
+    #[inline]
+    fn store(&mut self, target: Target) -> Option<Halt>
+        requires { self.old.at < 2 ^ 32 }
+        ensures { (told : UnitTold) → IsQuietStep (on_desk (top_into (store_target_of target) self.old.operands.stack (desk_of_state self.old)) (machine_of_state self.old told)) told self.new result }
+    {
+        match target {
+            Target::Slot(n) => self.store_slot(n),
+            Target::Local(n) => self.store_local(n),
+            Target::Parameter(j) => self.store_parameter(j),
+        }
+    }
+
+    // Pops the topmost operand into a slot.
+    #[inline]
+    fn store_slot(&mut self, number: u32) -> Option<Halt>
+        requires { self.old.at < 2 ^ 32 }
+        ensures { (told : UnitTold) → IsQuietStep (on_desk (top_into (IntoSlot number) self.old.operands.stack (desk_of_state self.old)) (machine_of_state self.old told)) told self.new result }
+    {
+        let Some(value) = self.operands.pop() else {
+            return Some(Halt::Stuck);
+        };
+        set(&mut self.slots, number as usize, value);
+        self.at += 1;
+        None
+    }
+
+    // Pops the topmost operand into a local.
+    #[inline]
+    fn store_local(&mut self, number: u32) -> Option<Halt>
+        requires { self.old.at < 2 ^ 32 }
+        ensures { (told : UnitTold) → IsQuietStep (on_desk (top_into (IntoLocal number) self.old.operands.stack (desk_of_state self.old)) (machine_of_state self.old told)) told self.new result }
+    {
+        let Some(value) = self.operands.pop() else {
+            return Some(Halt::Stuck);
+        };
+        self.locals.set(number as usize, value);
+        self.at += 1;
+        None
+    }
+
+    // Pops the topmost operand into a parameter.
+    #[inline]
+    fn store_parameter(&mut self, number: u32) -> Option<Halt>
+        requires { self.old.at < 2 ^ 32 }
+        ensures { (told : UnitTold) → IsQuietStep (on_desk (top_into (IntoParameter number) self.old.operands.stack (desk_of_state self.old)) (machine_of_state self.old told)) told self.new result }
+    {
+        let Some(value) = self.operands.pop() else {
+            return Some(Halt::Stuck);
+        };
+        set(&mut self.parameters, number as usize, value);
+        self.at += 1;
+        None
+    }
+
+    // Drops the topmost operand.
+    #[inline]
+    fn discard(&mut self) -> Option<Halt>
+        requires { self.old.at < 2 ^ 32 }
+        ensures { (told : UnitTold) → IsQuietStep (on_desk (without_top self.old.operands.stack (desk_of_state self.old)) (machine_of_state self.old told)) told self.new result }
+    {
+        let Some(_value) = self.operands.pop() else {
+            return Some(Halt::Stuck);
+        };
+        self.at += 1;
+        None
+    }
+
+    // Begins a step of the budget.
+    #[inline]
+    fn tick(&mut self, place: Place) -> Option<Halt>
+        requires { self.old.at < 2 ^ 32 }
+        ensures { (told : UnitTold) → IsQuietStep (on_step self.old.left place (machine_of_state self.old told)) told self.new result }
+    {
+        self.place = place;
+        if self.left == 0 {
+            return Some(Halt::Faulted(Fault::BudgetSpent));
+        }
+        self.left -= 1;
+        self.at += 1;
+        None
+    }
+
+    // Goes on at the target.
+    #[inline]
+    fn jump(&mut self, target: u32) -> Option<Halt>
+        ensures { (told : UnitTold) → IsQuietStep (goes_to target (desk_of_state self.old) (progress_of_state self.old told) (machine_of_state self.old told)) told self.new result }
+    {
+        self.at = target as usize;
+        None
+    }
+
+    // Pops a condition, and goes on at the target where it comes out so.
+    #[inline]
+    fn test(&mut self, wanted: bool, target: u32) -> Option<Halt>
+        requires { self.old.at < 2 ^ 32 }
+        ensures { (told : UnitTold) → IsQuietStep (on_condition wanted target self.old.operands.stack (machine_of_state self.old told)) told self.new result }
+    {
+        let Some(value) = self.operands.pop() else {
+            return Some(Halt::Stuck);
+        };
+        self.at = place_tested(wanted, is_true(&value), target as usize, self.at + 1);
+        None
+    }
+
+    // Takes the arguments of a call off the operands, the first one on top, and tells whether there are so many.
+    #[tactic(auto, using(crate::proofs::CallLemmas::take_next, crate::proofs::CallLemmas::take_short))]
+    fn take(&mut self, number: usize) -> Result<bool, OutOfMemory>
+        ensures taken { IfOk result (λ enough. AreTaken enough (take_off number [] self.old.operands.stack) self.new.arguments self.new.operands.stack) }
+        ensures below { self.new.operands.below ≡ self.old.operands.below }
+        ensures rest { self.new ≡ record self.old { operands = self.new.operands; arguments = self.new.arguments } }
+    {
+        self.arguments.clear();
+        let mut left = number;
+        while left > 0 {
+            let Some(value) = self.operands.pop() else {
+                return Ok(false);
+            };
+            self.arguments.push(value)?;
+            left -= 1;
+        }
+        Ok(true)
+    }
+
+    // Calls a method.
+    fn call(&mut self, code: &ProgramParts, number: u32) -> Result<Option<Halt>, OutOfMemory>
+        requires { self.old.at < 2 ^ 32 }
+        ensures { IfOk result (λ halt. (told : UnitTold) → IsQuietStep (perform code.now (Enters number) (machine_of_state self.old told)) told self.new halt) }
+    {
+        let Some(method) = code.methods.get(number as usize) else {
+            return Ok(Some(Halt::Stuck));
+        };
+        self.call_method(method, number)
+    }
+
+    // Calls this method.
+    #[tactic(auto, using(crate::proofs::CallLemmas::frames_number))]
+    fn call_method(&mut self, method: &MethodPart, number: u32) -> Result<Option<Halt>, OutOfMemory>
+        requires { self.old.at < 2 ^ 32 }
+        ensures { IfOk result (λ halt. (told : UnitTold) → IsQuietStep (on_method number (Some method.now) (machine_of_state self.old told)) told self.new halt) }
+    {
+        if !self.take(method.parameters.len())? {
+            return Ok(Some(Halt::Stuck));
+        }
+        if self.left == 0 {
+            return Ok(Some(Halt::Faulted(Fault::BudgetSpent)));
+        }
+        self.left -= 1;
+        if self.frames.len() >= CALL_DEPTH {
+            return Ok(Some(Halt::Faulted(Fault::DepthReached)));
+        }
+        let caller = Waiting {
+            operands: self.operands.enter(),
+            locals: self.locals.enter(),
+            place: self.place,
+            to: self.at + 1,
+            callee: number,
+        };
+        self.frames.push(caller)?;
+        self.locals.fill(&mut self.arguments, method.locals.len())?;
+        self.at = method.entry as usize;
+        Ok(None)
+    }
+
+    // Goes back to the last caller.
+    fn go_back(
+        &mut self,
+        alloc: Global,
+        code: &ProgramParts,
+        has_result: bool,
+    ) -> Result<Option<Halt>, OutOfMemory>
+        ensures { IfOk result (λ halt. (told : UnitTold) → IsQuietStep (perform code.now (GoesBack has_result) (machine_of_state self.old told)) told self.new halt) }
+    {
+        if !has_result {
+            return self.resume(alloc, code, None);
+        }
+        let Some(value) = self.operands.pop() else {
+            return Ok(Some(Halt::Stuck));
+        };
+        self.resume(alloc, code, Some(value))
+    }
+
+    // Goes back to the last caller with this result, or with none.
+    fn resume(
+        &mut self,
+        alloc: Global,
+        code: &ProgramParts,
+        returned: Option<Value>,
+    ) -> Result<Option<Halt>, OutOfMemory>
+        ensures { IfOk result (λ halt. (told : UnitTold) (stack : Row) → IsQuietStep (on_return code.now (Some (as_list returned)) (machine_of_state self.old told).frames (with_operands stack (machine_of_state self.old told))) told self.new halt) }
+    {
+        let Some(caller) = self.frames.pop() else {
+            return Ok(Some(Halt::Stuck));
+        };
+        let Some(method) = code.methods.get(caller.callee as usize) else {
+            return Ok(Some(Halt::Stuck));
+        };
+        self.operands.leave(caller.operands);
+        self.operands.push_some(returned)?;
+        self.pass_back(alloc, method.parameters.as_slice())?;
+        self.locals.leave(caller.locals);
+        self.place = caller.place;
+        self.at = caller.to;
+        Ok(None)
+    }
+
+    // Puts the last values of in_out parameters on top of the caller's operands, in order.
+    #[tactic(auto, using(crate::proofs::CallLemmas::passing))]
+    fn pass_back(&mut self, alloc: Global, parameters: &[ParameterPart]) -> Result<(), OutOfMemory>
+        ensures stack { OnOk result (self.new.operands.stack ≡ with_in_outs parameters.now self.old.locals.own self.old.operands.stack) }
+        ensures below { OnOk result (self.new.operands.below ≡ self.old.operands.below) }
+        ensures rest { self.new ≡ record self.old { operands = self.new.operands } }
+    {
+        for (number, parameter) in parameters.iter().enumerate() {
+            let Some(value) = self.locals.own().get(number) else {
+                return Ok(());
+            };
+            self.operands.push_where(alloc, parameter.is_in_out, value)?;
+        }
+        Ok(())
+    }
+
+    // Gives a row of an output to the sink.
+    #[inline]
+    fn write<S: UnitSink>(
+        &mut self,
+        alloc: Global,
+        code: &ProgramParts,
+        number: u32,
+        sink: &mut S,
+    ) -> Result<Option<Halt>, OutOfMemory>
+        requires { self.old.at < 2 ^ 32 }
+        ensures { IfOk result (λ halt. IsSunkStep S.has_taken sink.old sink.new (λ told. perform code.now (Writes number) (machine_of_state self.old told)) self.new halt) }
+    {
+        let Some(output) = code.outputs.get(number as usize) else {
+            return Ok(Some(Halt::Stuck));
+        };
+        sink.take_row(alloc, number, output, self.slots.as_slice())?;
+        self.at += 1;
+        Ok(None)
+    }
+}
+
+// What a call says, where memory did not run out.
+#[inline]
+fn outcome_of(said: Result<Value, Stop<Fault>>) -> Result<Result<Value, Fault>, OutOfMemory>
+    ensures { IfOk result (λ outcome. (want : CallResult Value Fault) → Says said want → want ≡ outcome) }
+{
+    match said {
+        Ok(value) => Ok(Ok(value)),
+        Err(Stop::Refused(fault)) => Ok(Err(fault)),
+        Err(Stop::OutOfMemory) => Err(OutOfMemory),
+    }
+}
+
+// Where a test that came out so goes.
+#[inline]
+fn place_tested(wanted: bool, holds: bool, target: usize, next: usize) -> usize
+    ensures { result ≡ place_tested wanted holds target next }
+{
+    if wanted == holds { target } else { next }
+}
+
+// Whether a condition holds.
+#[inline]
+fn is_true(value: &Value) -> bool
+    ensures { result ≡ is_true value.now }
+{
+    match value.truth() {
+        Truth::Yes => true,
+        Truth::No | Truth::Unknown => false,
+    }
+}
