@@ -71,7 +71,7 @@ struct Lexed {
     end: Place,
 }
 
-fn lexed(alloc: Global, text: &Text) -> Option<Lexed> {
+fn read_tokens(alloc: Global, text: &Text) -> Option<Lexed> {
     match tokens(alloc, text) {
         Ok(tokens) => Some(Lexed {
             tokens,
@@ -112,7 +112,7 @@ fn show(rt: &HostRuntime, timed: bool, shape: &Shape, kilobytes: usize) -> anyho
 {
     let text = source(rt.alloc(), shape, kilobytes * 1024)?;
     let name = shape.name;
-    let Some(lexed) = lexed(rt.alloc(), &text) else {
+    let Some(lexed) = read_tokens(rt.alloc(), &text) else {
         println!(rt; "{name}, {kilobytes} KB: no tokens")?;
         return Ok(());
     };

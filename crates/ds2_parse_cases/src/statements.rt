@@ -19,6 +19,13 @@ fn say_return(said: &mut String, value: &Option<Expression>) -> Said {
     said.push(')')
 }
 
+// Says a condition behind its words, and a blank.
+fn say_condition(said: &mut String, words: &str, condition: &Expression) -> Said {
+    said.push_str(words)?;
+    say_expression(said, condition)?;
+    said.push(' ')
+}
+
 #[cycle(say_statements)]
 fn say_statement(said: &mut String, statement: &Statement) -> Said {
     match statement {
@@ -49,8 +56,8 @@ fn say_statement(said: &mut String, statement: &Statement) -> Said {
             otherwise,
             ..
         } => {
-            said.push('(')?;
-            say_branch(said, "if ", condition, then)?;
+            say_condition(said, "(if ", condition)?;
+            say_statement(said, then)?;
             say_others(said, others.as_slice())?;
             say_otherwise(said, " else ", otherwise)?;
             said.push(')')
@@ -76,19 +83,11 @@ fn say_statement(said: &mut String, statement: &Statement) -> Said {
     }
 }
 
-// Says a condition and the statement for when it holds.
-#[cycle(say_statements)]
-fn say_branch(said: &mut String, word: &str, condition: &Expression, then: &Statement) -> Said {
-    said.push_str(word)?;
-    say_expression(said, condition)?;
-    said.push(' ')?;
-    say_statement(said, then)
-}
-
 #[cycle(say_statements)]
 fn say_others(said: &mut String, others: &[ElseIf]) -> Said {
     for other in others {
-        say_branch(said, " else-if ", &other.condition, &other.then)?;
+        say_condition(said, " else-if ", &other.condition)?;
+        say_statement(said, &other.then)?;
     }
     Ok(())
 }
