@@ -1,2 +1,3 @@
 pub mod NameExamples
 pub mod InstanceExamples
+pub mod RuleExamples

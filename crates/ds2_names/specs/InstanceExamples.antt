@@ -4,7 +4,7 @@ use Rattle.std.specs.Prelude.{◌≡◌, ℕ, ◌+◌, codes, List, [], ◌∷�
 use Rattle.ds2_base.specs.declared.place.Refusal.{Refusal}
 use Rattle.ds2_token.specs.declared.kinds.TokenKind.TheVariants.{Text, Integer}
 use Rattle.ds2_token.specs.declared.token.Token.{Token}
-use Rattle.ds2_tree.specs.Expressions.{Variable, Member, Call, Arguments, NoArgument, Argument}
+use Rattle.ds2_tree.specs.Expressions.{Variable, Member, Arguments, NoArgument, Argument}
 use Rattle.ds2_tree.specs.Globals.{Method, GlobalItem, Declared, Listed, Defined}
 use Rattle.ds2_tree.specs.Statements as s
 use Rattle.ds2_tree.specs.declared.expressions.Callee.TheVariants as callee

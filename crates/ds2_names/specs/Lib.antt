@@ -6,3 +6,4 @@ pub mod UnitRules
 pub mod SourceLimits
 pub mod NameExamples
 pub mod InstanceExamples
+pub mod RuleExamples

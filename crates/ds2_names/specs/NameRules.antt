@@ -1,5 +1,5 @@
 -- The rules of names of a unit of a source: for each rule on what a name means the places at which it is broken.
-use Rattle.std.specs.Prelude.{ℕ, zero, suc, ◌+◌, ◌-◌, ◌*◌, Bool, true, false, not, ◌&&◌, ◌||◌, nat_le, nat_eq, bytes_eq, codes, if◌then◌else◌, List, [], ◌∷◌, ◌++◌, length, map, filter, fold, is_some, unwrap_or, Option, Some, None}
+use Rattle.std.specs.Prelude.{ℕ, zero, suc, ◌+◌, ◌-◌, ◌*◌, Bool, true, false, not, ◌&&◌, ◌||◌, nat_le, nat_eq, bytes_eq, codes, if◌then◌else◌, List, [], ◌∷◌, ◌++◌, length, map, filter, fold, is_some, is_none, unwrap_or, Option, Some, None}
 use Rattle.std.specs.List.{list_all, list_any}
 use Rattle.std.specs.Option.{option_map_or}
 use Rattle.ds2_base.specs.declared.place.Place.{Place}
@@ -19,7 +19,7 @@ use Rattle.ds2_tree.specs.declared.units.Renaming.{Renaming}
 use Rattle.ds2_value.specs.Row.{Columns}
 use Rattle.ds2_value.specs.Schema.{has_column}
 use Rattle.ds2_meaning.specs.ProgramTree.{is_listed}
-use Rattle.ds2_names.specs.SourceUnit.{TableColumns, spelled_name, spelled_text, PlacedName, placed_name, names_alone, is_earlier, listed_tokens, is_system_name, local_names, UnitSource, is_package, InstanceOf, AnyPackage, HashObject, HashIterator, AnyThread, SourceInstance, instance_named, KnownPackage, KnownThread, KnownUnit, package_named, thread_named, known_names, tables_of_reading, stage_token, SourceNames, vector_names, plain_globals, instance_names, all_globals, is_named}
+use Rattle.ds2_names.specs.SourceUnit.{TableColumns, spelled_name, spelled_text, PlacedName, placed_name, names_alone, is_earlier, listed_tokens, is_system_name, local_names, UnitSource, is_package, InstanceOf, AnyPackage, HashObject, HashIterator, AnyThread, SourceInstance, instance_named, KnownPackage, KnownThread, KnownUnit, package_named, thread_named, known_names, tables_of_reading, stage_token, stage_read, SourceNames, vector_names, plain_globals, instance_names, all_globals, is_named}
 use Rattle.ds2_names.specs.Uses.{NameUse, Values, Members, HandsOver, CallsOn, Sets, WritesTo, first_place, method_named, in_out_of, statements_uses}
 
 -- ---- words
@@ -69,6 +69,18 @@ uses_in names m = statements_uses (in_out_parameters names) m.body
 abbrev pub from_uses : SourceNames → (Method → NameUse → List Place) → List Place
 from_uses names rule = from_each (λ (m : Method). from_each (rule m) (uses_in names m)) names.methods
 
+-- the columns of a unit are known: it reads from no thread program, or from one that is known
+abbrev pub columns_are_known : SourceNames → Bool
+columns_are_known names = is_none (stage_token names.reading) || is_some (stage_read names.known names.instances (stage_token names.reading))
+
+-- a name that no global has may be a column of the unit, where its columns are not known
+abbrev pub may_be_column : SourceNames → List ℕ → Bool
+may_be_column names name = not (columns_are_known names) && not (is_named (all_globals names) name)
+
+-- a name is that of a global of any kind, or may be that of a column
+abbrev pub may_be_global : SourceNames → List ℕ → Bool
+may_be_global names name = is_named (all_globals names) name || may_be_column names name
+
 -- the options of an output
 abbrev pub options_of : Option OutputOptions → List OutputOption
 options_of None = []
@@ -76,13 +88,14 @@ options_of (Some options) = options.list
 
 -- ---- UnknownName, at the name
 
--- a name has a value in a method: it is one of its parameters and locals, or a global that is no instance
+-- a name has a value in a method: it is one of its parameters and locals, or a global that is no instance, or it may be a column
 abbrev pub is_in_scope : SourceNames → Method → List ℕ → Bool
-is_in_scope names m name = is_named (local_names m) name || is_named (plain_globals names) name
+is_in_scope names m name = is_named (local_names m) name || is_named (plain_globals names) name || may_be_column names name
 
--- a name is one of a method's parameters and locals, or any global: an instance, too, is there, although it may not be set
+-- a name is one of a method's parameters and locals, or any global, or may be a column: an instance, too, is there, although it may
+-- not be set
 abbrev pub is_known_name : SourceNames → Method → List ℕ → Bool
-is_known_name names m name = is_named (local_names m) name || is_named (all_globals names) name
+is_known_name names m name = is_named (local_names m) name || may_be_global names name
 
 -- `first` or `last`, which before a point and without arguments are always flags
 abbrev pub is_flag_word : Token → Bool
@@ -135,7 +148,7 @@ is_in_all_tables tables (i ∷ inputs) name = has_column name (tables (spelled_n
 -- the names of a hash object's key and data variables that are no globals
 abbrev pub unknown_hash_variables : SourceNames → List Token → List Place
 unknown_hash_variables names variables =
-    from_each (λ (t : Token). place_unless (is_named (all_globals names) (spelled_name t)) t.place) variables
+    from_each (λ (t : Token). place_unless (may_be_global names (spelled_name t)) t.place) variables
 
 -- a table has a column for each variable
 abbrev pub has_each_column : Columns → List Token → Bool
@@ -165,6 +178,11 @@ unknown_in_instance tables names (HashObject keys items table) =
 unknown_in_instance tables names (HashIterator hash) = place_unless (is_hash_name names (spelled_text hash)) hash.place
 unknown_in_instance tables names (AnyThread thread) = place_unless (is_some (thread_named names.known (spelled_name thread))) thread.place
 
+-- an instance is one of a known thread program
+abbrev pub is_known_thread : List KnownUnit → InstanceOf → Bool
+is_known_thread known (AnyThread thread) = is_some (thread_named known (spelled_name thread))
+is_known_thread known _ = false
+
 -- an instance is one of a thread program
 abbrev pub is_thread_instance : InstanceOf → Bool
 is_thread_instance (AnyThread thread) = true
@@ -184,7 +202,7 @@ unknown_stage names (Some t) = place_unless (is_stage_name names (spelled_name t
 abbrev pub unknown_names : TableColumns → SourceNames → List Place
 unknown_names tables names =
     from_uses names (unknown_in_use names)
-    ++ from_each (λ (t : Token). place_unless (is_named (all_globals names) (spelled_name t)) t.place) (all_listed_tokens names.unit)
+    ++ from_each (λ (t : Token). place_unless (may_be_global names (spelled_name t)) t.place) (all_listed_tokens names.unit)
     ++ from_each (λ (b : PlacedName). place_unless (is_in_all_tables tables (tables_of_reading names.reading) b.name) b.place) names.bys
     ++ from_each (λ (i : SourceInstance). unknown_in_instance tables names i.sort) names.instances
     ++ unknown_stage names (stage_token names.reading)
@@ -277,6 +295,10 @@ abbrev pub clashing_columns : SourceNames → source_output.OutputTable → List
 clashing_columns names o =
     let all = map (output_name (renamings_of o)) (columns_left names (options_of o.options)) in from_each (clashing_name all) all
 
+-- the outputs of a unit; `_null_` is none
+abbrev pub real_outputs : SourceNames → List source_output.OutputTable
+real_outputs names = filter (λ (o : source_output.OutputTable). not (bytes_eq (spelled_name o.table) (codes "_null_"))) names.outputs
+
 -- the name of a unit that a unit before it has; a data program has no name of its own
 abbrev pub duplicate_unit : List KnownUnit → Option Token → List Place
 duplicate_unit known None = []
@@ -293,7 +315,7 @@ duplicate_names names =
     ++ from_each (λ (m : Method). later_places (local_names m)) names.methods
     ++ later_places (output_names names)
     ++ from_each renamed_twice names.outputs
-    ++ from_each (clashing_columns names) names.outputs
+    ++ from_each (clashing_columns names) (real_outputs names)
 
 -- ---- UnknownMethod and WrongCount, at the method's name
 
@@ -420,9 +442,9 @@ wrong_counts names =
 
 -- ---- NotVariable, at the name
 
--- a global may be set: it is a variable, or a parameter of the thread program
+-- a global may be set: it is a variable, or a parameter of the thread program; so may what may be a column
 abbrev pub is_settable_global : SourceNames → List ℕ → Bool
-is_settable_global names name = is_named (vector_names names) name || is_named names.parameters name
+is_settable_global names name = is_named (vector_names names) name || is_named names.parameters name || may_be_column names name
 
 -- a name may be set in a method: it is one of its parameters or locals, or a global that may be set
 abbrev pub is_settable : SourceNames → Method → List ℕ → Bool

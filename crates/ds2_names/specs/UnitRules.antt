@@ -23,11 +23,11 @@ use Rattle.ds2_tree.specs.declared.units.OutputOption.{OutputOption}
 use Rattle.ds2_tree.specs.declared.units.OutputOption.TheVariants as option
 use Rattle.ds2_tree.specs.declared.units.OutputTable as source_output
 use Rattle.ds2_names.specs.Refusals.{scope_rank, least_refusal, broken_at}
-use Rattle.ds2_names.specs.SourceUnit.{TableColumns, spelled_name, PlacedName, placed_name, is_earlier, variable_declarations, local_names, UnitKind, OfPackage, OfThread, OfData, is_package, is_thread, InstanceOf, AnyPackage, HashObject, AnyThread, SourceInstance, KnownThread, KnownUnit, thread_named, tables_of_reading, stage_token, stage_read, SourceNames, names_of_source, instance_names, all_globals}
+use Rattle.ds2_names.specs.SourceUnit.{TableColumns, spelled_name, PlacedName, placed_name, is_earlier, variable_declarations, local_names, UnitKind, OfPackage, OfThread, OfData, is_package, is_thread, InstanceOf, AnyPackage, HashObject, AnyThread, SourceInstance, KnownThread, KnownUnit, thread_named, tables_of_reading, SourceNames, names_of_source, instance_names, all_globals}
 use Rattle.ds2_names.specs.Uses.{NameUse, CallsOn}
 use Rattle.ds2_meaning.specs.declared.refusals.ScopeKind.{ScopeKind}
 use Rattle.ds2_meaning.specs.declared.refusals.ScopeKind.TheVariants as kind
-use Rattle.ds2_names.specs.NameRules.{from_each, place_unless, spelled_number, uses_in, visible_instance, options_of, output_names, is_thread_instance, later_places, is_system, columns_left, unknown_names, duplicate_names, unknown_methods, wrong_counts, not_variables, aliased_arguments}
+use Rattle.ds2_names.specs.NameRules.{from_each, place_unless, spelled_number, uses_in, visible_instance, columns_are_known, options_of, real_outputs, is_known_thread, later_places, is_system, columns_left, unknown_names, duplicate_names, unknown_methods, wrong_counts, not_variables, aliased_arguments}
 
 -- ---- TooManyNames, at the name beyond a limit
 
@@ -51,7 +51,7 @@ abbrev pub too_many_names : SourceNames → List Place
 too_many_names names =
     beyond 1000 (places_of (all_globals names) ++ places_of names.bys ++ places_of names.bys)
     ++ from_each (λ (m : Method). beyond 1000 (places_of (local_names m))) names.methods
-    ++ beyond 16 (places_of (output_names names))
+    ++ beyond 16 (map (λ (o : source_output.OutputTable). o.table.place) (real_outputs names))
     ++ beyond 16 (map (λ (i : source_input.Input). i.table.place) (tables_of_reading names.reading))
     ++ beyond 16 (places_of names.bys)
     ++ beyond 64 (places_of (instance_names names))
@@ -172,11 +172,11 @@ is_system_method name names m = not (is_package names.unit.kind) && bytes_eq (sp
 abbrev pub may_write : SourceNames → Method → List Token → Bool
 may_write names m tables = is_system names (spelled_name m.name) && (not (is_thread names.unit.kind) || nat_eq (length tables) 0)
 
--- a call of `setparms` of an instance of a thread program
+-- a call of `setparms` of an instance of a known thread program
 abbrev pub is_setting : SourceNames → Method → Token → Token → Bool
 is_setting names m object method =
     bytes_eq (spelled_name method) (codes "setparms")
-    && option_map_or (λ (i : SourceInstance). is_thread_instance i.sort) (visible_instance names m (spelled_name object)) false
+    && option_map_or (λ (i : SourceInstance). is_known_thread names.known i.sort) (visible_instance names m (spelled_name object)) false
 
 -- `setparms` outside the body of `init`, at the instance
 abbrev pub misplaced_setting : SourceNames → Method → NameUse → List Place
@@ -246,10 +246,6 @@ misplaced names =
     ++ from_each (λ (o : source_output.OutputTable). later_places (map option_word (options_of o.options))) names.outputs
 
 -- ---- NoColumns, at the name of the output or the thread program
-
--- the columns of a unit are known: it reads from no thread program, or from one that is known
-abbrev pub columns_are_known : SourceNames → Bool
-columns_are_known names = is_none (stage_token names.reading) || is_some (stage_read names.known names.instances (stage_token names.reading))
 
 -- a place, where no column is left and the columns are known
 abbrev pub without_columns : SourceNames → List OutputOption → Place → List Place

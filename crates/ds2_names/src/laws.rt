@@ -1,6 +1,7 @@
 //! Small sources and the refusals of their names.
 ghost use Rattle.ds2_names.specs.InstanceExamples.{InstanceNameExamples, LimitExamples, UnitNameExamples};
 ghost use Rattle.ds2_names.specs.NameExamples.{NameExamples};
+ghost use Rattle.ds2_names.specs.RuleExamples.{OutputNameExamples, RuleNameExamples, UnknownThreadExamples};
 
 /// Small data programs and the refusals of their names.
 pub fn name_examples()
@@ -20,4 +21,19 @@ pub fn unit_name_examples()
 /// The limits over a source.
 pub fn limit_examples()
     ensures { LimitExamples }
+{}
+
+/// Options of outputs and `_null_`, and the refusals of their names.
+pub fn output_name_examples()
+    ensures { OutputNameExamples }
+{}
+
+/// BY variables, aliases, names that are given twice, and numbers.
+pub fn rule_name_examples()
+    ensures { RuleNameExamples }
+{}
+
+/// What an unknown thread program leaves open.
+pub fn unknown_thread_examples()
+    ensures { UnknownThreadExamples }
 {}
