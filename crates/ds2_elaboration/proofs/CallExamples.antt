@@ -9,6 +9,7 @@ unfolding str.chars str.is_utf8 lib.Utf8.encode fmt.digits
 function_examples = record {
   coalesce_of_numbers = refl;
   coalesce_of_texts = refl;
+  coalesce_of_one = refl;
   coalesce_of_nulls = refl;
   coalesce_of_unlike = refl;
   least_integer_type = refl;
@@ -53,8 +54,16 @@ choice_type_examples = record {
   counted_by_decimal = refl;
   counted_from_decimal = refl;
   counted_to_text = refl;
+  counted_by_step = refl;
+  decimal_step = refl;
+  tested_before = refl;
+  tested_behind = refl;
+  text_tested = refl;
+  selected_as_true = refl;
+  text_as_true = refl;
   selected_as_decimals = refl;
   unlike_test = refl;
+  two_kinds = refl;
   null_selected = refl;
   null_test_refused = refl;
 }

@@ -1,18 +1,17 @@
 -- Functions whose arguments break no rule become typed nodes.
-use Rattle.std.proofs.Common.{◌≡◌, ℕ, ◌≤◌, max, nat_le, bytes_eq, codes, Bool, true, false, not, ◌&&◌, ◌||◌, List, [], ◌∷◌, ◌++◌, length, map, fold, if◌then◌else◌, refl, sym, ap, ◌∙◌, subst, arith}
-use Rattle.std.proofs.lemmas.Bool.{and_parts, leb-true, le-leb}
+use Rattle.std.proofs.Common.{◌≡◌, max, Bool, true, false, ◌&&◌, [], ◌∷◌, if◌then◌else◌, refl, sym, ap, ◌∙◌, arith}
+use Rattle.std.proofs.lemmas.Bool.{and_parts}
 use Rattle.ds2_base.specs.declared.place.Place.{Place}
-use Rattle.ds2_token.specs.declared.token.Token.{Token}
 use Rattle.ds2_value.specs.Types.{in_bounds}
 use Rattle.ds2_value.specs.declared.ty.Ty.{Ty}
 use Rattle.ds2_value.specs.declared.ty.Ty.TheVariants.{BigInt, Decimal as DecimalOf, Char, Varchar}
-use Rattle.ds2_meaning.specs.IsTyped.{NamesInScope, class_of, Integers, Decimals, Texts, type_scale, type_width, decimal_result, expression_type, IsTypedExpression, AreTypedExpressions, IsApplication}
+use Rattle.ds2_meaning.specs.IsTyped.{NamesInScope, class_of, Decimals, type_scale, type_width, decimal_result, expression_type, IsTypedExpression, IsApplication}
 use Rattle.ds2_meaning.specs.TypedExpression.{TypedExpression, Applied}
 use Rattle.ds2_meaning.specs.declared.expressions.Function.{Function}
 use Rattle.ds2_meaning.specs.declared.expressions.Function.TheVariants as function
-use Rattle.ds2_elaboration.specs.FunctionTypes.{ElaboratedArgument, nodes_in_order, of_one_node, argument_refusals, elaborated_absolute, elaborated_whole, elaborated_length, elaborated_trim, remainder_node, elaborated_remainder}
-use Rattle.ds2_elaboration.specs.TypedForms.{IsSoundlyElaborated, IsSoundArgument, FormsAreTyped, EveryFormIsTyped}
-use Rattle.ds2_elaboration.specs.Typings.{Typing, Known, NullAt, Unknown, ElaboratedExpression, is_numeric_type, is_characters, is_integer_type, null_clash, widened_node}
+use Rattle.ds2_elaboration.specs.FunctionTypes.{ElaboratedArgument, nodes_in_order, of_one_node, argument_refusals, elaborated_absolute, elaborated_whole, elaborated_length, elaborated_trim, elaborated_remainder}
+use Rattle.ds2_elaboration.specs.TypedForms.{IsSoundlyElaborated, IsSoundArgument, EveryFormIsTyped}
+use Rattle.ds2_elaboration.specs.Typings.{is_numeric_type, is_characters, is_integer_type, widened_node}
 use Rattle.ds2_elaboration.proofs.Comparisons.{comparison_typed}
 use Rattle.ds2_elaboration.proofs.Outcome.{both_empty}
 use Rattle.ds2_elaboration.proofs.Operands.{Operand, operand, form_typed, integer, textual, wide, assigned_typed}

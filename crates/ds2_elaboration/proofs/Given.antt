@@ -1,10 +1,10 @@
 -- Of broken rules the first one is given.
-use Rattle.std.proofs.Common.{◌≡◌, ◌⊎◌, inl, inr, ℕ, ◌<◌, ◌≤◌, ◌==◌, nat_lt, nat_le, Bool, true, false, ◌&&◌, ◌||◌, List, [], ◌∷◌, ◌++◌, if◌then◌else◌, Option, Some, None, refl, sym, ap, ◌∙◌, subst, true≢false, arith}
+use Rattle.std.proofs.Common.{◌≡◌, ◌⊎◌, inl, inr, ℕ, ◌<◌, ◌≤◌, ◌==◌, nat_lt, nat_le, Bool, true, false, ◌&&◌, ◌||◌, List, [], ◌∷◌, if◌then◌else◌, Option, Some, None, refl, sym, ap, ◌∙◌, subst, true≢false, arith}
 use Rattle.std.specs.List.{AllByRecursion}
 use Rattle.std.proofs.lemmas.Bool.{cases_Bool, cases_order, cases_lt, or_cases, and_parts, or_left, or_right, and_from, ltb-true, leb-true, eqb-true, lt-ltb, le-leb, eq-eqb}
 use Rattle.ds2_base.specs.declared.place.Refusal.{Refusal}
 use Rattle.ds2_names.specs.Refusals.{scope_rank, type_rank, comes_before, first_of_both, least_refusal}
-use Rattle.ds2_elaboration.specs.ElaborationLaws.{IsAmong, FirstIsGiven, FirstRefusals}
+use Rattle.ds2_elaboration.specs.ElaborationLaws.{IsAmong, FirstRefusals}
 
 -- ---- the order of places and kinds
 

@@ -1,6 +1,7 @@
 pub mod OperatorExamples
 pub mod CallExamples
 pub mod SourceExamples
+pub mod VariableExamples
 pub mod Given
 pub mod Outcome
 pub mod Returning

@@ -1,6 +1,6 @@
 -- Operators that break no rule become typed nodes.
-use Rattle.std.proofs.Common.{◌≡◌, ℕ, ◌+◌, ◌≤◌, max, min, nat_le, Bool, true, false, not, ◌&&◌, ◌||◌, List, [], ◌∷◌, ◌++◌, if◌then◌else◌, refl, sym, ap, ◌∙◌, subst, arith}
-use Rattle.std.proofs.lemmas.Bool.{and_parts, or_cases, and_from, leb-true, le-leb}
+use Rattle.std.proofs.Common.{◌≡◌, ℕ, ◌+◌, ◌≤◌, max, min, nat_le, Bool, true, false, not, ◌&&◌, ◌||◌, [], ◌++◌, if◌then◌else◌, refl, sym, ap, ◌∙◌, subst, arith}
+use Rattle.std.proofs.lemmas.Bool.{and_parts, and_from, leb-true, le-leb}
 use Rattle.ds2_base.specs.declared.place.Place.{Place}
 use Rattle.ds2_token.specs.declared.token.Token.{Token}
 use Rattle.ds2_tree.specs.declared.expressions.ChainKind.{ChainKind}
@@ -8,18 +8,18 @@ use Rattle.ds2_tree.specs.declared.expressions.ChainKind.TheVariants as chain
 use Rattle.ds2_value.specs.Types.{in_bounds}
 use Rattle.ds2_value.specs.declared.ty.Ty.{Ty}
 use Rattle.ds2_value.specs.declared.ty.Ty.TheVariants.{BigInt, Decimal as DecimalOf, Char, Varchar}
-use Rattle.ds2_meaning.specs.IsTyped.{NamesInScope, class_of, Integers, Decimals, Texts, IsNumeric, type_scale, type_width, decimal_result, expression_type, IsTypedExpression, IsLeftOperand, IsOperation, IsPrefix}
-use Rattle.ds2_meaning.specs.TypedExpression.{TypedExpression, Widen}
+use Rattle.ds2_meaning.specs.IsTyped.{NamesInScope, class_of, Decimals, type_scale, type_width, decimal_result, expression_type, IsLeftOperand, IsOperation, IsPrefix}
+use Rattle.ds2_meaning.specs.TypedExpression.{TypedExpression}
 use Rattle.ds2_meaning.specs.declared.expressions.Operation.{Operation}
 use Rattle.ds2_meaning.specs.declared.expressions.Operation.TheVariants as operation
 use Rattle.ds2_meaning.specs.declared.expressions.Prefix.TheVariants as prefix
 use Rattle.ds2_meaning.specs.declared.refusals.TypeKind.TheVariants.{ScaleTooLarge}
 use Rattle.ds2_elaboration.specs.ExpressionTypes.{is_truth_chain, link_refusals}
-use Rattle.ds2_elaboration.specs.OperatorTypes.{is_plus, is_times, are_numeric_types, are_integer_types, scale_refusals, operator_refusals, ElaboratedLink, plain_link, decimal_link, sum_link, product_link, quotient_link, concatenation_link, elaborated_link, sign_prefix, elaborated_sign, elaborated_not}
+use Rattle.ds2_elaboration.specs.OperatorTypes.{is_plus, is_times, are_numeric_types, are_integer_types, scale_refusals, is_operand_type, pair_refusals, plain_link, decimal_link, product_link, quotient_link, concatenation_link, elaborated_link, elaborated_sign, elaborated_not}
 use Rattle.ds2_elaboration.specs.TypedForms.{IsOfTyping, IsSoundlyElaborated, IsLeft, LinkFits}
-use Rattle.ds2_elaboration.specs.Typings.{TypeRefusals, type_refusal_at, clash_unless, Typing, Known, NullAt, Unknown, ElaboratedExpression, where_both_known, null_clash, is_numeric_type, is_characters, is_integer_type, truth_refusals, widened_node}
+use Rattle.ds2_elaboration.specs.Typings.{TypeRefusals, type_refusal_at, Typing, Known, NullAt, Unknown, ElaboratedExpression, where_both_known, operand_clash, is_numeric_type, is_characters, is_integer_type, widened_node}
 use Rattle.ds2_elaboration.proofs.Outcome.{both_empty}
-use Rattle.ds2_elaboration.proofs.Operands.{unclashed, numeric, integer, textual, Operand, operand, truth_operand, form_typed, Wide, wide}
+use Rattle.ds2_elaboration.proofs.Operands.{unclashed, numeric, integer, textual, Operand, operand, truth_operand, form_typed, wide}
 
 sign_fits : (plus : Bool) (ty : Ty) → is_numeric_type ty ≡ true
     → IsPrefix (if plus then prefix.Plus else if is_integer_type ty then prefix.IntegerNegate else prefix.DecimalNegate) ty ty
@@ -150,9 +150,9 @@ module _ (names : NamesInScope) where
   no_scale_refusal true place h = refl
   no_scale_refusal false place h = cc
 
-  both_numbers : (b : Bool) (place : Place) (rest : TypeRefusals) → (if b then rest else clash_unless false place) ≡ [] → (b ≡ true) × (rest ≡ [])
-  both_numbers true place rest h = (refl, h)
-  both_numbers false place rest h = cc
+  of_numbers : (b : Bool) (rest : TypeRefusals) → b ≡ true → (if b then rest else []) ≡ [] → rest ≡ []
+  of_numbers true rest e h = h
+  of_numbers false rest e h = cc
 
   product_or_quotient : (times : Bool) (operator : Token) (ty : Ty) (node : TypedExpression) → is_times operator ≡ times → in_bounds ty ≡ true
       → is_numeric_type ty ≡ true → Operand names is_numeric_type node → scale_refusals operator ty (expression_type node) ≡ []
@@ -166,31 +166,29 @@ module _ (names : NamesInScope) where
       numbers x
   product_or_quotient false operator ty node e bounds numbers x h = quotient_fits ty node bounds numbers x
 
-  -- an operand, of whatever type
-  abbrev Any : TypedExpression → Type 0
-  Any node = IsTypedExpression names node × (in_bounds (expression_type node) ≡ true)
-
-  link_fits : (kind : ChainKind) → is_truth_chain kind ≡ false → (operator : Token) (ty : Ty) (node : TypedExpression) → in_bounds ty ≡ true → Any node
-      → operator_refusals kind operator ty (expression_type node) ≡ [] → LinkFits names ty (elaborated_link kind operator ty node)
-  link_fits chain.Sum k operator ty node bounds x h =
-      let p = and_parts (is_numeric_type ty) (is_numeric_type (expression_type node)) (unclashed (are_numeric_types ty (expression_type node)) operator.place h) in
-      sum_if (is_plus operator) (are_integer_types ty (expression_type node)) ty node refl bounds p.0 (record { typed = x.0; bounds = x.1; passes = p.1 })
-  link_fits chain.Product k operator ty node bounds x h =
-      let n = both_numbers (are_numeric_types ty (expression_type node)) operator.place (scale_refusals operator ty (expression_type node)) h in
-      let p = and_parts (is_numeric_type ty) (is_numeric_type (expression_type node)) n.0 in
-      product_or_quotient (is_times operator) operator ty node refl bounds p.0 (record { typed = x.0; bounds = x.1; passes = p.1 }) n.1
-  link_fits chain.Concatenation k operator ty node bounds x h =
-      let p = and_parts (is_characters ty) (is_characters (expression_type node)) (unclashed (is_characters ty && is_characters (expression_type node)) operator.place h) in
-      concatenation_fits ty node bounds p.0 (record { typed = x.0; bounds = x.1; passes = p.1 })
-  link_fits chain.And k operator ty node bounds x h = cc
-  link_fits chain.Or k operator ty node bounds x h = cc
+  link_fits : (kind : ChainKind) → is_truth_chain kind ≡ false → (operator : Token) (ty : Ty) (node : TypedExpression) → in_bounds ty ≡ true
+      → is_operand_type kind ty ≡ true → Operand names (is_operand_type kind) node
+      → pair_refusals kind operator ty (expression_type node) ≡ [] → LinkFits names ty (elaborated_link kind operator ty node)
+  link_fits chain.Sum k operator ty node bounds left x h =
+      sum_if (is_plus operator) (are_integer_types ty (expression_type node)) ty node refl bounds left (record { typed = x.typed; bounds = x.bounds; passes = x.passes })
+  link_fits chain.Product k operator ty node bounds left x h =
+      let numbers = and_from (is_numeric_type ty) (is_numeric_type (expression_type node)) left x.passes in
+      product_or_quotient (is_times operator) operator ty node refl bounds left (record { typed = x.typed; bounds = x.bounds; passes = x.passes })
+      (of_numbers (are_numeric_types ty (expression_type node)) (scale_refusals operator ty (expression_type node)) numbers h)
+  link_fits chain.Concatenation k operator ty node bounds left x h =
+      concatenation_fits ty node bounds left (record { typed = x.typed; bounds = x.bounds; passes = x.passes })
+  link_fits chain.And k operator ty node bounds left x h = cc
+  link_fits chain.Or k operator ty node bounds left x h = cc
 
   known_link : (kind : ChainKind) → is_truth_chain kind ≡ false → (operator : Token) (left : Typing) (ty : Ty) (typing : Typing) (node : TypedExpression)
-      → IsLeft left ty → IsOfTyping names typing node → null_clash left ≡ [] → null_clash typing ≡ [] → where_both_known left typing (operator_refusals kind operator) ≡ []
+      → IsLeft left ty → IsOfTyping names typing node → operand_clash (is_operand_type kind) operator.place left ≡ []
+      → operand_clash (is_operand_type kind) operator.place typing ≡ [] → where_both_known left typing (pair_refusals kind operator) ≡ []
       → LinkFits names ty (elaborated_link kind operator ty node)
   known_link kind k operator (Known t) ty (Known u) node l x a b h =
-      link_fits kind k operator ty node l.1 (x.0, x.2)
-      (ap (λ v. operator_refusals kind operator v (expression_type node)) l.0 ∙ ap (λ v. operator_refusals kind operator t v) x.1 ∙ h)
+      link_fits kind k operator ty node l.1
+      (ap (is_operand_type kind) l.0 ∙ unclashed (is_operand_type kind t) operator.place a)
+      (record { typed = x.0; bounds = x.2; passes = ap (is_operand_type kind) x.1 ∙ unclashed (is_operand_type kind u) operator.place b })
+      (ap (λ v. pair_refusals kind operator v (expression_type node)) l.0 ∙ ap (λ v. pair_refusals kind operator t v) x.1 ∙ h)
   known_link kind k operator (Known t) ty (NullAt place) node l x a b h = cc
   known_link kind k operator (Known t) ty Unknown node l x a b h = absurd x
   known_link kind k operator (NullAt place) ty typing node l x a b h = cc
@@ -200,8 +198,9 @@ module _ (names : NamesInScope) where
   pub next_link : (kind : ChainKind) → is_truth_chain kind ≡ false → (operator : Token) (left : Typing) (ty : Ty) (x : ElaboratedExpression)
       → IsLeft left ty → IsSoundlyElaborated names x → link_refusals kind operator left x ≡ [] → LinkFits names ty (elaborated_link kind operator ty x.node)
   next_link kind k operator left ty x l f h =
-      let rule = where_both_known left x.typing (operator_refusals kind operator) in
-      let p = both_empty (x.refusals ++ null_clash left ++ null_clash x.typing) rule h in
-      let q = both_empty (x.refusals ++ null_clash left) (null_clash x.typing) p.0 in
-      let r = both_empty x.refusals (null_clash left) q.0 in
+      let before = operand_clash (is_operand_type kind) operator.place left in
+      let behind = operand_clash (is_operand_type kind) operator.place x.typing in
+      let p = both_empty (x.refusals ++ before ++ behind) (where_both_known left x.typing (pair_refusals kind operator)) h in
+      let q = both_empty (x.refusals ++ before) behind p.0 in
+      let r = both_empty x.refusals before q.0 in
       known_link kind k operator left ty x.typing x.node l (f r.0) r.1 q.1 p.1

@@ -1,17 +1,16 @@
 -- Operands that break no rule are typed, and so are their conversions.
-use Rattle.std.proofs.Common.{◌≡◌, ℕ, ◌==◌, Bool, true, false, ◌&&◌, List, [], ◌∷◌, ◌++◌, if◌then◌else◌, Option, Some, None, refl, sym, ap, ◌∙◌, subst}
+use Rattle.std.proofs.Common.{◌≡◌, ◌==◌, Bool, true, false, [], ◌∷◌, ◌++◌, if◌then◌else◌, refl, sym, ap, ◌∙◌, subst}
 use Rattle.std.proofs.lemmas.Bool.{and_parts, eqb-true}
 use Rattle.ds2_base.specs.declared.place.Place.{Place}
 use Rattle.ds2_value.specs.Types.{in_bounds}
 use Rattle.ds2_value.specs.declared.ty.Ty.{Ty}
 use Rattle.ds2_value.specs.declared.ty.Ty.TheVariants.{BigInt, Decimal as DecimalOf, Char, Varchar}
-use Rattle.ds2_value.specs.declared.value.Value.TheVariants.{Null}
-use Rattle.ds2_meaning.specs.IsTyped.{NamesInScope, class_of, Integers, Decimals, Texts, IsNumeric, type_scale, expression_type, IsTypedExpression}
-use Rattle.ds2_meaning.specs.TypedExpression.{TypedExpression, Constant, Widen, Convert}
+use Rattle.ds2_meaning.specs.IsTyped.{NamesInScope, class_of, Decimals, Texts, IsNumeric, type_scale, expression_type, IsTypedExpression}
+use Rattle.ds2_meaning.specs.TypedExpression.{TypedExpression, Widen, Convert}
 use Rattle.ds2_meaning.specs.declared.refusals.TypeKind.TheVariants.{NotTruth}
 use Rattle.ds2_elaboration.specs.SourceTypes.{is_one_type}
 use Rattle.ds2_elaboration.specs.TypedForms.{IsOfTyping, IsSoundlyElaborated, IsInType}
-use Rattle.ds2_elaboration.specs.Typings.{TypeRefusals, type_refusal_at, clash_unless, Typing, Known, NullAt, Unknown, ElaboratedExpression, form_of_operands, is_numeric_type, is_characters, is_integer_type, is_assigned_from, where_known, null_clash, operand_clash, truth_refusals, assigned_refusals, widened_node, widened_for, in_type, assigned_node}
+use Rattle.ds2_elaboration.specs.Typings.{TypeRefusals, type_refusal_at, clash_unless, Typing, Known, NullAt, Unknown, ElaboratedExpression, form_of_operands, is_numeric_type, is_characters, is_integer_type, is_assigned_from, where_known, null_clash, operand_clash, truth_refusals, assigned_refusals, widened_node, in_type, assigned_node}
 use Rattle.ds2_elaboration.proofs.Outcome.{both_empty}
 
 pub unclashed : (b : Bool) (place : Place) → clash_unless b place ≡ [] → b ≡ true

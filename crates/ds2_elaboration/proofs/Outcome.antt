@@ -1,5 +1,5 @@
 -- A program has one outcome.
-use Rattle.std.proofs.Common.{◌≡◌, List, [], ◌∷◌, ◌++◌, Option, Some, None, Result, Ok, Err, refl, sym, ap, ◌∙◌}
+use Rattle.std.proofs.Common.{◌≡◌, List, [], ◌∷◌, ◌++◌, Option, Some, None, Ok, Err, refl, ap, ◌∙◌}
 use Rattle.ds2_base.specs.declared.place.Place.{Place}
 use Rattle.ds2_base.specs.declared.place.Refusal.{Refusal}
 use Rattle.ds2_tree.specs.Units.{DataProgram}
@@ -11,7 +11,7 @@ use Rattle.ds2_names.specs.UnitRules.{broken_name_rules}
 use Rattle.ds2_meaning.specs.declared.refusals.ScopeKind.{ScopeKind}
 use Rattle.ds2_meaning.specs.declared.refusals.ScopeKind.TheVariants.{TooManyNames}
 use Rattle.ds2_meaning.specs.declared.refusals.TypeKind.{TypeKind}
-use Rattle.ds2_elaboration.specs.Elaboration.{ProgramRefusal, OfNames, OfTypes, names_before_types, elaborated_program}
+use Rattle.ds2_elaboration.specs.Elaboration.{OfNames, OfTypes, names_before_types}
 use Rattle.ds2_elaboration.specs.ElaborationLaws.{BreaksNoRule, OneOutcome}
 use Rattle.ds2_elaboration.specs.ProgramTypes.{broken_type_rules, type_refusal, typed_program}
 use Rattle.ds2_elaboration.proofs.Given.{none_due}

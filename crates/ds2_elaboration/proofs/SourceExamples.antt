@@ -10,14 +10,24 @@ program_type_examples = record {
   no_return = refl;
   surely_returned = refl;
   returned_value_converted = refl;
+  widened_alone = refl;
+  joined_at_most = refl;
+  null_returned = refl;
+  decimal_returned = refl;
   columns_joined = refl;
   numbers_joined = refl;
   columns_clash = refl;
+  three_joined = refl;
+  third_clashes = refl;
+  second_of_three_clashes = refl;
   declared_clashes = refl;
   declared_clashes_first = refl;
+  declared_joins = refl;
+  declared_char_clashes = refl;
   outputs_made = refl;
   no_load = refl;
   one_load = refl;
+  merged = refl;
 }
 
 pub two_program_examples : TwoProgramExamples
@@ -25,6 +35,7 @@ unfolding str.chars str.is_utf8 lib.Utf8.encode fmt.digits
 two_program_examples = record {
   later_program_reads = refl;
   first_program_refused = refl;
+  first_types_refused = refl;
   second_program_refused = refl;
 }
 

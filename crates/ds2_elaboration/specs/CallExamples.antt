@@ -1,19 +1,18 @@
 -- Small calls and statements: what they become, or where they are refused.
-use Rattle.std.specs.Prelude.{◌≡◌, ℕ, codes, false, true, List, [], ◌∷◌, Option, Some, None, Result, Ok, Err}
+use Rattle.std.specs.Prelude.{◌≡◌, ℕ, codes, [], ◌∷◌, Some, None}
 use Rattle.ds2_tree.specs.Expressions.{Expression, Call}
-use Rattle.ds2_tree.specs.Statements.{Statement}
 use Rattle.ds2_tree.specs.declared.expressions.Callee.TheVariants as callee
-use Rattle.ds2_tree.specs.declared.expressions.ChainKind.TheVariants.{Sum, Concatenation}
-use Rattle.ds2_value.specs.declared.ty.Ty.TheVariants.{BigInt, Decimal as DecimalOf, Char, Varchar}
+use Rattle.ds2_tree.specs.declared.expressions.ChainKind.TheVariants.{Concatenation, And}
+use Rattle.ds2_value.specs.declared.ty.Ty.TheVariants.{BigInt, Decimal as DecimalOf, Varchar}
 use Rattle.ds2_value.specs.declared.value.Value.TheVariants.{Null}
 use Rattle.ds2_meaning.specs.ExampleWords.{col, int, function_of, global}
 use Rattle.ds2_names.specs.NameExamples.{word_in}
 use Rattle.ds2_meaning.specs.TypedExpression.{Constant, Widen, Convert, Called, NoArgument, ByValue, InOut, Then, NoExpression}
-use Rattle.ds2_meaning.specs.TypedStatement.{Invoke, Evaluate, If, Empty, SelectValue, When, NoOtherwise, Count, Finish}
+use Rattle.ds2_meaning.specs.TypedStatement.{Invoke, Evaluate, If, Empty, Select, SelectValue, When, NoOtherwise, Count, While, Until, Finish}
 use Rattle.ds2_meaning.specs.declared.expressions.Function.TheVariants as function
 use Rattle.ds2_meaning.specs.declared.refusals.TypeKind.TheVariants.{TypeClash, NotTruth}
-use Rattle.ds2_elaboration.specs.OperatorExamples.{become, setting, only, set_to, refused_in, value_d, value_e, value_c, value_v, value_i, value_j}
-use Rattle.ds2_elaboration.specs.SourceWords.{name_at, integer_at, null_at, parenthesis_at, sign_at, chained, compared_at, calling_at, arguments_from, sets, calls, if_at, counts_at, selects_at}
+use Rattle.ds2_elaboration.specs.OperatorExamples.{become, setting, only, set_to, refused_in, value_d, value_c, value_v, value_i, value_j}
+use Rattle.ds2_elaboration.specs.SourceWords.{name_at, integer_at, null_at, sign_at, chained, calling_at, arguments_from, calls, if_at, counts_at, counts_by_at, tests_at, selects_true_at, selects_at}
 
 -- null(argument), with the word in this column
 abbrev pub null_test_at : ℕ → Expression → Expression
@@ -27,6 +26,9 @@ pub record FunctionExamples : Type 0 where
   -- v = coalesce(c, v);
   pub coalesce_of_texts : setting (codes "v") (calling_at 104 (codes "coalesce") (name_at 113 (codes "c") ∷ name_at 116 (codes "v") ∷ []))
       ≡ set_to (codes "v") (function_of function.Coalesce (Varchar 5) (Convert value_c (Varchar 5) ∷ value_v ∷ []))
+  -- v = coalesce(c); : a VARCHAR
+  pub coalesce_of_one : setting (codes "v") (calling_at 104 (codes "coalesce") (name_at 113 (codes "c") ∷ []))
+      ≡ set_to (codes "v") (Convert (function_of function.Coalesce (Varchar 3) (Convert value_c (Varchar 3) ∷ [])) (Varchar 5))
   -- i = coalesce(null, null); and i = coalesce(i, c);
   pub coalesce_of_nulls : setting (codes "i") (calling_at 104 (codes "coalesce") (null_at 113 ∷ null_at 119 ∷ [])) ≡ refused_in TypeClash 104
   pub coalesce_of_unlike : setting (codes "i") (calling_at 104 (codes "coalesce") (name_at 113 (codes "i") ∷ name_at 116 (codes "c") ∷ [])) ≡ refused_in TypeClash 104
@@ -93,11 +95,25 @@ pub record ChoiceTypeExamples : Type 0 where
   pub counted_by_decimal : become (counts_at 100 (codes "d") (integer_at 107 (codes "1")) (integer_at 112 (codes "2")) ∷ []) ≡ refused_in TypeClash 103
   pub counted_from_decimal : become (counts_at 100 (codes "i") (name_at 107 (codes "d")) (integer_at 112 (codes "2")) ∷ []) ≡ refused_in TypeClash 107
   pub counted_to_text : become (counts_at 100 (codes "i") (integer_at 107 (codes "1")) (name_at 112 (codes "c")) ∷ []) ≡ refused_in TypeClash 112
+  -- do i = 1 to 2 by j; end; do i = 1 to 2 by d; end;
+  pub counted_by_step : become (counts_by_at 100 (codes "i") (integer_at 107 (codes "1")) (integer_at 112 (codes "2")) (name_at 117 (codes "j")) ∷ [])
+      ≡ only (Count (col 100) (global (codes "i")) (int 1) (int 2) (Some value_j) Finish)
+  pub decimal_step : become (counts_by_at 100 (codes "i") (integer_at 107 (codes "1")) (integer_at 112 (codes "2")) (name_at 117 (codes "d")) ∷ []) ≡ refused_in TypeClash 117
+  -- do while (d); end; do until (i); end; do until (c); end;
+  pub tested_before : become (tests_at 100 (codes "while") (name_at 110 (codes "d")) ∷ []) ≡ only (While (col 100) value_d Finish)
+  pub tested_behind : become (tests_at 100 (codes "until") (name_at 110 (codes "i")) ∷ []) ≡ only (Until (col 100) value_i Finish)
+  pub text_tested : become (tests_at 100 (codes "until") (name_at 110 (codes "c")) ∷ []) ≡ refused_in NotTruth 110
+  -- select; when (i, d); end; select; when (i, c); end; : each test is a condition
+  pub selected_as_true : become (selects_true_at 100 (name_at 114 (codes "i") ∷ name_at 117 (codes "d") ∷ []) ∷ [])
+      ≡ only (Select (col 100) (When (Then value_i (Then value_d NoExpression)) (Empty (col 998)) NoOtherwise))
+  pub text_as_true : become (selects_true_at 100 (name_at 114 (codes "i") ∷ name_at 117 (codes "c") ∷ []) ∷ []) ≡ refused_in NotTruth 117
   -- select (i); when (j, d); end; : one is a DECIMAL, so all are
   pub selected_as_decimals : become (selects_at 100 (name_at 108 (codes "i")) (name_at 118 (codes "j") ∷ name_at 121 (codes "d") ∷ []) ∷ [])
       ≡ only (SelectValue (col 100) (Widen value_i) (When (Then (Widen value_j) (Then value_d NoExpression)) (Empty (col 998)) NoOtherwise))
   -- select (c); when (v, i); end; : at the test
   pub unlike_test : become (selects_at 100 (name_at 108 (codes "c")) (name_at 118 (codes "v") ∷ name_at 121 (codes "i") ∷ []) ∷ []) ≡ refused_in TypeClash 121
+  -- select (c); when (c & i); end; : a text under `&`, and a number beside a text; of two kinds at one place the first is given
+  pub two_kinds : become (selects_at 100 (name_at 108 (codes "c")) (chained And 120 (codes "&") (name_at 118 (codes "c")) (name_at 122 (codes "i")) ∷ []) ∷ []) ≡ refused_in TypeClash 118
   -- select (null); when (i); end; select (i); when (null); end;
   pub null_selected : become (selects_at 100 (null_at 108) (name_at 118 (codes "i") ∷ []) ∷ []) ≡ refused_in TypeClash 108
   pub null_test_refused : become (selects_at 100 (name_at 108 (codes "i")) (null_at 118 ∷ []) ∷ []) ≡ refused_in TypeClash 118

@@ -1,5 +1,7 @@
 -- What becomes of the data programs of a source: typed programs in order, or the first refusal. A program's names come before its
--- types, and an earlier program before a later one.
+-- types, and an earlier program before a later one. The domain is sources of data programs that declare variables and methods
+-- alone and read tables alone: sources with packages, with thread programs, or with instances of them, hash objects or iterators
+-- are not in it, and of those nothing is said.
 use Rattle.std.specs.Prelude.{ℕ, bytes_eq, if◌then◌else◌, List, [], ◌∷◌, Option, Some, None, Result, Ok, Err}
 use Rattle.ds2_base.specs.declared.place.Refusal.{Refusal}
 use Rattle.ds2_tree.specs.Units.{DataProgram, SourcePart, AData}

@@ -1,5 +1,5 @@
 -- What becomes of the expressions of a method.
-use Rattle.std.specs.Prelude.{ℕ, ℤ, max, nat_eq, ◌+◌, ◌++◌, Bool, true, false, not, bytes_eq, codes, if◌then◌else◌, List, [], ◌∷◌, length, filter, position, unwrap_or, is_some, Option, Some, None}
+use Rattle.std.specs.Prelude.{ℕ, ℤ, max, ◌++◌, Bool, true, false, not, bytes_eq, codes, if◌then◌else◌, List, [], ◌∷◌, filter, position, unwrap_or, is_some, Option, Some, None}
 use Rattle.ds2_base.specs.Characters.{char_count}
 use Rattle.ds2_base.specs.declared.place.Place.{Place}
 use Rattle.ds2_decimal.specs.Decimal.{Decimal, digit_count}
@@ -24,13 +24,14 @@ use Rattle.ds2_meaning.specs.declared.methods.Parameter.{Parameter}
 use Rattle.ds2_meaning.specs.IsTyped.{expression_type, type_in}
 use Rattle.ds2_meaning.specs.ProgramTree.{is_listed}
 use Rattle.ds2_meaning.specs.declared.refusals.TypeKind.TheVariants.{TypeClash}
-use Rattle.ds2_names.specs.SourceUnit.{spelled_name, is_system_name}
+use Rattle.ds2_names.specs.NameRules.{from_each}
+use Rattle.ds2_names.specs.SourceUnit.{PlacedName, spelled_name, is_system_name}
 use Rattle.ds2_meaning.specs.TypedExpression as tree
 use Rattle.ds2_names.specs.Uses.{first_place, method_named}
 use Rattle.ds2_elaboration.specs.FunctionTypes.{ElaboratedArgument, elaborated_null_test, elaborated_function}
-use Rattle.ds2_elaboration.specs.OperatorTypes.{operator_refusals, ElaboratedLink, elaborated_link, elaborated_comparison, elaborated_sign, elaborated_not}
+use Rattle.ds2_elaboration.specs.OperatorTypes.{is_operand_type, pair_refusals, ElaboratedLink, elaborated_link, elaborated_comparison, elaborated_sign, elaborated_not}
 use Rattle.ds2_elaboration.specs.SourceTypes.{is_one_type, elaborated_parameters, returned_type}
-use Rattle.ds2_elaboration.specs.Typings.{TypeRefusals, type_refusal_at, clash_unless, Typing, Known, NullAt, Unknown, ElaboratedExpression, form_of_type, typing_behind, form_of_operands, elaborated_null, elaborated_nameless, where_known, where_both_known, null_clash, truth_refusals, assigned_refusals, assigned_node}
+use Rattle.ds2_elaboration.specs.Typings.{TypeRefusals, type_refusal_at, clash_unless, Typing, ElaboratedExpression, form_of_type, typing_behind, form_of_operands, elaborated_null, elaborated_nameless, where_known, where_both_known, operand_clash, truth_refusals, assigned_refusals, assigned_node}
 
 -- ---- constants
 
@@ -69,10 +70,12 @@ constant_node t = if is_integer t then integer_constant t else if is_decimal t t
 
 -- ---- names
 
--- what the statements of a method see: the variables of the vector, the `in=` flags and BY variables, the parameters and locals
--- that hide them, the methods of the unit that can be called, the names of its outputs, and the type that the method returns
+-- what the statements of a method see: the variables of the vector, those columns among them whose tables do not join, each at the
+-- table at which they do not, the `in=` flags and BY variables, the parameters and locals that hide them, the methods of the unit
+-- that can be called, the names of its outputs, and the type that the method returns
 pub record TypeScope : Type 0 where
   pub variables : List typed.Variable
+  pub unjoined : List PlacedName
   pub flags : List (List ℕ)
   pub bys : List (List ℕ)
   pub locals : List typed.Variable
@@ -80,34 +83,44 @@ pub record TypeScope : Type 0 where
   pub outputs : List (List ℕ)
   pub returns : Option Ty
 
--- a variable that a name stands for, with its type
+-- a variable that a name stands for, with its type, and the rule that is broken where it is a column whose tables do not join
 pub record KnownVariable : Type 0 where
   pub reference : Reference
   pub ty : Ty
+  pub refusals : TypeRefusals
+
+-- what is known of the type of a variable: nothing where it is a column whose tables do not join
+abbrev pub variable_typing : KnownVariable → Typing
+variable_typing v = typing_behind v.refusals v.ty
+
+-- TypeClash at the table at which the tables of a column of this name do not join
+abbrev pub unjoined_refusals : TypeScope → List ℕ → TypeRefusals
+unjoined_refusals scope name = from_each (λ (c : PlacedName). if bytes_eq c.name name then type_refusal_at TypeClash c.place else []) scope.unjoined
 
 -- what a name stands for: a parameter or local, else a variable of the vector, else an `in=` flag
 abbrev pub known_variable : TypeScope → List ℕ → Option KnownVariable
 known_variable scope name = of_local (type_in scope.locals name)
   where
     of_global : Option Ty → Option KnownVariable
-    of_global (Some ty) = Some (record { reference = At (Named name); ty = ty })
-    of_global None = if is_listed scope.flags name then Some (record { reference = At (Present name); ty = BigInt }) else None
+    of_global (Some ty) = Some (record { reference = At (Named name); ty = ty; refusals = unjoined_refusals scope name })
+    of_global None = if is_listed scope.flags name then Some (record { reference = At (Present name); ty = BigInt; refusals = [] }) else None
 
     of_local : Option Ty → Option KnownVariable
-    of_local (Some ty) = Some (record { reference = Local name; ty = ty })
+    of_local (Some ty) = Some (record { reference = Local name; ty = ty; refusals = [] })
     of_local None = of_global (type_in scope.variables name)
 
 -- the value of a variable
 abbrev pub variable_node : KnownVariable → tree.TypedExpression
 variable_node v = tree.Variable v.reference v.ty
 
--- a variable that a name stands for, as an expression
+-- a variable that a name stands for, as an expression; a column whose tables do not join is refused at their place once more, and
+-- nothing around it is refused for its type
 abbrev pub elaborated_variable : TypeScope → Token → ElaboratedExpression
 elaborated_variable scope name = of_variable (known_variable scope (spelled_name name))
   where
     of_variable : Option KnownVariable → ElaboratedExpression
     of_variable None = elaborated_nameless name.place
-    of_variable (Some v) = form_of_operands [] (variable_node v)
+    of_variable (Some v) = form_of_operands v.refusals (variable_node v)
 
 -- a flag of a BY variable, which is a BIGINT
 abbrev pub flag_node : Global → tree.TypedExpression
@@ -222,10 +235,14 @@ pub record ElaboratedLinks : Type 0 where
 abbrev pub with_link : ElaboratedLink → ElaboratedLinks → ElaboratedLinks
 with_link link rest = record { refusals = rest.refusals; links = tree.Link link.widens link.operation link.operand link.ty rest.links }
 
--- a further operand of a chain breaks its own rules, and those of its operator beside what stands before it
+-- a further operand of a chain breaks its own rules; it and what stands before it are each such as the operator takes them, else
+-- TypeClash at the operator, and null may stand on neither side; what is wrong with both together is looked at where both are known
 abbrev pub link_refusals : ChainKind → Token → Typing → ElaboratedExpression → TypeRefusals
 link_refusals kind operator left x =
-    x.refusals ++ null_clash left ++ null_clash x.typing ++ where_both_known left x.typing (operator_refusals kind operator)
+    x.refusals
+    ++ operand_clash (is_operand_type kind) operator.place left
+    ++ operand_clash (is_operand_type kind) operator.place x.typing
+    ++ where_both_known left x.typing (pair_refusals kind operator)
 
 -- the operands of a chain of `and` or `or` are numbers, each by itself
 abbrev pub is_truth_chain : ChainKind → Bool

@@ -1,17 +1,17 @@
 -- The rules of functions: what arguments they take, and what they become.
 use Rattle.std.specs.Prelude.{ℕ, max, nat_le, length, Bool, true, false, ◌&&◌, ◌||◌, not, bytes_eq, codes, if◌then◌else◌, List, [], ◌∷◌, ◌++◌, map, fold}
-use Rattle.std.specs.List.{list_all, list_any}
+use Rattle.std.specs.List.{list_all}
 use Rattle.ds2_base.specs.declared.place.Place.{Place}
 use Rattle.ds2_token.specs.declared.token.Token.{Token}
 use Rattle.ds2_value.specs.declared.ty.Ty.{Ty}
-use Rattle.ds2_value.specs.declared.ty.Ty.TheVariants.{BigInt, Decimal as DecimalOf, Varchar}
+use Rattle.ds2_value.specs.declared.ty.Ty.TheVariants.{BigInt, Varchar}
 use Rattle.ds2_meaning.specs.IsTyped.{expression_type, type_scale, type_width, decimal_result}
 use Rattle.ds2_names.specs.NameRules.{from_each}
 use Rattle.ds2_names.specs.SourceUnit.{spelled_name}
 use Rattle.ds2_meaning.specs.TypedExpression.{TypedExpression, TypedExpressions, NoExpression, Then, Applied}
 use Rattle.ds2_meaning.specs.declared.expressions.Function.{Function}
 use Rattle.ds2_meaning.specs.declared.expressions.Function.TheVariants as function
-use Rattle.ds2_elaboration.specs.Typings.{TypeRefusals, clash_unless, Typing, Known, NullAt, Unknown, ElaboratedExpression, form_of_type, form_of_operands, elaborated_nameless, is_numeric_type, is_characters, is_integer_type, null_clash, operand_clash, widened_node, assigned_node}
+use Rattle.ds2_elaboration.specs.Typings.{TypeRefusals, clash_unless, Typing, Known, NullAt, ElaboratedExpression, form_of_type, form_of_operands, elaborated_nameless, is_numeric_type, is_characters, is_integer_type, null_clash, operand_clash, widened_node, assigned_node}
 
 -- an argument, with the place of its first token
 pub record ElaboratedArgument : Type 0 where

@@ -1,5 +1,5 @@
 -- The layout of a program: a number, a slot, for each variable and flag, and for each output the slots of its columns.
-use Rattle.std.specs.Prelude.{ℕ, Bool, bytes_eq, if◌then◌else◌, List, [], ◌∷◌, ◌++◌, map, position, unwrap_or, Option, Some, None}
+use Rattle.std.specs.Prelude.{ℕ, if◌then◌else◌, List, [], ◌∷◌, ◌++◌, map, position, unwrap_or, Option, Some, None}
 use Rattle.ds2_value.specs.declared.ty.Ty.{Ty}
 use Rattle.ds2_value.specs.declared.ty.Ty.TheVariants.{BigInt}
 use Rattle.ds2_value.specs.declared.value.Value.{Value}

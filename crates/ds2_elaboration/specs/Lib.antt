@@ -11,5 +11,6 @@ pub mod SourceWords
 pub mod OperatorExamples
 pub mod CallExamples
 pub mod SourceExamples
+pub mod VariableExamples
 pub mod ElaborationLaws
 pub mod TypedForms

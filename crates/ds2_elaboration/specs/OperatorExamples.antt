@@ -1,11 +1,10 @@
 -- Small statements with operators: what they become, or where they are refused.
-use Rattle.std.specs.Prelude.{◌≡◌, ℕ, codes, false, true, List, [], ◌∷◌, Option, Some, None, Result, Ok, Err, pos}
+use Rattle.std.specs.Prelude.{◌≡◌, ℕ, codes, false, true, List, [], ◌∷◌, None, Result, Ok, Err}
 use Rattle.ds2_tree.specs.Expressions.{Expression}
 use Rattle.ds2_tree.specs.Statements.{Statement}
 use Rattle.ds2_tree.specs.Units.{DataProgram}
-use Rattle.ds2_tree.specs.declared.expressions.ChainKind.TheVariants.{Sum, Product, Concatenation, And}
+use Rattle.ds2_tree.specs.declared.expressions.ChainKind.TheVariants.{Sum, Product, Concatenation, And, Or}
 use Rattle.ds2_value.specs.declared.comparison.Comparison.TheVariants as comparison
-use Rattle.ds2_value.specs.declared.ty.Ty.{Ty}
 use Rattle.ds2_value.specs.declared.ty.Ty.TheVariants.{BigInt, Decimal as DecimalOf, Char, Varchar}
 use Rattle.ds2_value.specs.declared.value.Value.TheVariants.{Null}
 use Rattle.ds2_meaning.specs.ExampleWords.{col, int, plus, variable_of, value_of_type, decimal_constant, text_constant, negated, assign_at}
@@ -20,7 +19,7 @@ use Rattle.ds2_meaning.specs.declared.refusals.TypeKind.{TypeKind}
 use Rattle.ds2_meaning.specs.declared.refusals.TypeKind.TheVariants.{TypeClash, ScaleTooLarge, NotTruth}
 use Rattle.ds2_names.specs.SourceLimits.{before_all}
 use Rattle.ds2_elaboration.specs.Elaboration.{ProgramRefusal, OfNames, OfTypes, elaborated_program}
-use Rattle.ds2_elaboration.specs.SourceWords.{name_at, integer_at, decimal_at, text_at, null_at, parenthesis_at, sign_at, not_at, chained, chained_twice, compared_at, sets, returns_at, bigint_word, decimal_words, text_words, declares, parameter_at, in_out_at, returning, method_at, program_from}
+use Rattle.ds2_elaboration.specs.SourceWords.{name_at, integer_at, decimal_at, text_at, null_at, parenthesis_at, sign_at, not_at, chained, chained_twice, compared_at, calling_at, sets, returns_at, bigint_word, decimal_words, text_words, declares, parameter_at, in_out_at, returning, method_at, program_from}
 
 -- ---- the program around a statement
 
@@ -107,19 +106,30 @@ pub record OperatorExamples : Type 0 where
   -- d = d * e; : 22 digits behind the point
   pub product_scale : setting (codes "d") (chained Product 106 (codes "*") (name_at 104 (codes "d")) (name_at 108 (codes "e")))
       ≡ set_to (codes "d") (Convert (Chain value_d (Link false operation.DecimalMultiply value_e (DecimalOf 38 22) NoLink)) (DecimalOf 5 2))
+  -- d = i * d; : the left operand is widened
+  pub product_widened : setting (codes "d") (chained Product 106 (codes "*") (name_at 104 (codes "i")) (name_at 108 (codes "d")))
+      ≡ set_to (codes "d") (Convert (Chain value_i (Link true operation.DecimalMultiply value_d (DecimalOf 38 2) NoLink)) (DecimalOf 5 2))
+  -- d = e * d * e; : 42 digits behind the point at the second operator
+  pub second_scale_too_large : setting (codes "d") (chained_twice Product 106 (codes "*") 110 (codes "*") (name_at 104 (codes "e")) (name_at 108 (codes "d")) (name_at 112 (codes "e"))) ≡ refused_in ScaleTooLarge 110
   -- d = e * e; : 40 digits behind the point
   pub scale_too_large : setting (codes "d") (chained Product 106 (codes "*") (name_at 104 (codes "e")) (name_at 108 (codes "e"))) ≡ refused_in ScaleTooLarge 106
   -- i = e * c; : a clash, and no product
   pub product_clash : setting (codes "i") (chained Product 106 (codes "*") (name_at 104 (codes "e")) (name_at 108 (codes "c"))) ≡ refused_in TypeClash 106
   -- i = c + 1;
   pub sum_clash : setting (codes "i") (chained Sum 106 (codes "+") (name_at 104 (codes "c")) (integer_at 108 (codes "1"))) ≡ refused_in TypeClash 106
-  -- i = c + 1 + v; : behind a refused operator no further one is
+  -- i = c + 1 + v; : the first operator
   pub first_operator : setting (codes "i") (chained_twice Sum 106 (codes "+") 110 (codes "+") (name_at 104 (codes "c")) (integer_at 108 (codes "1")) (name_at 112 (codes "v"))) ≡ refused_in TypeClash 106
   -- i = i + 1 + v; : the second operator
   pub second_operator : setting (codes "i") (chained_twice Sum 106 (codes "+") 110 (codes "+") (name_at 104 (codes "i")) (integer_at 108 (codes "1")) (name_at 112 (codes "v"))) ≡ refused_in TypeClash 110
   -- i = null + 1; and i = (null) + 1; : at the word
   pub null_operand : setting (codes "i") (chained Sum 109 (codes "+") (null_at 104) (integer_at 111 (codes "1"))) ≡ refused_in TypeClash 104
   pub null_in_parentheses : setting (codes "i") (chained Sum 111 (codes "+") (parenthesis_at 104 (null_at 105)) (integer_at 113 (codes "1"))) ≡ refused_in TypeClash 105
+  -- i = c + null; i = c + trim(i); v = i || null; : an operand is refused whatever stands on the other side
+  pub text_beside_null : setting (codes "i") (chained Sum 106 (codes "+") (name_at 104 (codes "c")) (null_at 108)) ≡ refused_in TypeClash 106
+  pub text_beside_refused : setting (codes "i") (chained Sum 106 (codes "+") (name_at 104 (codes "c")) (calling_at 108 (codes "trim") (name_at 113 (codes "i") ∷ []))) ≡ refused_in TypeClash 106
+  pub number_beside_null : setting (codes "v") (chained Concatenation 106 (codes "||") (name_at 104 (codes "i")) (null_at 109)) ≡ refused_in TypeClash 106
+  -- i = null * c; : the word comes before the operator
+  pub null_before_text : setting (codes "i") (chained Product 109 (codes "*") (null_at 104) (name_at 111 (codes "c"))) ≡ refused_in TypeClash 104
   -- v = c || v; : eight characters, cut to five
   pub texts_joined : setting (codes "v") (chained Concatenation 106 (codes "||") (name_at 104 (codes "c")) (name_at 109 (codes "v")))
       ≡ set_to (codes "v") (Convert (Chain value_c (Link false operation.Concatenate value_v (Varchar 8) NoLink)) (Varchar 5))
@@ -140,6 +150,10 @@ pub record TruthTypeExamples : Type 0 where
   pub text_on_the_right : setting (codes "i") (chained And 106 (codes "&") (name_at 104 (codes "i")) (name_at 108 (codes "c"))) ≡ refused_in NotTruth 108
   pub text_on_the_left : setting (codes "i") (chained And 106 (codes "&") (name_at 104 (codes "c")) (name_at 108 (codes "i"))) ≡ refused_in NotTruth 104
   pub not_of_text : setting (codes "i") (not_at 104 (parenthesis_at 105 (name_at 106 (codes "c")))) ≡ refused_in NotTruth 105
+  -- i = i | d; i = i | c;
+  pub either : setting (codes "i") (chained Or 106 (codes "|") (name_at 104 (codes "i")) (name_at 108 (codes "d")))
+      ≡ set_to (codes "i") (Chain value_i (Link false operation.Or value_d BigInt NoLink))
+  pub either_of_text : setting (codes "i") (chained Or 106 (codes "|") (name_at 104 (codes "i")) (name_at 108 (codes "c"))) ≡ refused_in NotTruth 108
   -- i = ^null;
   pub not_of_null : setting (codes "i") (not_at 104 (null_at 105)) ≡ refused_in TypeClash 105
   -- i = i < d; : a BIGINT is widened

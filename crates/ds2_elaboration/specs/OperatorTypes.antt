@@ -1,14 +1,14 @@
 -- The rules of operators: what operands they take, and what they become.
-use Rattle.std.specs.Prelude.{ℕ, ◌+◌, max, min, nat_le, Bool, true, false, ◌&&◌, ◌||◌, not, codes, if◌then◌else◌, List, [], ◌∷◌, ◌++◌}
+use Rattle.std.specs.Prelude.{ℕ, ◌+◌, max, min, nat_le, Bool, false, ◌&&◌, ◌||◌, not, codes, if◌then◌else◌, [], ◌∷◌, ◌++◌}
 use Rattle.ds2_base.specs.declared.place.Place.{Place}
-use Rattle.ds2_token.specs.Words.{is_word, is_mark, is_one_of}
+use Rattle.ds2_token.specs.Words.{is_mark, is_one_of}
 use Rattle.ds2_token.specs.declared.token.Token.{Token}
 use Rattle.ds2_tree.specs.declared.expressions.ChainKind.{ChainKind}
 use Rattle.ds2_tree.specs.declared.expressions.ChainKind.TheVariants as chain
 use Rattle.ds2_value.specs.declared.comparison.Comparison.{Comparison}
 use Rattle.ds2_value.specs.declared.comparison.Comparison.TheVariants as comparison
 use Rattle.ds2_value.specs.declared.ty.Ty.{Ty}
-use Rattle.ds2_value.specs.declared.ty.Ty.TheVariants.{BigInt, Decimal as DecimalOf, Varchar}
+use Rattle.ds2_value.specs.declared.ty.Ty.TheVariants.{BigInt, Varchar}
 use Rattle.ds2_value.specs.declared.value.Value.TheVariants.{Null}
 use Rattle.ds2_meaning.specs.IsTyped.{expression_type, type_scale, type_width, decimal_result}
 use Rattle.ds2_meaning.specs.TypedExpression.{TypedExpression, Constant, Prefixed, Compared}
@@ -17,7 +17,7 @@ use Rattle.ds2_meaning.specs.declared.expressions.Operation.TheVariants as opera
 use Rattle.ds2_meaning.specs.declared.expressions.Prefix.{Prefix}
 use Rattle.ds2_meaning.specs.declared.expressions.Prefix.TheVariants as prefix
 use Rattle.ds2_meaning.specs.declared.refusals.TypeKind.TheVariants.{ScaleTooLarge}
-use Rattle.ds2_elaboration.specs.Typings.{TypeRefusals, type_refusal_at, clash_unless, Typing, Known, NullAt, Unknown, ElaboratedExpression, form_of_type, form_of_operands, is_numeric_type, is_characters, is_integer_type, are_comparable, where_both_known, null_clash, operand_clash, truth_refusals, widened_node}
+use Rattle.ds2_elaboration.specs.Typings.{TypeRefusals, type_refusal_at, clash_unless, Typing, Known, NullAt, ElaboratedExpression, form_of_type, form_of_operands, is_numeric_type, is_characters, is_integer_type, are_comparable, where_both_known, operand_clash, truth_refusals, widened_node}
 
 -- ---- operators between two operands
 
@@ -42,14 +42,15 @@ abbrev pub scale_refusals : Token → Ty → Ty → TypeRefusals
 scale_refusals operator a b =
     if not (is_times operator) || are_integer_types a b || nat_le (type_scale a + type_scale b) 38 then [] else type_refusal_at ScaleTooLarge operator.place
 
--- what an operator of a chain refuses of its operands' types: `+ - * /` take numbers, `||` takes texts; `and` and `or` look at
--- each operand by itself
-abbrev pub operator_refusals : ChainKind → Token → Ty → Ty → TypeRefusals
-operator_refusals chain.Sum operator a b = clash_unless (are_numeric_types a b) operator.place
-operator_refusals chain.Product operator a b = if are_numeric_types a b then scale_refusals operator a b else clash_unless false operator.place
-operator_refusals chain.Concatenation operator a b = clash_unless (is_characters a && is_characters b) operator.place
-operator_refusals chain.And operator a b = []
-operator_refusals chain.Or operator a b = []
+-- an operand of this type may stand in a chain: `||` takes texts, the others numbers
+abbrev pub is_operand_type : ChainKind → Ty → Bool
+is_operand_type chain.Concatenation ty = is_characters ty
+is_operand_type _ ty = is_numeric_type ty
+
+-- what an operator of a chain refuses of two types together: a product of numbers with too many digits behind the point
+abbrev pub pair_refusals : ChainKind → Token → Ty → Ty → TypeRefusals
+pair_refusals chain.Product operator a b = if are_numeric_types a b then scale_refusals operator a b else []
+pair_refusals _ operator a b = []
 
 -- a further operand of a chain: whether what stands before it is widened, the operation, the operand, and the type up to there
 pub record ElaboratedLink : Type 0 where

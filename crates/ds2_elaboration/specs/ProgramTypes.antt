@@ -1,15 +1,11 @@
 -- What becomes of a data program without packages and threads: the rules of types that it breaks, and its typed program.
-use Rattle.std.specs.Prelude.{ℕ, Bool, true, false, ◌&&◌, ◌||◌, not, bytes_eq, codes, if◌then◌else◌, List, [], ◌∷◌, ◌++◌, map, filter, is_some, Option, Some, None, Result, Ok, Err}
+use Rattle.std.specs.Prelude.{ℕ, Bool, false, ◌||◌, not, bytes_eq, codes, if◌then◌else◌, List, [], ◌++◌, map, filter, is_some, Option, Some, None}
 use Rattle.std.specs.List.{list_any}
 use Rattle.std.specs.Option.{option_map}
-use Rattle.ds2_base.specs.declared.place.Place.{Place}
 use Rattle.ds2_base.specs.declared.place.Refusal.{Refusal}
 use Rattle.ds2_token.specs.Words.{is_word}
-use Rattle.ds2_token.specs.declared.token.Token.{Token}
 use Rattle.ds2_tree.specs.Globals.{Method}
 use Rattle.ds2_tree.specs.Units.{DataProgram}
-use Rattle.ds2_tree.specs.declared.globals.Returns.{Returns}
-use Rattle.ds2_tree.specs.declared.readings.By.{By}
 use Rattle.ds2_tree.specs.declared.readings.ByVariable as source_by
 use Rattle.ds2_tree.specs.declared.readings.Input as source_input
 use Rattle.ds2_tree.specs.declared.readings.InputFlag.{InputFlag}
@@ -31,14 +27,14 @@ use Rattle.ds2_meaning.specs.declared.refusals.TypeKind.{TypeKind}
 use Rattle.ds2_meaning.specs.declared.refusals.TypeKind.TheVariants.{TypeClash, NoReturn}
 use Rattle.ds2_meaning.specs.IsTyped.{type_in}
 use Rattle.ds2_meaning.specs.Method.{MethodTree}
-use Rattle.ds2_names.specs.NameRules.{from_each, options_of, listed_in_statements, renamings_of, OutputName, output_name, columns_left}
+use Rattle.ds2_names.specs.NameRules.{from_each, options_of, listed_in_statements, renamings_of, output_name, columns_left}
 use Rattle.ds2_meaning.specs.ProgramTree.{BodyTree, UnitTree}
 use Rattle.ds2_names.specs.Refusals.{type_rank, least_refusal, broken_at}
-use Rattle.ds2_names.specs.SourceUnit.{TableColumns, spelled_name, names_alone, names_of_source, source_methods, reading_of_run, bys_of_reading}
+use Rattle.ds2_names.specs.SourceUnit.{TableColumns, spelled_name, names_alone, names_of_source, source_methods, bys_of_reading}
 use Rattle.ds2_meaning.specs.TypedStatement.{Finish}
 use Rattle.ds2_names.specs.Uses.{method_named}
 use Rattle.ds2_elaboration.specs.ExpressionTypes.{TypeScope, callable_methods}
-use Rattle.ds2_elaboration.specs.SourceTypes.{declared_variables, elaborated_parameters, variables_in_method, returned_type, program_variables, program_inputs, column_variables, clashing_tables}
+use Rattle.ds2_elaboration.specs.SourceTypes.{declared_variables, elaborated_parameters, variables_in_method, returned_type, program_variables, column_variables, unjoined_columns, clashing_tables}
 use Rattle.ds2_elaboration.specs.StatementTypes.{statements_refusals, statements_node, list_surely_returns}
 use Rattle.ds2_elaboration.specs.Typings.{TypeRefusals, type_refusal_at}
 
@@ -116,6 +112,7 @@ program_reading tables methods = of_run (method_named methods (codes "run"))
 abbrev pub scope_of_method : TableColumns → DataProgram → Method → TypeScope
 scope_of_method tables u m = record {
   variables = vector_variables tables u;
+  unjoined = unjoined_columns tables u;
   flags = names_alone (names_of_source tables u).flags;
   bys = names_alone (names_of_source tables u).bys;
   locals = variables_in_method m;

@@ -1,5 +1,5 @@
 -- The types of what the source of a data program names: declared variables, columns joined over the tables, parameters and locals.
-use Rattle.std.specs.Prelude.{ℕ, Bool, true, false, ◌&&◌, ◌==◌, bytes_eq, codes, if◌then◌else◌, List, [], ◌∷◌, ◌++◌, map, filter, not, is_some, Option, Some, None}
+use Rattle.std.specs.Prelude.{ℕ, Bool, true, false, ◌&&◌, ◌==◌, bytes_eq, codes, if◌then◌else◌, List, [], ◌∷◌, ◌++◌, map, is_some, Option, Some, None}
 use Rattle.ds2_base.specs.declared.place.Place.{Place}
 use Rattle.ds2_token.specs.Words.{is_word}
 use Rattle.ds2_token.specs.declared.token.Token.{Token}
@@ -120,7 +120,7 @@ clashing_table tables declared name typing (i ∷ inputs) =
     let behind = with_table declared typing (type_of_column name (tables (spelled_name i.table))) in
     clash_at_table i.table.place typing behind ++ clashing_table tables declared name behind inputs
 
--- the type of a column whose tables join; BIGINT stands for what has none, which is refused
+-- the type of a column whose tables join; BIGINT stands for what has none, which is refused and of which no type is known
 abbrev pub joined_type : ColumnTyping → Ty
 joined_type (Joined ty) = ty
 joined_type _ = BigInt
@@ -139,6 +139,13 @@ program_inputs u = tables_of_reading (reading_of_run (source_methods u.globals))
 abbrev pub column_variables : TableColumns → DataProgram → List typed.Variable
 column_variables tables u =
     map (λ (n : PlacedName). record { name = n.name; ty = joined_type (joined_over tables None n.name Absent (program_inputs u)) }) (names_of_source tables u).columns
+
+-- the columns of the reading statement that are not declared and whose tables do not join, each at the first table at which they
+-- do not
+abbrev pub unjoined_columns : TableColumns → DataProgram → List PlacedName
+unjoined_columns tables u =
+    from_each (λ (n : PlacedName). map (λ (place : Place). record { name = n.name; place = place }) (clashing_table tables None n.name Absent (program_inputs u)))
+    (names_of_source tables u).columns
 
 -- TypeClash of columns: for each column of the statement the first table at which its types do not fit
 abbrev pub clashing_tables : TableColumns → DataProgram → List Place

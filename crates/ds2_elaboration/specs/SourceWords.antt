@@ -1,10 +1,9 @@
 -- Words that the small sources of the examples are written with. Each takes the column at which it stands.
-use Rattle.std.specs.Prelude.{ℕ, ◌+◌, codes, List, [], ◌∷◌, Option, Some, None, Result, Ok, Err}
-use Rattle.ds2_base.specs.declared.place.Place.{Place}
+use Rattle.std.specs.Prelude.{ℕ, ◌+◌, codes, List, [], ◌∷◌, Option, Some, None}
 use Rattle.ds2_token.specs.declared.kinds.TokenKind.TheVariants as kind
 use Rattle.ds2_token.specs.declared.token.Token.{Token}
 use Rattle.ds2_tree.specs.Expressions.{Expression, Constant, Null, Variable, Call, Parenthesis, Sign, Chain, Comparison, Not, NoOperand, Operand, Arguments, NoArgument, Argument}
-use Rattle.ds2_tree.specs.Globals.{Method, GlobalItem, Declared, Defined}
+use Rattle.ds2_tree.specs.Globals.{GlobalItem, Declared, Defined}
 use Rattle.ds2_tree.specs.Statements as s
 use Rattle.ds2_tree.specs.Units.{DataProgram}
 use Rattle.ds2_tree.specs.declared.expressions.Callee.TheVariants as callee
@@ -15,7 +14,6 @@ use Rattle.ds2_tree.specs.declared.globals.Returns.{Returns}
 use Rattle.ds2_tree.specs.declared.globals.TypeName.{TypeName}
 use Rattle.ds2_tree.specs.declared.globals.TypeName.TheVariants as type_name
 use Rattle.ds2_tree.specs.declared.readings.Reading as source_reading
-use Rattle.ds2_tree.specs.declared.readings.Reading.TheVariants as read_as
 use Rattle.ds2_meaning.specs.ExampleWords.{col}
 use Rattle.ds2_names.specs.NameExamples.{word_in}
 
@@ -112,6 +110,24 @@ returns_at column value = s.Return (word_in column (codes "return")) (Some value
 abbrev pub counts_at : ℕ → List ℕ → Expression → Expression → s.Statement
 counts_at column variable start stop =
     s.Do (word_in column (codes "do")) (s.Counted (word_in (column + 3) variable) (col 999) start (word_in 999 (codes "to")) stop None) (col 999) s.NoStatement (word_in 999 (codes "end")) (col 999)
+
+-- do variable = start to stop by step; end; with the variable behind the word
+abbrev pub counts_by_at : ℕ → List ℕ → Expression → Expression → Expression → s.Statement
+counts_by_at column variable start stop step =
+    s.Do (word_in column (codes "do"))
+    (s.Counted (word_in (column + 3) variable) (col 999) start (word_in 999 (codes "to")) stop (Some (record { keyword = word_in 999 (codes "by"); value = step })))
+    (col 999) s.NoStatement (word_in 999 (codes "end")) (col 999)
+
+-- do while (condition); end; or do until (condition); end;
+abbrev pub tests_at : ℕ → List ℕ → Expression → s.Statement
+tests_at column word condition =
+    s.Do (word_in column (codes "do")) (s.Tested (word_in 999 word) (col 999) condition (col 999)) (col 999) s.NoStatement (word_in 999 (codes "end")) (col 999)
+
+-- select; when (tests) ; end;
+abbrev pub selects_true_at : ℕ → List Expression → s.Statement
+selects_true_at column tests =
+    s.Select (word_in column (codes "select")) None (col 999)
+    (s.When (word_in 999 (codes "when")) (col 999) (arguments_from tests) (col 999) (s.Empty (col 998)) s.NoWhen) s.NoOtherwise (word_in 999 (codes "end")) (col 999)
 
 -- select (value); when (tests) ; end;
 abbrev pub selects_at : ℕ → Expression → List Expression → s.Statement

@@ -1,11 +1,11 @@
 -- What becomes of the statements of a method: the rules of types that they break, and their typed statements.
-use Rattle.std.specs.Prelude.{ℕ, Bool, true, false, ◌&&◌, ◌||◌, not, bytes_eq, codes, if◌then◌else◌, List, [], ◌∷◌, ◌++◌, length, map, position, unwrap_or, Option, Some, None, pos}
+use Rattle.std.specs.Prelude.{ℕ, Bool, true, false, ◌&&◌, ◌||◌, bytes_eq, codes, if◌then◌else◌, List, [], ◌∷◌, ◌++◌, length, map, position, unwrap_or, Option, Some, None}
 use Rattle.std.specs.List.{list_any, range_with_len}
 use Rattle.ds2_base.specs.declared.place.Place.{Place}
 use Rattle.ds2_token.specs.Limits.{text_content}
 use Rattle.ds2_token.specs.Words.{is_word}
 use Rattle.ds2_token.specs.declared.token.Token.{Token}
-use Rattle.ds2_tree.specs.Expressions.{Expression, Arguments}
+use Rattle.ds2_tree.specs.Expressions.{Expression}
 use Rattle.ds2_tree.specs.Globals.{Method}
 use Rattle.ds2_tree.specs.Statements as s
 use Rattle.ds2_tree.specs.declared.expressions.Callee.{Callee}
@@ -13,25 +13,19 @@ use Rattle.ds2_tree.specs.declared.expressions.Callee.TheVariants as callee
 use Rattle.ds2_tree.specs.declared.statements.PutItem.{PutItem}
 use Rattle.ds2_tree.specs.declared.statements.PutItem.TheVariants as item
 use Rattle.ds2_value.specs.declared.ty.Ty.{Ty}
-use Rattle.ds2_value.specs.declared.ty.Ty.TheVariants.{BigInt}
-use Rattle.ds2_value.specs.declared.value.Value.TheVariants.{Int}
-use Rattle.ds2_meaning.specs.IsTyped.{expression_type}
 use Rattle.ds2_names.specs.SourceUnit.{spelled_name}
 use Rattle.ds2_meaning.specs.declared.location.Reference.{Reference}
 use Rattle.ds2_meaning.specs.declared.refusals.TypeKind.TheVariants.{TypeClash}
 use Rattle.ds2_names.specs.NameRules.{from_each}
 use Rattle.ds2_meaning.specs.ProgramTree.{is_listed}
-use Rattle.ds2_meaning.specs.TypedExpression as tree
 use Rattle.ds2_meaning.specs.TypedExpression.{TypedExpression}
 use Rattle.ds2_meaning.specs.TypedStatement as t
-use Rattle.ds2_meaning.specs.declared.expressions.Function.TheVariants as function
-use Rattle.ds2_meaning.specs.declared.expressions.Operation.TheVariants as operation
 use Rattle.ds2_names.specs.Uses.{callee_place, first_place, method_named}
-use Rattle.ds2_elaboration.specs.ExpressionTypes.{TypeScope, KnownVariable, known_variable, elaborated_variable, elaborated_flag, is_settable_reference, reference_or_none, number_of_method, ElaboratedArguments, arguments_for, elaborated_call, elaborated, elaborated_arguments}
+use Rattle.ds2_elaboration.specs.ExpressionTypes.{TypeScope, KnownVariable, variable_typing, known_variable, elaborated_variable, elaborated_flag, is_settable_reference, reference_or_none, number_of_method, arguments_for, elaborated_call, elaborated, elaborated_arguments}
 use Rattle.ds2_elaboration.specs.FunctionTypes.{ElaboratedArgument, nodes_in_order}
 use Rattle.ds2_elaboration.specs.OperatorTypes.{is_known_decimal}
 use Rattle.ds2_elaboration.specs.SourceTypes.{elaborated_parameters}
-use Rattle.ds2_elaboration.specs.Typings.{TypeRefusals, type_refusal_at, clash_unless, Typing, ElaboratedExpression, is_integer_type, are_comparable, where_both_known, null_clash, operand_clash, truth_refusals, assigned_refusals, widened_node, assigned_node}
+use Rattle.ds2_elaboration.specs.Typings.{TypeRefusals, type_refusal_at, clash_unless, Typing, Known, ElaboratedExpression, is_integer_type, are_comparable, where_known, where_both_known, null_clash, operand_clash, truth_refusals, assigned_refusals, widened_node, assigned_node}
 
 -- ---- parts of statements
 
@@ -68,10 +62,15 @@ module _ (scope : TypeScope) where
       of_variable None = None
       of_variable (Some v) = if is_settable_reference v.reference then Some v else None
 
-  -- a value is assigned to a target of its type, else TypeClash at the target; what may not be set is refused by the rules of names
+  -- a value is assigned to a target of its type, where that is known, else TypeClash at the target; what may not be set is refused by
+  -- the rules of names
   abbrev pub assignment_refusals : Place → Option KnownVariable → ElaboratedExpression → TypeRefusals
   assignment_refusals place None x = type_refusal_at TypeClash place
-  assignment_refusals place (Some v) x = assigned_refusals v.ty place x
+  assignment_refusals place (Some v) x = of_typing (variable_typing v)
+    where
+      of_typing : Typing → TypeRefusals
+      of_typing (Known ty) = assigned_refusals ty place x
+      of_typing _ = v.refusals ++ x.refusals
 
   -- target = value;
   abbrev pub assignment_node : Place → Option KnownVariable → ElaboratedExpression → t.TypedStatement
@@ -173,10 +172,10 @@ module _ (scope : TypeScope) where
   step_node None = None
   step_node (Some step) = Some (elaborated scope step.value).node
 
-  -- the variable of a counted loop is a BIGINT, else TypeClash at it
+  -- the variable of a counted loop is a BIGINT, where its type is known, else TypeClash at it
   abbrev pub counted_refusals : Place → Option KnownVariable → TypeRefusals
   counted_refusals place None = type_refusal_at TypeClash place
-  counted_refusals place (Some v) = clash_unless (is_integer_type v.ty) place
+  counted_refusals place (Some v) = v.refusals ++ where_known (variable_typing v) (λ ty. clash_unless (is_integer_type ty) place)
 
   -- the variable of a counted loop, or one that is never met
   abbrev pub counted_reference : Option KnownVariable → Reference

@@ -1,5 +1,5 @@
 -- Forms whose parts become typed expressions become typed expressions themselves, where they break no rule.
-use Rattle.std.specs.Prelude.{◌≡◌, ℕ, true, false, List, [], ◌∷◌}
+use Rattle.std.specs.Prelude.{◌≡◌, true, false, []}
 use Rattle.ds2_base.specs.declared.place.Place.{Place}
 use Rattle.ds2_token.specs.declared.token.Token.{Token}
 use Rattle.ds2_tree.specs.declared.expressions.ChainKind.{ChainKind}
@@ -9,7 +9,7 @@ use Rattle.ds2_meaning.specs.IsTyped.{NamesInScope, expression_type, IsTypedExpr
 use Rattle.ds2_meaning.specs.TypedExpression.{TypedExpression}
 use Rattle.ds2_meaning.specs.declared.expressions.Function.TheVariants.{Floor, Ceiling}
 use Rattle.ds2_elaboration.specs.ExpressionTypes.{is_truth_chain, link_refusals}
-use Rattle.ds2_elaboration.specs.FunctionTypes.{ElaboratedArgument, elaborated_absolute, elaborated_whole, elaborated_remainder, elaborated_length, elaborated_trim, elaborated_substring, elaborated_null_test}
+use Rattle.ds2_elaboration.specs.FunctionTypes.{ElaboratedArgument, elaborated_absolute, elaborated_whole, elaborated_remainder, elaborated_length, elaborated_trim}
 use Rattle.ds2_elaboration.specs.OperatorTypes.{ElaboratedLink, elaborated_link, elaborated_comparison, elaborated_sign, elaborated_not}
 use Rattle.ds2_elaboration.specs.Typings.{Typing, Known, NullAt, Unknown, ElaboratedExpression, assigned_refusals, assigned_node}
 

@@ -4,6 +4,7 @@ ghost use Rattle.ds2_elaboration.specs.TypedForms.{EveryFormIsTyped};
 ghost use Rattle.ds2_elaboration.specs.OperatorExamples.{OperatorExamples, TruthTypeExamples, AssignmentExamples};
 ghost use Rattle.ds2_elaboration.specs.CallExamples.{FunctionExamples, MethodCallExamples, ChoiceTypeExamples};
 ghost use Rattle.ds2_elaboration.specs.SourceExamples.{ProgramTypeExamples, TwoProgramExamples, LayoutExamples};
+ghost use Rattle.ds2_elaboration.specs.VariableExamples.{UnjoinedColumnExamples, VariableTypeExamples};
 
 /// Operators between operands, in small statements.
 pub fn operator_examples()
@@ -38,6 +39,16 @@ pub fn choice_type_examples()
 /// Methods, columns and outputs, in small programs.
 pub fn program_type_examples()
     ensures { ProgramTypeExamples }
+{}
+
+/// Columns whose tables do not join, in statements before the reading statement.
+pub fn unjoined_column_examples()
+    ensures { UnjoinedColumnExamples }
+{}
+
+/// Flags, and parameters and locals that hide globals, in small programs.
+pub fn variable_type_examples()
+    ensures { VariableTypeExamples }
 {}
 
 /// Sources of several programs.
