@@ -28,13 +28,13 @@ fn copied(alloc: Global, ty: Ty, cell: Cell) -> Result<Bytes, OutOfMemory>
 fn cells_are_read_and_written(rt: HostRuntime) {
     let alloc = rt.alloc();
     let quoted = copied(alloc, Ty::Varchar { n: 3 }, Cell::Quoted("y\"\"z\""));
-    assert!(&rt; quoted.is_ok_and(|bytes| bytes.as_slice() == b"\"y\"\"z\""));
+    assert!(&rt; quoted.is_ok_and(|bytes| bytes.as_slice() == b"\"y\"\"z\"".as_slice()));
     let escaped = copied(alloc, Ty::Char { n: 3 }, Cell::Plain("\\\\x"));
-    assert!(&rt; escaped.is_ok_and(|bytes| bytes.as_slice() == b"\\\\x "));
+    assert!(&rt; escaped.is_ok_and(|bytes| bytes.as_slice() == b"\\\\x ".as_slice()));
     let short = copied(alloc, Ty::Decimal { p: 3, s: 1 }, Cell::Plain("-0.5"));
-    assert!(&rt; short.is_ok_and(|bytes| bytes.as_slice() == b"-0.5"));
+    assert!(&rt; short.is_ok_and(|bytes| bytes.as_slice() == b"-0.5".as_slice()));
     let long = copied(alloc, Ty::Decimal { p: 20, s: 19 }, Cell::Plain("1"));
-    assert!(&rt; long.is_ok_and(|bytes| bytes.as_slice() == b"1.0000000000000000000"));
+    assert!(&rt; long.is_ok_and(|bytes| bytes.as_slice() == b"1.0000000000000000000".as_slice()));
     let ty = type_text(alloc, Ty::Decimal { p: 3, s: 1 });
-    assert!(&rt; ty.is_ok_and(|text| text == "decimal(3,1)"));
+    assert!(&rt; ty.is_ok_and(|text| text.as_str() == "decimal(3,1)"));
 }
