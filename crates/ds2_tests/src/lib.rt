@@ -1,13 +1,12 @@
 //! Each call that takes memory, once where there is enough, and generic code at types of its callers.
 //!
 //! Contracts say what each call answers, but each may answer want of memory: these tests see that it does not where there is memory.
+//! What a case program calls with ample memory stands in none of them.
 //! They stand in one crate above all others, since a crate with tests of its own is proved twice.
 #![tactic(auto)]
 
 #[cfg(test)]
 mod base;
-#[cfg(test)]
-mod command;
 #[cfg(test)]
 mod csv_cells;
 #[cfg(test)]
@@ -19,10 +18,6 @@ mod dealer;
 #[cfg(test)]
 mod decimal;
 #[cfg(test)]
-mod draft_code;
-#[cfg(test)]
-mod draft_machine;
-#[cfg(test)]
 mod hashes;
 #[cfg(test)]
 mod lexer;
@@ -32,7 +27,5 @@ mod outside;
 mod schedule;
 #[cfg(test)]
 mod tables;
-#[cfg(test)]
-mod trees;
 #[cfg(test)]
 mod values;
