@@ -28,4 +28,6 @@ mod schedule;
 #[cfg(test)]
 mod tables;
 #[cfg(test)]
+mod valid_code;
+#[cfg(test)]
 mod values;

@@ -1,5 +1,5 @@
 -- The test says yes exactly where the record of valid code stands.
-use Rattle.std.proofs.Common.{◌≡◌, ℕ, ◌≤◌, Bool, true, false, ◌&&◌, IsTrue, List, [], ◌∷◌, length, Option, Some, None, refl, sym, ap, ◌∙◌, arith}
+use Rattle.std.proofs.Common.{◌≡◌, ◌≤◌, Bool, true, ◌&&◌, IsTrue, List, [], ◌∷◌, length, Option, Some, None, refl, arith}
 use Rattle.std.specs.List.{list_all}
 use Rattle.std.specs.Option.{is_some}
 use Rattle.ds2_code.specs.declared.parts.ProgramParts.{ProgramParts}
@@ -24,14 +24,14 @@ module _ (code : ProgramParts) (stage : Option ProgramParts) where
 
   passes_valid : program_passes code stage ≡ true → IsValidProgram code stage
   passes_valid h =
-      let k = both (types_test && parts_test) (outputs_differ code && (jumps_test && layout_fits code stage)) h in
-      let l = both types_test parts_test k.0 in
-      let m = both (parts_in_range code) (lists_short code && values_allowed code) l.1 in
+      let k = both (parts_test && types_test) (outputs_differ code && (jumps_test && layout_fits code stage)) h in
+      let l = both parts_test types_test k.0 in
+      let m = both (parts_in_range code) (lists_short code && values_allowed code) l.0 in
       let n = both (lists_short code) (values_allowed code) m.1 in
       let o = both (outputs_differ code) (jumps_test && layout_fits code stage) k.1 in
       let p = both jumps_test (layout_fits code stage) o.1 in
       record {
-        types = suffice_types code (stage_parameters stage) l.0;
+        types = suffice_types code (stage_parameters stage) l.1;
         ranges = m.0;
         lists = n.0;
         values = n.1;
@@ -42,9 +42,10 @@ module _ (code : ProgramParts) (stage : Option ProgramParts) where
 
   valid_passes : IsValidProgram code stage → program_passes code stage ≡ true
   valid_passes v =
-      and_so (types_test && parts_test) (outputs_differ code && (jumps_test && layout_fits code stage))
-      (and_so types_test parts_test (types_suffice_is code (stage_parameters stage) v.types)
-      (and_so (parts_in_range code) (lists_short code && values_allowed code) v.ranges (and_so (lists_short code) (values_allowed code) v.lists v.values)))
+      and_so (parts_test && types_test) (outputs_differ code && (jumps_test && layout_fits code stage))
+      (and_so parts_test types_test
+      (and_so (parts_in_range code) (lists_short code && values_allowed code) v.ranges (and_so (lists_short code) (values_allowed code) v.lists v.values))
+      (types_suffice_is code (stage_parameters stage) v.types))
       (and_so (outputs_differ code) (jumps_test && layout_fits code stage) v.outputs
       (and_so jumps_test (layout_fits code stage) (jumps_are code.instrs v.steps) v.layout))
 

@@ -1,5 +1,5 @@
 -- The test along the list says yes exactly where operand types are determined and suffice.
-use Rattle.std.proofs.Common.{◌≡◌, ℕ, zero, suc, ◌+◌, ◌<◌, Bool, true, false, ◌&&◌, List, [], ◌∷◌, length, map, Option, Some, None, refl, sym, ap, ◌∙◌, subst, arith}
+use Rattle.std.proofs.Common.{◌≡◌, ℕ, zero, suc, ◌+◌, Bool, true, false, ◌&&◌, List, [], ◌∷◌, length, map, Option, Some, None, refl, sym, ap, ◌∙◌, subst, arith}
 use Rattle.std.specs.Prelude.{slice_get, if◌then◌else◌}
 use Rattle.std.specs.Option.{option_map}
 use Rattle.ds2_value.specs.declared.ty.Ty.{Ty}
@@ -9,9 +9,9 @@ use Rattle.ds2_code.specs.declared.parts.ProgramParts.{ProgramParts}
 use Rattle.ds2_code.specs.CodeBound.{jump_target, falls_through}
 use Rattle.ds2_code.specs.InstructionTable.{kind_of}
 use Rattle.ds2_code.specs.OperandTypes.{OperandTypes, CodeRole, OfUnit, OfMethod, signature_of, types_behind}
-use Rattle.ds2_code.specs.ValidCode.{CodePoint, point, unit_entries, entry_role, Arrives, behind_instruction, AlongList, HasOperandTypes}
+use Rattle.ds2_code.specs.ValidCode.{CodePoint, point, unit_entries, Arrives, behind_instruction, AlongList, HasOperandTypes}
 use Rattle.ds2_valid_code.specs.declared.owner.CodeOwner.{CodeOwner}
-use Rattle.ds2_valid_code.specs.declared.owner.CodeOwner.TheVariants.{Unit as UnitCode, Method as MethodCode}
+use Rattle.ds2_valid_code.specs.declared.owner.CodeOwner.TheVariants.{Unit as UnitCode}
 use Rattle.ds2_valid_code.specs.declared.scan.CodeMark.{CodeMark}
 use Rattle.ds2_valid_code.specs.OperandStack.{stands_empty}
 use Rattle.ds2_valid_code.specs.CodeScan.{owner_role, owner_of, same_owner, entry_table, entry_found, Standing, standing, arriving, types_onward, mark_of, on_standing, on_types, with_mark, scan_code, is_clear_for, lands_clear, jumps_land, units_clear, methods_clear, is_entered_clear, types_suffice}

@@ -1,12 +1,12 @@
 -- The scan along the list, step by step.
-use Rattle.std.proofs.Common.{◌≡◌, ℕ, zero, suc, ◌+◌, ◌<◌, Bool, true, false, List, [], ◌∷◌, ◌++◌, length, drop, Option, Some, None, refl, sym, ap, ◌∙◌, arith}
+use Rattle.std.proofs.Common.{◌≡◌, ℕ, zero, suc, ◌+◌, ◌<◌, Bool, List, [], ◌∷◌, ◌++◌, length, drop, Option, Some, None, refl, ap, ◌∙◌, arith}
 use Rattle.std.specs.Prelude.{slice_get}
 use Rattle.ds2_value.specs.declared.ty.Ty.{Ty}
 use Rattle.ds2_code.specs.declared.instr.Instr.{Instr}
 use Rattle.ds2_code.specs.declared.parts.ProgramParts.{ProgramParts}
 use Rattle.ds2_code.specs.CodeBound.{falls_through}
 use Rattle.ds2_code.specs.InstructionTable.{kind_of}
-use Rattle.ds2_code.specs.OperandTypes.{OperandTypes, types_behind}
+use Rattle.ds2_code.specs.OperandTypes.{types_behind}
 use Rattle.ds2_valid_code.specs.declared.owner.CodeOwner.{CodeOwner}
 use Rattle.ds2_valid_code.specs.declared.scan.CodeMark.{CodeMark}
 use Rattle.ds2_valid_code.specs.CodeScan.{owner_role, Standing, standing, arriving, entry_found, types_onward, mark_of, on_standing, on_types, with_mark, scan_code, no_entries}

@@ -1,5 +1,5 @@
 -- What instructions leave, by what is left of the operands.
-use Rattle.std.proofs.Common.{◌≡◌, ℕ, zero, suc, ◌+◌, ◌-◌, ◌<◌, Bool, true, false, ◌&&◌, List, [], ◌∷◌, ◌++◌, length, get_or, take, Option, Some, None, map, refl, sym, ap, ◌∙◌, arith}
+use Rattle.std.proofs.Common.{◌≡◌, ℕ, suc, ◌+◌, Bool, true, false, ◌&&◌, List, [], ◌∷◌, ◌++◌, Option, Some, None, map, refl, ap, ◌∙◌}
 use Rattle.std.specs.Prelude.{min, reverse, replicate, if◌then◌else◌}
 use Rattle.std.specs.Option.{option_map}
 use Rattle.std.proofs.lemmas.List.{reverse-append}
@@ -8,8 +8,8 @@ use Rattle.ds2_value.specs.declared.ty.Ty.{Ty}
 use Rattle.ds2_value.specs.declared.ty.Ty.TheVariants.{BigInt, Decimal as DecimalOf, Char, Varchar}
 use Rattle.ds2_code.specs.declared.parts.MethodPart.{MethodPart}
 use Rattle.ds2_code.specs.declared.parts.ParameterPart.{ParameterPart}
-use Rattle.ds2_code.specs.OperandTypes.{OperandTypes, OperandClass, OneType, AnyDecimal, AnyText, AnyType, is_of_class, is_text_type, text_length, TakenTypes, take_classes, with_type, one_for, none_for, when_none, none_below, always, by_scales, part_of_first, both_texts, with_in_out_types, with_result_type, after_call_types, call_types}
-use Rattle.ds2_valid_code.specs.OperandStack.{below_classes, part_of_top, part_of_found}
+use Rattle.ds2_code.specs.OperandTypes.{OperandTypes, OperandClass, OneType, AnyDecimal, AnyText, is_of_class, is_text_type, text_length, TakenTypes, take_classes, with_type, one_for, none_for, when_none, none_below, always, by_scales, part_of_first, both_texts, with_in_out_types, with_result_type, after_call_types, call_types}
+use Rattle.ds2_valid_code.specs.OperandStack.{below_classes, part_of_found}
 
 below_if : (b : Bool) (x : Option TakenTypes) (y : Option OperandTypes) → none_for x ≡ y → none_for (if b then x else None) ≡ (if b then y else None)
 below_if true x y e = e

@@ -1,8 +1,7 @@
 -- Operand types along the list, as a test that goes along it once. Whose code an instruction is, is known by a number.
-use Rattle.std.specs.Prelude.{ℕ, zero, suc, ◌+◌, ◌*◌, ◌%◌, ◌==◌, nat_lt, Bool, true, false, ◌&&◌, if◌then◌else◌, List, [], ◌∷◌, length, replicate, slice_get, slice_set, Option, Some, None, unwrap_or}
+use Rattle.std.specs.Prelude.{ℕ, suc, ◌+◌, ◌==◌, Bool, true, false, ◌&&◌, if◌then◌else◌, List, [], ◌∷◌, slice_get, slice_set, Option, Some, None, unwrap_or}
 use Rattle.std.specs.Option.{option_map}
 use Rattle.ds2_value.specs.declared.ty.Ty.{Ty}
-use Rattle.ds2_value.specs.declared.ty.Ty.TheVariants.{BigInt, Decimal as DecimalOf, Char, Varchar}
 use Rattle.ds2_code.specs.declared.instr.Instr.{Instr}
 use Rattle.ds2_code.specs.declared.parts.MethodPart.{MethodPart}
 use Rattle.ds2_code.specs.declared.parts.ParameterPart.{ParameterPart}

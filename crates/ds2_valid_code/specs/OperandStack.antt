@@ -1,7 +1,6 @@
 -- What is left of the types of operands when some are taken off.
 use Rattle.std.specs.Prelude.{ℕ, ◌+◌, max, Bool, true, false, if◌then◌else◌, List, [], ◌∷◌, Option, Some, None}
-use Rattle.ds2_value.specs.declared.ty.Ty.{Ty}
-use Rattle.ds2_value.specs.declared.ty.Ty.TheVariants.{BigInt, Varchar}
+use Rattle.ds2_value.specs.declared.ty.Ty.TheVariants.{Varchar}
 use Rattle.ds2_code.specs.OperandTypes.{OperandTypes, OperandClass, OneType, AnyDecimal, AnyText, AnyType, is_of_class, is_text_type, text_length}
 use Rattle.ds2_valid_code.specs.declared.stack.Class.{Class}
 use Rattle.ds2_valid_code.specs.declared.stack.Class.TheVariants as class

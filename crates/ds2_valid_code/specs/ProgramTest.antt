@@ -1,5 +1,5 @@
 -- Valid code as a test.
-use Rattle.std.specs.Prelude.{Bool, true, false, ◌&&◌, List, [], ◌∷◌, Option, Some, None}
+use Rattle.std.specs.Prelude.{Bool, false, ◌&&◌, List, [], ◌∷◌, Option, Some, None}
 use Rattle.std.specs.Option.{is_some}
 use Rattle.ds2_code.specs.declared.parts.ProgramParts.{ProgramParts}
 use Rattle.ds2_code.specs.declared.parts.StagedParts.{StagedParts}
@@ -10,7 +10,7 @@ use Rattle.ds2_valid_code.specs.CodeScan.{types_suffice}
 -- each clause of valid code holds of a program beside the thread program that it reads from
 abbrev pub program_passes : ProgramParts → Option ProgramParts → Bool
 program_passes code stage =
-    (types_suffice code (stage_parameters stage) && (parts_in_range code && (lists_short code && values_allowed code)))
+    ((parts_in_range code && (lists_short code && values_allowed code)) && types_suffice code (stage_parameters stage))
     && (outputs_differ code && (jumps_bounded code.instrs code.instrs 0 && layout_fits code stage))
 
 -- a program, and the thread program that it may stand on, which has a name and stands on none

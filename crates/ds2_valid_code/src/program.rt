@@ -57,7 +57,8 @@ fn parts_are_allowed(alloc: Global, code: &ProgramParts) -> Result<bool, OutOfMe
     Ok(code.numbers_in_range() && code.lists_are_short() && values)
 }
 
-// Whether the code of a program is valid beside the thread program that it reads from, the first of `stages`.
+// Whether the code of a program is valid beside the thread program that it reads from, the first of `stages`. Numbers come first:
+// where they are in range, a reading has few BY variables, and each is sought among the slots of each table.
 fn program_passes(
     alloc: Global,
     code: &ProgramParts,
@@ -65,11 +66,13 @@ fn program_passes(
 ) -> Result<bool, OutOfMemory>
     ensures { IfOk result (λ passes. passes ≡ program_passes code.now (slice_get stages.now 0)) }
 {
-    let allowed = parts_are_allowed(alloc, code)?;
+    if !parts_are_allowed(alloc, code)? {
+        return Ok(false);
+    }
     let outputs = outputs_are_named_apart(alloc, code)?;
     let layout = layout_is_fit(alloc, code, stages)?;
     let types = types_suffice(alloc, code, stages)?;
-    Ok(types && allowed && outputs && jumps_are_bounded(code.instrs.as_slice()) && layout)
+    Ok(types && outputs && jumps_are_bounded(code.instrs.as_slice()) && layout)
 }
 
 // Whether a program's code is valid, and that of the thread program that it reads from, which has a name.

@@ -1,4 +1,4 @@
-use Rattle.std.proofs.Common.{◌≡◌, ◌++◌, ◌∷◌, [], suc, true, false, take, drop, map, sym, ap, ◌∙◌, bytes_eq}
+use Rattle.std.proofs.Common.{◌≡◌, suc, true, false, take, drop, map, sym, ap, ◌∙◌, bytes_eq}
 use Rattle.std.specs.Prelude.{◌||◌}
 use Rattle.std.specs.HashSet.{contains_text}
 use Rattle.ds2_code.specs.ValidCode.{names_differ}

@@ -1,6 +1,4 @@
 use Rattle.std.proofs.Common.{◌≡◌, take}
-use Rattle.std.specs.HashMap.{get}
-use Rattle.std.specs.Prelude.{nat_eq}
 use Rattle.ds2_valid_code.specs.Digests.{FindsByDigest}
 use Rattle.ds2_valid_code.proofs.owner.numbers_by_digest.Given as goal
 
