@@ -1,6 +1,7 @@
 pub mod formers
 pub mod Bytes
 pub mod Characters
+pub mod Held
 pub mod Name
 pub mod Place
 pub mod Says

@@ -14,6 +14,7 @@ mod list;
 mod name;
 mod name_compare;
 mod place;
+mod short_text;
 mod stop;
 mod text;
 mod text_compare;

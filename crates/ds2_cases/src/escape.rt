@@ -113,7 +113,7 @@ pub(crate) fn unescape(alloc: Global, text: &str, turn: u64) -> Result<Bytes, St
 
 /// The text that a title, a name or a word stands for.
 pub(crate) fn unescape_text(alloc: Global, text: &str) -> Result<Text, Stop<Mistake>> {
-    match Text::from_bytes(unescape(alloc, text, 1)?) {
+    match Text::from_bytes(alloc, unescape(alloc, text, 1)?)? {
         Some(text) => Ok(text),
         None => Err(Stop::Refused(Mistake::NotUtf8)),
     }

@@ -10,5 +10,6 @@ pub mod LawNumbers
 pub mod LawParts
 pub mod LawTypes
 pub mod NumberLemmas
+pub mod Pointing
 pub mod ShortLemmas
 pub mod Spellings

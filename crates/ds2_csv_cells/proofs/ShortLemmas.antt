@@ -12,6 +12,7 @@ use Rattle.std.proofs.lemmas.Bool.{ltb-true, ltb-false, ne_eqb}
 use Rattle.std.specs.Option.{is_some, option_map, option_and_then}
 use Rattle.ds2_decimal.specs.Arithmetic.{new, neg}
 use Rattle.ds2_decimal.specs.Decimal.{Decimal}
+use Rattle.ds2_decimal.specs.declared.dec.TheConstants.{MOST_DIGITS}
 use Rattle.ds2_decimal.specs.Text.{is_point, are_digits, is_whole, of_digits, of_parts, read_unsigned, read}
 use Rattle.ds2_csv_cells.specs.ColumnTypes.{without_sign}
 use Rattle.ds2_csv_cells.specs.Number.{begins_well, number_from, size_of, below_zero, not_below_zero, integer_of}
@@ -248,7 +249,7 @@ size-decimal : (ds : List ℕ) (n : ℕ) → size_of ds ≡ Some n → is_some (
 unfolding size_of
 size-decimal ds n e = by (begins_well ds) (all_ascii_digits ds) (nat_le (number_from 0 ds) (2 ^ 63)) refl refl refl e
   where
-    fits : (m : ℕ) → nat_le m (2 ^ 63) ≡ true → nat_lt m (10 ^ 38) ≡ true
+    fits : (m : ℕ) → nat_le m (2 ^ 63) ≡ true → nat_lt m (10 ^ MOST_DIGITS) ≡ true
     fits m h = grind (arith, nat_tests)
 
     by : (a b c : Bool) → begins_well ds ≡ a → all_ascii_digits ds ≡ b → nat_le (number_from 0 ds) (2 ^ 63) ≡ c → (if a && b && c then Some (number_from 0 ds) else None) ≡ Some n → is_some (read_unsigned ds) ≡ true

@@ -5,5 +5,6 @@ pub mod ColumnTypes
 pub mod Inferred
 pub mod Laws
 pub mod Number
+pub mod Pointed
 pub mod Short
 pub mod Spelling

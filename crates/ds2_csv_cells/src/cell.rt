@@ -43,12 +43,8 @@ fn filled(alloc: Global, text: &str, n: usize) -> Result<Text, OutOfMemory>
     ensures full { IfOk result (λ t. char_count t ≡ n) }
     ensures utf8 { IfOk result (λ t. IsTrue (is_utf8 t)) }
 {
-    let mut filled = String::from_str(alloc, text)?;
-    let count = char_count(text);
-    'blanks: for i in count..n {
-        filled.push(' ')?;
-    }
-    Ok(Text::from_string(filled))
+    let filled = Text::filled(alloc, text, n - char_count(text))?;
+    Ok(filled)
 }
 
 fn of_text(text: Text) -> Value

@@ -1,9 +1,10 @@
 //! The text of types and values.
-ghost use Rattle.std.specs.Prelude.{◌≡◌, ◌≤◌, ◌++◌, ◌∷◌, [], if◌then◌else◌, OnOk, IfOk, string_bytes};
+ghost use Rattle.std.specs.Prelude.{◌≡◌, ◌<◌, ◌≤◌, length, ◌++◌, ◌∷◌, [], if◌then◌else◌, OnOk, IfOk, string_bytes};
 ghost use Rattle.std.specs.Fmt.{signed_decimal};
 ghost use Rattle.ds2_csv_records.specs.Records.{field_of};
 ghost use Rattle.ds2_decimal.specs.Text.{decimal_text, last_digits, written_magnitude};
 ghost use Rattle.ds2_csv_cells.specs.CellText.{type_text, null_text, escaped, cell_text};
+ghost use Rattle.ds2_csv_cells.specs.Pointed.{with_point};
 
 use ds2_base::{Bytes, OutOfMemory};
 use ds2_csv_records::add_field;
@@ -82,19 +83,46 @@ fn add_sign(out: &mut Bytes, below_zero: bool) -> Result<(), OutOfMemory>
     Ok(())
 }
 
-// Adds the text of a decimal without its sign, of at most 18 digits behind the point.
-fn add_magnitude(out: &mut Bytes, buffer: &mut Buffer, n: u64, scale: u8) -> Result<(), OutOfMemory>
-    requires { scale ≤ 18 }
+// Adds digits, of which there are more than `behind`, with a point before the last `behind` of them.
+fn add_pointed(out: &mut Bytes, digits: &[u8], behind: usize) -> Result<(), OutOfMemory>
+    requires { behind < length digits.now }
+    ensures { OnOk result (out.new ≡ out.old ++ with_point behind digits.now) }
+{
+    let (whole, fraction) = digits.split_at(digits.len() - behind);
+    out.append(whole)?;
+    out.push(b'.')?;
+    out.append(fraction)?;
+    Ok(())
+}
+
+// Adds the text of a decimal without its sign, of any size, with at least one digit behind the point.
+fn add_by_digits(out: &mut Bytes, buffer: &mut Buffer, n: u64, scale: u8) -> Result<(), OutOfMemory>
+    requires some { 0 < scale }
+    requires few { scale ≤ 18 }
     ensures { OnOk result (out.new ≡ out.old ++ written_magnitude n scale) }
 {
-    if scale == 0 {
-        out.append(buffer.format(n).as_bytes())?;
-        return Ok(());
-    }
     out.append(buffer.format(n / 10u64.pow(scale as u32)).as_bytes())?;
     out.push(b'.')?;
     add_last_digits(out, n, scale)?;
     Ok(())
+}
+
+// Adds the text of a decimal without its sign, of at most 18 digits behind the point. Where it has more digits than those, they
+// are made at once.
+fn add_magnitude(out: &mut Bytes, buffer: &mut Buffer, n: u64, scale: u8) -> Result<(), OutOfMemory>
+    requires { scale ≤ 18 }
+    ensures { OnOk result (out.new ≡ out.old ++ written_magnitude n scale) }
+{
+    let digits = buffer.format(n).as_bytes();
+    if scale == 0 {
+        out.append(digits)?;
+        return Ok(());
+    }
+    if digits.len() > scale as usize {
+        add_pointed(out, digits, scale as usize)?;
+        return Ok(());
+    }
+    add_by_digits(out, buffer, n, scale)
 }
 
 // Adds the text of a cell that holds a decimal, which needs no quotes. A short one is written here, in fewer steps.

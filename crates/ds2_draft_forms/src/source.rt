@@ -1,6 +1,7 @@
 //! Sources.
-ghost use Rattle.std.specs.Prelude.{◌≡◌, map, IfOk, option_and_then};
+ghost use Rattle.std.specs.Prelude.{◌≡◌, ℕ, List as Items, map, not, ◌||◌, bytes_eq, IfOk, OnOk, option_and_then};
 ghost use Rattle.std.specs.Option.{option_map};
+ghost use Rattle.std.specs.HashSet.{contains_text};
 ghost use Rattle.ds2_tree.specs.UnitViews.{method_tree, global_tree, data_tree, part_tree, source_tree};
 ghost use Rattle.ds2_draft_meaning.specs.View.{stmts_of};
 ghost use Rattle.ds2_draft_forms.specs.Parts.{GivesForm, all_forms, only_item};
@@ -17,6 +18,7 @@ use ds2_tree::{
     TypeName, VariableDeclaration,
 };
 use std::alloc::Global;
+use std::collections::HashSet;
 
 /// A data program that reads one table row by row.
 #[derive(Drop)]
@@ -63,18 +65,27 @@ fn names(alloc: Global, tokens: &[Token]) -> Result<List<Name>, Stop<NoForm>>
     Ok(names)
 }
 
-/// Whether a name stands more than once.
-fn has_repeat(names: &[Name]) -> bool
-    ensures { result ≡ has_repeat names.now }
+/// Adds a name to those that were seen, and tells whether it is a new one.
+fn is_new(alloc: Global, seen: &mut HashSet<String>, name: &Name) -> Result<bool, OutOfMemory>
+    ensures new { IfOk result (λ new. new ≡ not (contains_text seen.old name.now)) }
+    ensures seen { OnOk result ((other : Items ℕ) → contains_text seen.new other ≡ (bytes_eq name.now other || contains_text seen.old other)) }
 {
-    let mut rest = names;
-    while let [first, others @ ..] = rest {
-        if others.contains(first) {
-            return true;
+    let key = String::from_str(alloc, name.as_str())?;
+    let new = seen.insert(key)?;
+    Ok(new)
+}
+
+/// Whether a name stands more than once.
+fn has_repeat(alloc: Global, names: &[Name]) -> Result<bool, OutOfMemory>
+    ensures { IfOk result (λ repeats. repeats ≡ has_repeat names.now) }
+{
+    let mut seen: HashSet<String> = HashSet::new(alloc);
+    'names: for name in names {
+        if !is_new(alloc, &mut seen, name)? {
+            return Ok(true);
         }
-        rest = others;
     }
-    false
+    Ok(false)
 }
 
 /// The type BIGINT.
@@ -92,7 +103,7 @@ fn variables(alloc: Global, declared: &VariableDeclaration) -> Result<List<Name>
         return Err(Stop::Refused(NoForm));
     }
     let names = names(alloc, declared.names.as_slice())?;
-    if has_repeat(names.as_slice()) {
+    if has_repeat(alloc, names.as_slice())? {
         return Err(Stop::Refused(NoForm));
     }
     Ok(names)

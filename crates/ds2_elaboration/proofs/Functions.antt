@@ -83,7 +83,7 @@ module _ (names : NamesInScope) where
       let o = operand names is_characters name x.value f h in
       (((o.typed, tt), (textual (expression_type x.value.node) o.passes, refl)), refl, refl)
 
-  width_bounds : (ty : Ty) → is_characters ty ≡ true → in_bounds ty ≡ true → in_bounds (Varchar (type_width ty)) ≡ true
+  pub width_bounds : (ty : Ty) → is_characters ty ≡ true → in_bounds ty ≡ true → in_bounds (Varchar (type_width ty)) ≡ true
   width_bounds BigInt c h = cc
   width_bounds (DecimalOf p s) c h = cc
   width_bounds (Char n) c h = h

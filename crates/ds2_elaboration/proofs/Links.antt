@@ -88,7 +88,7 @@ module _ (names : NamesInScope) where
         bounds = result_in_bounds (scale (type_scale ty) (type_scale (expression_type node))) limit;
       }
 
-  greater_within : (a b : ℕ) → a ≤ 38 → b ≤ 38 → max a b ≤ 38
+  pub greater_within : (a b : ℕ) → a ≤ 38 → b ≤ 38 → max a b ≤ 38
   greater_within a b g h = omega (arith, g, h)
 
   sum_if : (plus same : Bool) (ty : Ty) (node : TypedExpression) → are_integer_types ty (expression_type node) ≡ same → in_bounds ty ≡ true
@@ -125,7 +125,7 @@ module _ (names : NamesInScope) where
   product_if false ty node e limit numbers x =
       decimal_fits operation.DecimalMultiply (λ a b. a + b) ty node numbers x (λ a b g h k. ((g, h, refl), k)) (limit refl)
 
-  width_from_one : (ty : Ty) → is_characters ty ≡ true → in_bounds ty ≡ true → 1 ≤ type_width ty
+  pub width_from_one : (ty : Ty) → is_characters ty ≡ true → in_bounds ty ≡ true → 1 ≤ type_width ty
   width_from_one BigInt c h = cc
   width_from_one (DecimalOf p s) c h = cc
   width_from_one (Char n) c h = leb-true 1 n (and_parts (nat_le 1 n) (nat_le n 1024) h).0

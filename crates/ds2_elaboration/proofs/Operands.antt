@@ -132,7 +132,7 @@ module _ (names : NamesInScope) where
 
   -- ---- assigned values
 
-  assigned_as : (ty : Ty) (place : Place) (x : ElaboratedExpression) (typing : Typing) → x.typing ≡ typing → IsOfTyping names typing x.node → in_bounds ty ≡ true
+  pub assigned_as : (ty : Ty) (place : Place) (x : ElaboratedExpression) (typing : Typing) → x.typing ≡ typing → IsOfTyping names typing x.node → in_bounds ty ≡ true
       → where_known typing (λ from. clash_unless (is_assigned_from ty from) place) ≡ [] → IsInType names ty (assigned_node ty x)
   assigned_as ty place x (Known from) e h bounds c =
       subst (λ (t : Typing). IsInType names ty (assigned_node ty (record { typing = t; refusals = x.refusals; node = x.node }))) (sym e)

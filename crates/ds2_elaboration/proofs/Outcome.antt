@@ -1,9 +1,10 @@
 -- A program has one outcome.
-use Rattle.std.proofs.Common.{◌≡◌, List, [], ◌∷◌, ◌++◌, Option, Some, None, Ok, Err, refl, ap, ◌∙◌}
+use Rattle.std.proofs.Common.{◌≡◌, Bool, true, false, List, [], ◌∷◌, ◌++◌, Option, Some, None, Ok, Err, refl, ap, ◌∙◌}
 use Rattle.ds2_base.specs.declared.place.Place.{Place}
 use Rattle.ds2_base.specs.declared.place.Refusal.{Refusal}
 use Rattle.ds2_tree.specs.Units.{DataProgram}
 use Rattle.ds2_meaning.specs.ProgramTree.{UnitTree}
+use Rattle.ds2_names.specs.NameRules.{place_unless}
 use Rattle.ds2_names.specs.Refusals.{scope_rank, type_rank, least_refusal, broken_at}
 use Rattle.ds2_names.specs.SourceLimits.{BeforeUnit, beyond_source_limits, scope_refusal}
 use Rattle.ds2_names.specs.SourceUnit.{TableColumns, unit_of_data, names_of_unit}
@@ -19,6 +20,10 @@ use Rattle.ds2_elaboration.proofs.Given.{none_due}
 pub both_empty : {A : Type 0} (xs ys : List A) → xs ++ ys ≡ [] → (xs ≡ []) × (ys ≡ [])
 both_empty [] ys h = (refl, h)
 both_empty (x ∷ xs) ys h = cc
+
+pub unplaced : (b : Bool) (place : Place) → place_unless b place ≡ [] → b ≡ true
+unplaced true place h = refl
+unplaced false place h = cc
 
 no_places : (kind : ScopeKind) (places : List Place) → broken_at kind places ≡ [] → places ≡ []
 no_places kind [] h = refl
@@ -64,11 +69,11 @@ nothing_broken tables before u names types =
 pub one_outcome : OneOutcome
 one_outcome = record {
   becomes_typed = λ tables before u b.
-      ap (λ o. names_before_types o (type_refusal tables u) (typed_program tables u)) (names_none tables before u b)
-      ∙ ap (λ o. names_before_types None o (typed_program tables u)) (types_none tables before u b);
+      ap (λ o. names_before_types o (type_refusal tables u) (typed_program tables before.made u)) (names_none tables before u b)
+      ∙ ap (λ o. names_before_types None o (typed_program tables before.made u)) (types_none tables before u b);
   breaks_no_rule = λ tables before u p h.
-      let parts = accepted (scope_refusal tables before (unit_of_data u)) (type_refusal tables u) (typed_program tables u) p h in
+      let parts = accepted (scope_refusal tables before (unit_of_data u)) (type_refusal tables u) (typed_program tables before.made u) p h in
       (nothing_broken tables before u parts.0 parts.1, parts.2);
-  refused_for_names = λ tables before u r h. for_names (scope_refusal tables before (unit_of_data u)) (type_refusal tables u) (typed_program tables u) r h;
-  refused_for_types = λ tables before u r h. for_types (scope_refusal tables before (unit_of_data u)) (type_refusal tables u) (typed_program tables u) r h;
+  refused_for_names = λ tables before u r h. for_names (scope_refusal tables before (unit_of_data u)) (type_refusal tables u) (typed_program tables before.made u) r h;
+  refused_for_types = λ tables before u r h. for_types (scope_refusal tables before (unit_of_data u)) (type_refusal tables u) (typed_program tables before.made u) r h;
 }

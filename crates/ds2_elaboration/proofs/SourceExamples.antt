@@ -34,6 +34,7 @@ pub two_program_examples : TwoProgramExamples
 unfolding str.chars str.is_utf8 lib.Utf8.encode fmt.digits
 two_program_examples = record {
   later_program_reads = refl;
+  tables_have_makers = refl;
   first_program_refused = refl;
   first_types_refused = refl;
   second_program_refused = refl;

@@ -31,7 +31,7 @@ names_before_types None None p = Ok p
 -- what becomes of a program behind other units
 abbrev pub elaborated_program : TableColumns → BeforeUnit → DataProgram → Result UnitTree ProgramRefusal
 elaborated_program tables before u =
-    names_before_types (scope_refusal tables before (unit_of_data u)) (type_refusal tables u) (typed_program tables u)
+    names_before_types (scope_refusal tables before (unit_of_data u)) (type_refusal tables u) (typed_program tables before.made u)
 
 -- ---- a source
 

@@ -46,9 +46,9 @@ pub record BreaksNoRule (tables : TableColumns) (before : BeforeUnit) (u : DataP
 -- where one of their rules is broken, and for its types exactly where none of those is and one of types is
 pub record OneOutcome : Type 0 where
   pub becomes_typed : (tables : TableColumns) (before : BeforeUnit) (u : DataProgram) → BreaksNoRule tables before u
-      → elaborated_program tables before u ≡ Ok (typed_program tables u)
+      → elaborated_program tables before u ≡ Ok (typed_program tables before.made u)
   pub breaks_no_rule : (tables : TableColumns) (before : BeforeUnit) (u : DataProgram) (p : UnitTree) → elaborated_program tables before u ≡ Ok p
-      → BreaksNoRule tables before u × (p ≡ typed_program tables u)
+      → BreaksNoRule tables before u × (p ≡ typed_program tables before.made u)
   pub refused_for_names : (tables : TableColumns) (before : BeforeUnit) (u : DataProgram) (r : Refusal ScopeKind)
       → elaborated_program tables before u ≡ Err (OfNames r) → scope_refusal tables before (unit_of_data u) ≡ Some r
   pub refused_for_types : (tables : TableColumns) (before : BeforeUnit) (u : DataProgram) (r : Refusal TypeKind)

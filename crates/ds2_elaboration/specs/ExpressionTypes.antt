@@ -1,5 +1,5 @@
 -- What becomes of the expressions of a method.
-use Rattle.std.specs.Prelude.{ℕ, ℤ, max, ◌++◌, Bool, true, false, not, bytes_eq, codes, if◌then◌else◌, List, [], ◌∷◌, filter, position, unwrap_or, is_some, Option, Some, None}
+use Rattle.std.specs.Prelude.{ℕ, ℤ, max, nat_le, ◌++◌, Bool, true, false, not, bytes_eq, codes, if◌then◌else◌, List, [], ◌∷◌, filter, position, unwrap_or, is_some, option_and_then, Option, Some, None}
 use Rattle.ds2_base.specs.Characters.{char_count}
 use Rattle.ds2_base.specs.declared.place.Place.{Place}
 use Rattle.ds2_decimal.specs.Decimal.{Decimal, digit_count}
@@ -12,6 +12,7 @@ use Rattle.ds2_tree.specs.declared.expressions.Callee.{Callee}
 use Rattle.ds2_tree.specs.declared.expressions.Callee.TheVariants as callee
 use Rattle.ds2_tree.specs.declared.expressions.ChainKind.{ChainKind}
 use Rattle.ds2_tree.specs.declared.expressions.ChainKind.TheVariants as chain
+use Rattle.ds2_value.specs.declared.ty.TheConstants.{TEXT_CHARACTERS}
 use Rattle.ds2_value.specs.declared.ty.Ty.{Ty}
 use Rattle.ds2_value.specs.declared.ty.Ty.TheVariants.{BigInt, Decimal as DecimalOf, Varchar}
 use Rattle.ds2_value.specs.declared.value.Value.TheVariants.{Null as NullValue, Int, Dec, Txt}
@@ -35,34 +36,41 @@ use Rattle.ds2_elaboration.specs.Typings.{TypeRefusals, type_refusal_at, clash_u
 
 -- ---- constants
 
+-- an integer constant of a number
+abbrev pub integer_node : Option ℤ → tree.TypedExpression
+integer_node None = tree.Constant NullValue BigInt
+integer_node (Some i) = tree.Constant (Int i) BigInt
+
 -- an integer constant is a BIGINT; each integer of a source is in its bounds
 abbrev pub integer_constant : Token → tree.TypedExpression
-integer_constant t = of_value (token_integer t)
-  where
-    of_value : Option ℤ → tree.TypedExpression
-    of_value None = tree.Constant NullValue BigInt
-    of_value (Some i) = tree.Constant (Int i) BigInt
+integer_constant t = integer_node (token_integer t)
 
 -- a decimal constant has as many digits as it is written with, leading zeros not counted, at least one and at least those behind
 -- its point
 abbrev pub decimal_type : Decimal → Ty
 decimal_type d = DecimalOf (max 1 (max (digit_count d) d.scale)) d.scale
 
+-- a decimal constant of a number
+abbrev pub decimal_node : Option Decimal → tree.TypedExpression
+decimal_node None = tree.Constant NullValue (DecimalOf 1 0)
+decimal_node (Some d) = tree.Constant (Dec d) (decimal_type d)
+
 -- a decimal constant; each decimal of a source is in its bounds
 abbrev pub typed_decimal : Token → tree.TypedExpression
-typed_decimal t = of_value (token_decimal t)
-  where
-    of_value : Option Decimal → tree.TypedExpression
-    of_value None = tree.Constant NullValue (DecimalOf 1 0)
-    of_value (Some d) = tree.Constant (Dec d) (decimal_type d)
+typed_decimal t = decimal_node (token_decimal t)
 
--- a text constant is a VARCHAR of its characters, at least one; each text of a source is one
+-- a text of at most 1,024 characters
+abbrev pub text_within : List ℕ → Option (List ℕ)
+text_within text = if nat_le (char_count text) TEXT_CHARACTERS then Some text else None
+
+-- a text constant of a text is a VARCHAR of its characters, at least one
+abbrev pub text_node : Option (List ℕ) → tree.TypedExpression
+text_node None = tree.Constant NullValue (Varchar 1)
+text_node (Some text) = tree.Constant (Txt text) (Varchar (max 1 (char_count text)))
+
+-- a text constant; each text of a source is in its bounds
 abbrev pub typed_text : Token → tree.TypedExpression
-typed_text t = of_value (token_text t)
-  where
-    of_value : Option (List ℕ) → tree.TypedExpression
-    of_value None = tree.Constant NullValue (Varchar 1)
-    of_value (Some text) = tree.Constant (Txt text) (Varchar (max 1 (char_count text)))
+typed_text t = text_node (option_and_then text_within (token_text t))
 
 -- a constant
 abbrev pub constant_node : Token → tree.TypedExpression
@@ -97,30 +105,34 @@ variable_typing v = typing_behind v.refusals v.ty
 abbrev pub unjoined_refusals : TypeScope → List ℕ → TypeRefusals
 unjoined_refusals scope name = from_each (λ (c : PlacedName). if bytes_eq c.name name then type_refusal_at TypeClash c.place else []) scope.unjoined
 
+-- what a name stands for that is no parameter or local: a variable of the vector, where there is one of it with a type, else an `in=`
+-- flag
+abbrev pub known_global : TypeScope → List ℕ → Option Ty → Option KnownVariable
+known_global scope name (Some ty) = Some (record { reference = At (Named name); ty = ty; refusals = unjoined_refusals scope name })
+known_global scope name None = if is_listed scope.flags name then Some (record { reference = At (Present name); ty = BigInt; refusals = [] }) else None
+
+-- what a name stands for: a parameter or local, where there is one of it with a type, else a global
+abbrev pub known_before_globals : TypeScope → List ℕ → Option Ty → Option KnownVariable
+known_before_globals scope name (Some ty) = Some (record { reference = Local name; ty = ty; refusals = [] })
+known_before_globals scope name None = known_global scope name (type_in scope.variables name)
+
 -- what a name stands for: a parameter or local, else a variable of the vector, else an `in=` flag
 abbrev pub known_variable : TypeScope → List ℕ → Option KnownVariable
-known_variable scope name = of_local (type_in scope.locals name)
-  where
-    of_global : Option Ty → Option KnownVariable
-    of_global (Some ty) = Some (record { reference = At (Named name); ty = ty; refusals = unjoined_refusals scope name })
-    of_global None = if is_listed scope.flags name then Some (record { reference = At (Present name); ty = BigInt; refusals = [] }) else None
-
-    of_local : Option Ty → Option KnownVariable
-    of_local (Some ty) = Some (record { reference = Local name; ty = ty; refusals = [] })
-    of_local None = of_global (type_in scope.variables name)
+known_variable scope name = known_before_globals scope name (type_in scope.locals name)
 
 -- the value of a variable
 abbrev pub variable_node : KnownVariable → tree.TypedExpression
 variable_node v = tree.Variable v.reference v.ty
 
--- a variable that a name stands for, as an expression; a column whose tables do not join is refused at their place once more, and
--- nothing around it is refused for its type
+-- what a name stands for, as an expression; a column whose tables do not join is refused at their place once more, and nothing
+-- around it is refused for its type
+abbrev pub value_of_variable : Place → Option KnownVariable → ElaboratedExpression
+value_of_variable place None = elaborated_nameless place
+value_of_variable place (Some v) = form_of_operands v.refusals (variable_node v)
+
+-- the value of a name
 abbrev pub elaborated_variable : TypeScope → Token → ElaboratedExpression
-elaborated_variable scope name = of_variable (known_variable scope (spelled_name name))
-  where
-    of_variable : Option KnownVariable → ElaboratedExpression
-    of_variable None = elaborated_nameless name.place
-    of_variable (Some v) = form_of_operands v.refusals (variable_node v)
+elaborated_variable scope name = value_of_variable name.place (known_variable scope (spelled_name name))
 
 -- a flag of a BY variable, which is a BIGINT
 abbrev pub flag_node : Global → tree.TypedExpression
@@ -196,27 +208,26 @@ arguments_for name (p ∷ ps) [] = no_arguments (type_refusal_at TypeClash name)
 arguments_for name (p ∷ ps) (x ∷ xs) =
     if p.is_in_out then in_out_argument p.ty x (arguments_for name ps xs) else value_argument p.ty x (arguments_for name ps xs)
 
--- a call of a method as an expression; one that returns nothing is TypeClash at its name
+-- the result of the method of this number, whose name stands at this place; one that returns nothing is TypeClash at its name
+abbrev pub result_of_method : Place → ℕ → ElaboratedArguments → Option Ty → ElaboratedExpression
+result_of_method place number arguments (Some ty) = form_of_type ty arguments.refusals (tree.Called None number arguments.arguments ty)
+result_of_method place number arguments None =
+    form_of_operands (arguments.refusals ++ clash_unless false place) (tree.Called None number arguments.arguments BigInt)
+
+-- a call of a method as an expression
 abbrev pub elaborated_method_call : TypeScope → Token → Method → List ElaboratedArgument → ElaboratedExpression
-elaborated_method_call scope name method xs = of_type (returned_type method.returns)
-  where
-    arguments : ElaboratedArguments
-    arguments = arguments_for name.place (elaborated_parameters method) xs
+elaborated_method_call scope name method xs =
+    result_of_method name.place (number_of_method scope.methods (spelled_name name)) (arguments_for name.place (elaborated_parameters method) xs)
+    (returned_type method.returns)
 
-    node : Ty → tree.TypedExpression
-    node ty = tree.Called None (number_of_method scope.methods (spelled_name name)) arguments.arguments ty
-
-    of_type : Option Ty → ElaboratedExpression
-    of_type (Some ty) = form_of_type ty arguments.refusals (node ty)
-    of_type None = form_of_operands (arguments.refusals ++ clash_unless false name.place) (node BigInt)
+-- a call of a name: of this method, where there is one, else of a function
+abbrev pub method_or_function_call : TypeScope → Token → List ElaboratedArgument → Option Method → ElaboratedExpression
+method_or_function_call scope name xs (Some method) = elaborated_method_call scope name method xs
+method_or_function_call scope name xs None = elaborated_function name xs
 
 -- a call of a name: of the unit's method, else of a function
 abbrev pub elaborated_named_call : TypeScope → Token → List ElaboratedArgument → ElaboratedExpression
-elaborated_named_call scope name xs = of_method (method_named scope.methods (spelled_name name))
-  where
-    of_method : Option Method → ElaboratedExpression
-    of_method (Some method) = elaborated_method_call scope name method xs
-    of_method None = elaborated_function name xs
+elaborated_named_call scope name xs = method_or_function_call scope name xs (method_named scope.methods (spelled_name name))
 
 -- a call
 abbrev pub elaborated_call : TypeScope → Callee → List ElaboratedArgument → ElaboratedExpression

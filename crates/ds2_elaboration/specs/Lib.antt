@@ -14,3 +14,5 @@ pub mod SourceExamples
 pub mod VariableExamples
 pub mod ElaborationLaws
 pub mod TypedForms
+pub mod TypedScopes
+pub mod TypedPrograms

@@ -21,6 +21,7 @@ use Rattle.ds2_meaning.specs.declared.globals.OutputTable as typed_output
 use Rattle.ds2_meaning.specs.declared.globals.Variable as typed
 use Rattle.ds2_meaning.specs.declared.readings.ByVariable as typed_by
 use Rattle.ds2_meaning.specs.declared.readings.Input as typed_input
+use Rattle.ds2_meaning.specs.declared.readings.MentionedTable.{MentionedTable}
 use Rattle.ds2_meaning.specs.declared.readings.Reading as typed_reading
 use Rattle.ds2_meaning.specs.declared.readings.Reading.TheVariants as typed_as
 use Rattle.ds2_meaning.specs.declared.refusals.TypeKind.{TypeKind}
@@ -30,6 +31,7 @@ use Rattle.ds2_meaning.specs.Method.{MethodTree}
 use Rattle.ds2_names.specs.NameRules.{from_each, options_of, listed_in_statements, renamings_of, output_name, columns_left}
 use Rattle.ds2_meaning.specs.ProgramTree.{BodyTree, UnitTree}
 use Rattle.ds2_names.specs.Refusals.{type_rank, least_refusal, broken_at}
+use Rattle.ds2_names.specs.SourceLimits.{mentioned_table}
 use Rattle.ds2_names.specs.SourceUnit.{TableColumns, spelled_name, names_alone, names_of_source, source_methods, bys_of_reading}
 use Rattle.ds2_meaning.specs.TypedStatement.{Finish}
 use Rattle.ds2_names.specs.Uses.{method_named}
@@ -77,10 +79,10 @@ made_output tables u o = record {
 
 -- ---- the reading statement
 
--- a table of a reading statement
-abbrev pub read_input : TableColumns → source_input.Input → typed_input.Input
-read_input tables i = record {
-  table = spelled_name i.table;
+-- a table of a reading statement, behind data programs that make these tables
+abbrev pub read_input : TableColumns → List MentionedTable → source_input.Input → typed_input.Input
+read_input tables made i = record {
+  table = mentioned_table made (spelled_name i.table);
   present = option_map (λ (f : InputFlag). spelled_name f.name) i.flag;
   columns = tables (spelled_name i.table);
 }
@@ -90,21 +92,22 @@ abbrev pub read_by : source_by.ByVariable → typed_by.ByVariable
 read_by b = record { name = spelled_name b.name; is_descending = is_some b.descending }
 
 -- the reading statement of a program with `run`: without one there is one load
-abbrev pub read_statement : TableColumns → Option source_reading.Reading → typed_reading.Reading
-read_statement tables None = typed_as.Once
-read_statement tables (Some (read_as.Set keyword inputs end by)) =
-    typed_as.Set (map (read_input tables) inputs) (map read_by (bys_of_reading (Some (read_as.Set keyword inputs end by))))
-read_statement tables (Some (read_as.Merge keyword inputs retain end by)) =
-    typed_as.Merge (map (read_input tables) inputs) (map read_by by.variables) (is_some retain)
-read_statement tables (Some (read_as.SetFrom keyword from instance threads end)) = typed_as.Once
+abbrev pub read_statement : TableColumns → List MentionedTable → Option source_reading.Reading → typed_reading.Reading
+read_statement tables made None = typed_as.Once
+read_statement tables made (Some (read_as.Set keyword inputs end by)) =
+    typed_as.Set (map (read_input tables made) inputs) (map read_by (bys_of_reading (Some (read_as.Set keyword inputs end by))))
+read_statement tables made (Some (read_as.Merge keyword inputs retain end by)) =
+    typed_as.Merge (map (read_input tables made) inputs) (map read_by by.variables) (is_some retain)
+read_statement tables made (Some (read_as.SetFrom keyword from instance threads end)) = typed_as.Once
+
+-- what the loads of a program with this method `run`, or without one, are made of
+abbrev pub reading_of_method : TableColumns → List MentionedTable → Option Method → typed_reading.Reading
+reading_of_method tables made None = typed_as.Nothing
+reading_of_method tables made (Some run) = read_statement tables made run.reading
 
 -- what the loads of a program are made of: without `run` there is none
-abbrev pub program_reading : TableColumns → List Method → typed_reading.Reading
-program_reading tables methods = of_run (method_named methods (codes "run"))
-  where
-    of_run : Option Method → typed_reading.Reading
-    of_run None = typed_as.Nothing
-    of_run (Some run) = read_statement tables run.reading
+abbrev pub program_reading : TableColumns → List MentionedTable → List Method → typed_reading.Reading
+program_reading tables made methods = reading_of_method tables made (method_named methods (codes "run"))
 
 -- ---- methods
 
@@ -139,13 +142,14 @@ method_tree_of tables u m = record {
   body = statements_node (scope_of_method tables u m) m.body;
 }
 
--- what the system method of this name becomes; one that is not there has no statements
+-- what a system method becomes; one that is not there has no statements
+abbrev pub body_of_method : TableColumns → DataProgram → Option Method → BodyTree
+body_of_method tables u None = record { locals = []; statements = Finish }
+body_of_method tables u (Some m) = record { locals = declared_variables m.locals; statements = statements_node (scope_of_method tables u m) m.body }
+
+-- what the system method of this name becomes
 abbrev pub system_body : TableColumns → DataProgram → List ℕ → BodyTree
-system_body tables u name = of_method (method_named (source_methods u.globals) name)
-  where
-    of_method : Option Method → BodyTree
-    of_method None = record { locals = []; statements = Finish }
-    of_method (Some m) = record { locals = declared_variables m.locals; statements = statements_node (scope_of_method tables u m) m.body }
+system_body tables u name = body_of_method tables u (method_named (source_methods u.globals) name)
 
 -- ---- the program
 
@@ -157,9 +161,9 @@ broken_type_rules tables u = broken_at TypeClash (clashing_tables tables u) ++ f
 abbrev pub type_refusal : TableColumns → DataProgram → Option (Refusal TypeKind)
 type_refusal tables u = least_refusal type_rank (broken_type_rules tables u)
 
--- what a program becomes
-abbrev pub typed_program : TableColumns → DataProgram → UnitTree
-typed_program tables u = record {
+-- what a program becomes, over these columns of tables and behind data programs that make some of them
+abbrev pub typed_program : TableColumns → List MentionedTable → DataProgram → UnitTree
+typed_program tables made u = record {
   thread = None;
   parameters = [];
   declared = program_variables u;
@@ -168,7 +172,7 @@ typed_program tables u = record {
   instances = [];
   objects = record { hashes = []; iterators = [] };
   threads = [];
-  reading = program_reading tables (source_methods u.globals);
+  reading = program_reading tables made (source_methods u.globals);
   outputs = map (made_output tables u) (made_outputs u);
   methods = map (method_tree_of tables u) (callable_methods (source_methods u.globals));
   init = system_body tables u (codes "init");

@@ -17,13 +17,16 @@ use Rattle.ds2_meaning.specs.declared.globals.Variable.{Variable}
 use Rattle.ds2_meaning.specs.declared.expressions.Operation.TheVariants.{Concatenate}
 use Rattle.ds2_meaning.specs.declared.location.Global.TheVariants.{Named, First, Last, Present}
 use Rattle.ds2_meaning.specs.declared.location.Reference.TheVariants.{Local}
+use Rattle.ds2_meaning.specs.declared.readings.Input as typed_input
+use Rattle.ds2_meaning.specs.declared.readings.MentionedTable.{MentionedTable}
 use Rattle.ds2_meaning.specs.declared.readings.Reading.TheVariants as typed_as
 use Rattle.ds2_meaning.specs.declared.refusals.ScopeKind.TheVariants.{UnknownName}
 use Rattle.ds2_meaning.specs.declared.refusals.TypeKind.TheVariants.{TypeClash, NoReturn}
-use Rattle.ds2_meaning.specs.ExampleWords.{col, local, binary, bigint, bigint_column}
+use Rattle.ds2_meaning.specs.ExampleWords.{col, local, binary, bigint, bigint_column, stored}
 use Rattle.ds2_meaning.specs.Method.{MethodTree}
 use Rattle.ds2_names.specs.NameExamples.{word_in}
 use Rattle.ds2_meaning.specs.ProgramTree.{UnitTree}
+use Rattle.ds2_meaning.specs.Reading.{inputs_of}
 use Rattle.ds2_names.specs.SourceUnit.{TableColumns}
 use Rattle.ds2_meaning.specs.TypedExpression.{Constant, Variable as Reads, Widen, Convert}
 use Rattle.ds2_meaning.specs.TypedStatement.{TypedStatements, Finish, Next, ReturnValue}
@@ -129,7 +132,7 @@ pub record ProgramTypeExamples : Type 0 where
   -- return 1;
   pub surely_returned : statements_of_run (elaborated_program no_columns_at_all (before_all []) (program_with_method (returns_at 75 (integer_at 82 (codes "1"))))) ≡ Ok Finish
   -- return a; of a BIGINT from a method that returns decimal(5,2)
-  pub returned_value_converted : bodies_of (typed_program no_columns_at_all (program_around []))
+  pub returned_value_converted : bodies_of (typed_program no_columns_at_all [] (program_around []))
       ≡ Next (ReturnValue (col 40) (Convert (Widen (local (codes "a"))) (DecimalOf 5 2))) Finish ∷ Finish ∷ []
   -- return a; of a BIGINT from a method that returns decimal(19,0) : widened alone
   pub widened_alone : bodies_unless_refused (elaborated_program no_columns_at_all (before_all []) (returning_program (parameter_at 70 bigint_word (codes "a")) (decimal_words (codes "19") (codes "0")) (returns_at 75 (name_at 82 (codes "a")))))
@@ -161,15 +164,15 @@ pub record ProgramTypeExamples : Type 0 where
   pub declared_joins : columns_over (declares 10 (text_words (codes "varchar") (codes "3")) (codes "k") ∷ []) (codes "short") (codes "free") ≡ Ok []
   pub declared_char_clashes : columns_over (declares 10 (text_words (codes "char") (codes "3")) (codes "k") ∷ []) (codes "short") (codes "free") ≡ clash_in 112
   -- out has z in place of k, rest has i alone and may be written over
-  pub outputs_made : (typed_program no_columns_at_all program_with_options).outputs
+  pub outputs_made : (typed_program no_columns_at_all [] program_with_options).outputs
       ≡ record { name = codes "out"; overwrites = false; columns = record { name = codes "i"; source = codes "i"; ty = BigInt } ∷ record { name = codes "z"; source = codes "k"; ty = BigInt } ∷ [] }
       ∷ record { name = codes "rest"; overwrites = true; columns = record { name = codes "i"; source = codes "i"; ty = BigInt } ∷ [] } ∷ []
   -- no `run`: no load; `run` without a reading statement: one
-  pub no_load : (typed_program no_columns_at_all program_with_options).reading ≡ typed_as.Nothing
-  pub one_load : (typed_program no_columns_at_all (program_around [])).reading ≡ typed_as.Once
+  pub no_load : (typed_program no_columns_at_all [] program_with_options).reading ≡ typed_as.Nothing
+  pub one_load : (typed_program no_columns_at_all [] (program_around [])).reading ≡ typed_as.Once
   -- the tables of a `merge` with their columns, its BY variables, and `/ retain`
-  pub merged : (typed_program small_tables merging_program).reading
-      ≡ typed_as.Merge (record { table = codes "short"; present = None; columns = record { name = codes "k"; ty = Char 2 } ∷ [] } ∷ record { table = codes "long"; present = None; columns = record { name = codes "k"; ty = Char 3 } ∷ [] } ∷ [])
+  pub merged : (typed_program small_tables [] merging_program).reading
+      ≡ typed_as.Merge (record { table = stored (codes "short"); present = None; columns = record { name = codes "k"; ty = Char 2 } ∷ [] } ∷ record { table = stored (codes "long"); present = None; columns = record { name = codes "k"; ty = Char 3 } ∷ [] } ∷ [])
       (record { name = codes "k"; is_descending = true } ∷ []) true
 
 -- ---- sources
@@ -183,6 +186,11 @@ columns_of_each (Err refusal) = Err refusal
 abbrev pub two_programs : List GlobalItem → List GlobalItem → Result (List (List Variable)) ProgramRefusal
 two_programs first second = columns_of_each (elaborated_source small_tables (AData (program_from first) ∷ AData (program_from second) ∷ []))
 
+-- for each program of a source that is not refused the tables of its reading statement
+abbrev pub tables_of_each : Result (List UnitTree) ProgramRefusal → Result (List (List MentionedTable)) ProgramRefusal
+tables_of_each (Ok programs) = Ok (map (λ (p : UnitTree). map (λ (i : typed_input.Input). i.table) (inputs_of p.reading)) programs)
+tables_of_each (Err refusal) = Err refusal
+
 -- method run(); target = i; end; beside i
 abbrev pub setting_program : List ℕ → List GlobalItem
 setting_program target = declares 10 bigint_word (codes "i") ∷ method_at 80 (codes "run") [] None None (sets 100 target (name_at 104 (codes "i")) ∷ []) ∷ []
@@ -192,6 +200,10 @@ pub record TwoProgramExamples : Type 0 where
   -- the second program reads what the first one makes
   pub later_program_reads : two_programs (setting_program (codes "i")) (method_at 80 (codes "run") [] None (set_of_tables (read_at 104 (codes "out") ∷ [])) [] ∷ [])
       ≡ Ok ([] ∷ (bigint (codes "i") ∷ []) ∷ [])
+  -- set out whole; where the first program makes out
+  pub tables_have_makers : tables_of_each (elaborated_source small_tables (AData (program_from (setting_program (codes "i")))
+      ∷ AData (program_from (method_at 80 (codes "run") [] None (set_of_tables (read_at 104 (codes "out") ∷ read_at 112 (codes "whole") ∷ [])) [] ∷ [])) ∷ []))
+      ≡ Ok ([] ∷ (record { name = codes "out"; maker = 1 } ∷ stored (codes "whole") ∷ []) ∷ [])
   -- the first program's refusal is given, and the second's is not
   pub first_program_refused : two_programs (setting_program (codes "q")) (setting_program (codes "r")) ≡ Err (OfNames (record { kind = UnknownName; place = col 100 }))
   -- the first program's types are given, and the second's names are not
@@ -217,11 +229,11 @@ flagged_program = program_from (
 -- the slots of small programs
 pub record LayoutExamples : Type 0 where
   -- i is kept, j is set to null, k is a column; then the flags p, first.k and last.k; the output has i, j and k
-  pub slots_in_order : layout_of (typed_program small_tables flagged_program) ≡ record {
+  pub slots_in_order : layout_of (typed_program small_tables [] flagged_program) ≡ record {
     slots =
         slot_for None (Named (codes "i")) BigInt Kept ∷ slot_for None (Named (codes "j")) BigInt Cleared ∷ slot_for None (Named (codes "k")) BigInt Column
         ∷ slot_for None (Present (codes "p")) BigInt Flag ∷ slot_for None (First (codes "k")) BigInt Flag ∷ slot_for None (Last (codes "k")) BigInt Flag ∷ [];
     projections = (0 ∷ 1 ∷ 2 ∷ []) ∷ [];
   }
   -- a renamed output has the slot of the old name
-  pub renamed_output : (layout_of (typed_program no_columns_at_all program_with_options)).projections ≡ (0 ∷ 1 ∷ []) ∷ (0 ∷ []) ∷ []
+  pub renamed_output : (layout_of (typed_program no_columns_at_all [] program_with_options)).projections ≡ (0 ∷ 1 ∷ []) ∷ (0 ∷ []) ∷ []

@@ -80,14 +80,15 @@ pub data ColumnTyping : Type 0 where
   Joined : Ty → ColumnTyping
   Clashed : ColumnTyping
 
+-- there is a join, and it is this type
+abbrev pub is_joined_to : Ty → Option Ty → Bool
+is_joined_to ty None = false
+is_joined_to ty (Some joined) = is_one_type joined ty
+
 -- a declared variable of a column's name has the type that it and the column join to; where none is declared any type will do
 abbrev pub agrees_with_declared : Option Ty → Ty → Bool
 agrees_with_declared None ty = true
-agrees_with_declared (Some declared) ty = is_join (join_of declared ty)
-  where
-    is_join : Option Ty → Bool
-    is_join None = false
-    is_join (Some joined) = is_one_type joined declared
+agrees_with_declared (Some declared) ty = is_joined_to declared (join_of declared ty)
 
 -- the type that the tables join to up to here, where the declared variable agrees with it
 abbrev pub agreed : Option Ty → Option Ty → ColumnTyping

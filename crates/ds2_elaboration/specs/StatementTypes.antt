@@ -53,24 +53,26 @@ output_numbers outputs [] = range_with_len 0 (length outputs)
 output_numbers outputs (table ∷ tables) =
     map (λ (t : Token). unwrap_or (position (λ name. bytes_eq name (spelled_name t)) outputs) 0) (table ∷ tables)
 
+-- a variable, where it may be set
+abbrev pub settable_variable : Option KnownVariable → Option KnownVariable
+settable_variable None = None
+settable_variable (Some v) = if is_settable_reference v.reference then Some v else None
+
+-- what the assignment of a value breaks: the rule of the target's type, where it is known, else those of the target and of the value
+abbrev pub target_refusals : Place → TypeRefusals → ElaboratedExpression → Typing → TypeRefusals
+target_refusals place own x (Known ty) = assigned_refusals ty place x
+target_refusals place own x _ = own ++ x.refusals
+
 module _ (scope : TypeScope) where
   -- the variable that a token stands for, where it may be set
   abbrev pub target_of : Token → Option KnownVariable
-  target_of name = of_variable (known_variable scope (spelled_name name))
-    where
-      of_variable : Option KnownVariable → Option KnownVariable
-      of_variable None = None
-      of_variable (Some v) = if is_settable_reference v.reference then Some v else None
+  target_of name = settable_variable (known_variable scope (spelled_name name))
 
   -- a value is assigned to a target of its type, where that is known, else TypeClash at the target; what may not be set is refused by
   -- the rules of names
   abbrev pub assignment_refusals : Place → Option KnownVariable → ElaboratedExpression → TypeRefusals
   assignment_refusals place None x = type_refusal_at TypeClash place
-  assignment_refusals place (Some v) x = of_typing (variable_typing v)
-    where
-      of_typing : Typing → TypeRefusals
-      of_typing (Known ty) = assigned_refusals ty place x
-      of_typing _ = v.refusals ++ x.refusals
+  assignment_refusals place (Some v) x = target_refusals place v.refusals x (variable_typing v)
 
   -- target = value;
   abbrev pub assignment_node : Place → Option KnownVariable → ElaboratedExpression → t.TypedStatement
@@ -79,22 +81,25 @@ module _ (scope : TypeScope) where
 
   -- ---- calls as statements
 
-  -- what a call as a statement breaks; the method need not return a value
+  -- what a call of a name as a statement breaks, where it calls this method or none; the method need not return a value
+  abbrev pub named_call_refusals : Token → List ElaboratedArgument → Option Method → TypeRefusals
+  named_call_refusals name xs (Some method) = (arguments_for name.place (elaborated_parameters method) xs).refusals
+  named_call_refusals name xs None = (elaborated_call scope (callee.Function name) xs).refusals
+
+  -- what a call as a statement breaks
   abbrev pub call_refusals : Callee → List ElaboratedArgument → TypeRefusals
-  call_refusals (callee.Function name) xs = of_method (method_named scope.methods (spelled_name name))
-    where
-      of_method : Option Method → TypeRefusals
-      of_method (Some method) = (arguments_for name.place (elaborated_parameters method) xs).refusals
-      of_method None = (elaborated_call scope (callee.Function name) xs).refusals
+  call_refusals (callee.Function name) xs = named_call_refusals name xs (method_named scope.methods (spelled_name name))
   call_refusals f xs = (elaborated_call scope f xs).refusals
 
-  -- a call as a statement: of a method, or of a function, whose value is dropped
+  -- a call of a name as a statement: of a method, or of a function, whose value is dropped
+  abbrev pub named_call_node : Place → Token → List ElaboratedArgument → Option Method → t.TypedStatement
+  named_call_node place name xs (Some method) =
+      t.Invoke place None (number_of_method scope.methods (spelled_name name)) (arguments_for name.place (elaborated_parameters method) xs).arguments
+  named_call_node place name xs None = t.Evaluate place (elaborated_call scope (callee.Function name) xs).node
+
+  -- a call as a statement
   abbrev pub call_node : Place → Callee → List ElaboratedArgument → t.TypedStatement
-  call_node place (callee.Function name) xs = of_method (method_named scope.methods (spelled_name name))
-    where
-      of_method : Option Method → t.TypedStatement
-      of_method (Some method) = t.Invoke place None (number_of_method scope.methods (spelled_name name)) (arguments_for name.place (elaborated_parameters method) xs).arguments
-      of_method None = t.Evaluate place (elaborated_call scope (callee.Function name) xs).node
+  call_node place (callee.Function name) xs = named_call_node place name xs (method_named scope.methods (spelled_name name))
   call_node place f xs = t.Evaluate place (elaborated_call scope f xs).node
 
   -- ---- return and put

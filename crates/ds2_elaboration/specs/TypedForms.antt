@@ -5,18 +5,20 @@ use Rattle.ds2_token.specs.declared.token.Token.{Token}
 use Rattle.ds2_tree.specs.declared.expressions.ChainKind.{ChainKind}
 use Rattle.ds2_value.specs.Types.{in_bounds}
 use Rattle.ds2_value.specs.declared.ty.Ty.{Ty}
+use Rattle.ds2_value.specs.declared.ty.Ty.TheVariants.{BigInt}
+use Rattle.ds2_value.specs.declared.value.Value.TheVariants.{Null}
 use Rattle.ds2_meaning.specs.IsTyped.{NamesInScope, expression_type, IsTypedExpression, IsLeftOperand, IsOperation}
-use Rattle.ds2_meaning.specs.TypedExpression.{TypedExpression}
+use Rattle.ds2_meaning.specs.TypedExpression.{TypedExpression, Constant}
 use Rattle.ds2_meaning.specs.declared.expressions.Function.TheVariants.{Floor, Ceiling}
 use Rattle.ds2_elaboration.specs.ExpressionTypes.{is_truth_chain, link_refusals}
 use Rattle.ds2_elaboration.specs.FunctionTypes.{ElaboratedArgument, elaborated_absolute, elaborated_whole, elaborated_remainder, elaborated_length, elaborated_trim}
 use Rattle.ds2_elaboration.specs.OperatorTypes.{ElaboratedLink, elaborated_link, elaborated_comparison, elaborated_sign, elaborated_not}
 use Rattle.ds2_elaboration.specs.Typings.{Typing, Known, NullAt, Unknown, ElaboratedExpression, assigned_refusals, assigned_node}
 
--- an expression is typed, of the type that is known of it; the constant null is, of whatever type
+-- an expression is typed, of the type that is known of it; the constant null is the constant null
 abbrev pub IsOfTyping : NamesInScope → Typing → TypedExpression → Type 0
 IsOfTyping names (Known ty) node = IsTypedExpression names node × (expression_type node ≡ ty) × (in_bounds (expression_type node) ≡ true)
-IsOfTyping names (NullAt place) node = IsTypedExpression names node × (in_bounds (expression_type node) ≡ true)
+IsOfTyping names (NullAt place) node = node ≡ Constant Null BigInt
 IsOfTyping names Unknown node = ⊥
 
 -- what an expression becomes is typed where it breaks no rule

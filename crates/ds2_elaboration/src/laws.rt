@@ -1,6 +1,8 @@
 //! Laws of the elaboration, over the definitions alone.
 ghost use Rattle.ds2_elaboration.specs.ElaborationLaws.{FirstRefusals, OneOutcome, ReturningIsKept};
 ghost use Rattle.ds2_elaboration.specs.TypedForms.{EveryFormIsTyped};
+ghost use Rattle.ds2_elaboration.specs.TypedPrograms.{EveryMethodIsTyped, EveryProgramIsTyped, EverySourceIsTyped};
+ghost use Rattle.ds2_elaboration.specs.TypedScopes.{ExpressionsAreTyped, StatementsAreTyped};
 ghost use Rattle.ds2_elaboration.specs.OperatorExamples.{OperatorExamples, TruthTypeExamples, AssignmentExamples};
 ghost use Rattle.ds2_elaboration.specs.CallExamples.{FunctionExamples, MethodCallExamples, ChoiceTypeExamples};
 ghost use Rattle.ds2_elaboration.specs.SourceExamples.{ProgramTypeExamples, TwoProgramExamples, LayoutExamples};
@@ -65,6 +67,41 @@ pub fn layout_examples()
 pub fn every_form_is_typed()
     ensures { EveryFormIsTyped }
 {}
+
+/// Every expression becomes a typed one, of the type that is known of it, where it breaks no rule of types.
+pub fn expressions_are_typed()
+    ensures { ExpressionsAreTyped }
+{}
+
+/// Statements become typed statements where they break no rule of types and stand where they may.
+pub fn statements_are_typed()
+    ensures { StatementsAreTyped }
+{}
+
+/// The methods of a data program that breaks no rule of names or types become typed methods, and its system methods typed bodies.
+pub fn every_method_is_typed()
+    ensures { EveryMethodIsTyped }
+{
+    ds2_value::laws::join_takes_both();
+}
+
+/// A data program that breaks no rule of names or types becomes a typed program.
+pub fn every_program_is_typed()
+    ensures { EveryProgramIsTyped }
+{
+    ds2_value::laws::join_takes_both();
+    ds2_value::laws::takes_itself();
+    ds2_value::laws::takes_onward();
+}
+
+/// What a source of data programs becomes, where it is not refused, is typed programs.
+pub fn every_source_is_typed()
+    ensures { EverySourceIsTyped }
+{
+    ds2_value::laws::join_takes_both();
+    ds2_value::laws::takes_itself();
+    ds2_value::laws::takes_onward();
+}
 
 /// Of the broken rules of a program the one with the least place is given, and at one place the first kind.
 pub fn first_refusals()

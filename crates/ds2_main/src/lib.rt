@@ -24,7 +24,7 @@ fn words(rt: &(impl Env + AllocGlobal)) -> Result<Vec<Text>, OutOfMemory> {
         Err(_) => return Ok(words),
     };
     for word in all.skip(1) {
-        words.push(Text::from_string(word))?;
+        words.push(Text::from_string(alloc, word)?)?;
     }
     Ok(words)
 }

@@ -41,4 +41,5 @@ instance_examples = record {
   own_items = refl;
   last_parameters = refl;
   other_parameters = refl;
+  two_tables_of_one_name = refl;
 }

@@ -1,13 +1,15 @@
--- What a typed program keeps before its first unit fits.
-use Rattle.std.proofs.Common.{◌≡◌, ℕ, Bool, true, false, not, ◌&&◌, ◌||◌, List, [], ◌∷◌, ◌++◌, bytes_eq, Option, Some, None, Result, Ok, Err, unwrap_or, refl, sym, ap, ◌∙◌, subst, true≢false}
+-- What a typed program keeps before its first unit fits, and so do the values that it gives to its stage.
+use Rattle.std.proofs.Common.{◌≡◌, ◌≤◌, ◌<◌, ◌+◌, ◌^◌, ℕ, Bool, true, false, not, ◌&&◌, ◌||◌, List, [], ◌∷◌, ◌++◌, length, bytes_eq, Option, Some, None, Result, Ok, Err, unwrap_or, refl, sym, ap, ◌∙◌, subst, true≢false, arith}
 use Rattle.std.specs.Prelude.{IsTrue, if◌then◌else◌}
 use Rattle.std.specs.List.{list_all}
+use Rattle.std.proofs.lemmas.Bool.{lt-ltb, ltb-true}
+use Rattle.std.proofs.lemmas.List.{length-append}
 use Rattle.std.proofs.lemmas.Slice.Eq.{bytes_eq-Decides}
 use Rattle.ds2_value.specs.HashList.{HashItem, HashItems, item_data, added_item, hash_answer}
 use Rattle.ds2_value.specs.Keeping.{IsHeld, FittingIsHeld, AssignedFits}
 use Rattle.ds2_value.specs.Operations.{or_null_at_fault}
 use Rattle.ds2_value.specs.Row.{Row, Columns}
-use Rattle.ds2_value.specs.Schema.{row_fits, types_in_bounds}
+use Rattle.ds2_value.specs.Schema.{row_fits, distinct_names, types_in_bounds}
 use Rattle.ds2_value.specs.Types.{in_bounds, fits, assign_of}
 use Rattle.ds2_value.specs.declared.fault.Fault.{Fault}
 use Rattle.ds2_value.specs.declared.hash_function.HashFunction.TheVariants.{Add}
@@ -23,12 +25,12 @@ use Rattle.ds2_meaning.specs.declared.hashes.LoadedTable.{LoadedTable}
 use Rattle.ds2_meaning.specs.declared.location.Global.{Global}
 use Rattle.ds2_meaning.specs.declared.location.Global.TheVariants.{Named, First, Last, Present, Parameter}
 use Rattle.ds2_meaning.specs.HashObjects.{DeclaredObjects, hash_named, object_at}
-use Rattle.ds2_meaning.specs.IsTyped.{type_in, variable_names, are_distinct, AreHashVariables, AreTypedHashes, AreTypedInstances, package_globals, globals_of, IsTypedUnit, location_type, row_fits_variables, items_fit}
+use Rattle.ds2_meaning.specs.IsTyped.{type_in, variable_names, are_distinct, AreHashVariables, IsTypedLoad, AreTypedHashes, AreTypedInstances, package_globals, globals_of, thread_parameters, IsTypedUnit, IsTypedProgram, parameter_type, location_type, row_fits_variables, items_fit_variables, is_countable, items_fit, StorageFits}
 use Rattle.ds2_meaning.specs.Location.{Home, is_same_global, is_same_home, Location, is_same_location, Content, Holds, Items, Position, Storage, held, items_held, with_content}
-use Rattle.ds2_meaning.specs.ProgramMeaning.{nothing_kept, global_name, row_for_variables, with_rows_as_items, first_items, with_hashes_opened, with_iterators_opened, with_objects_opened, with_instances_opened, with_parameters}
-use Rattle.ds2_meaning.specs.ProgramTree.{InstanceTree, UnitTree, is_listed, instance_objects, objects_of}
-use Rattle.ds2_meaning.specs.Reading.{TableRows, value_under}
-use Rattle.ds2_meaning.specs.StorageLaws.{LoadFits, LoadsFit, InstanceLoadsFit, ParametersFit, OpeningFits}
+use Rattle.ds2_meaning.specs.ProgramMeaning.{nothing_kept, global_name, row_for_variables, with_rows_as_items, first_items, with_hashes_opened, with_iterators_opened, with_objects_opened, with_instances_opened, with_parameters, parameters_given}
+use Rattle.ds2_meaning.specs.ProgramTree.{InstanceTree, UnitTree, ProgramTree, OverTables, OverStage, is_listed, instance_objects, objects_of, reader_of}
+use Rattle.ds2_meaning.specs.Reading.{TableRows, value_under, stage_instance}
+use Rattle.ds2_meaning.specs.StorageLaws.{LoadFits, LoadsFit, InstanceLoadsFit, ParametersFit, OpeningFits, GivenParametersFit}
 
 -- ---- tests
 
@@ -202,14 +204,14 @@ all_and_one test (x ∷ items) item h k =
 abbrev item_fits : DeclaredHash → HashItem → Bool
 item_fits hash item = row_fits_variables item.0 hash.key_variables && row_fits_variables item.1 hash.data_variables
 
-added_fits : (hash : DeclaredHash) (present : Option Row) (key row : Row) (items : HashItems) → IsTrue (item_fits hash (key, row)) → IsTrue (items_fit hash items)
-    → IsTrue (items_fit hash (added_item present key row items).items)
+added_fits : (hash : DeclaredHash) (present : Option Row) (key row : Row) (items : HashItems) → IsTrue (item_fits hash (key, row)) → IsTrue (items_fit_variables hash items)
+    → IsTrue (items_fit_variables hash (added_item present key row items).items)
 added_fits hash None key row items f h = all_and_one (item_fits hash) items (key, row) h f
 added_fits hash (Some there) key row items f h = h
 
 rows_fit_as_items : (laws : ValueLaws) (hash : DeclaredHash) (columns : Columns) (rows : List Row) (items : HashItems) → IsTrue (types_in_bounds columns)
-    → IsTrue (rows_fit rows columns) → AllInBounds hash.key_variables → AllInBounds hash.data_variables → IsTrue (items_fit hash items)
-    → IsTrue (items_fit hash (with_rows_as_items hash columns rows items))
+    → IsTrue (rows_fit rows columns) → AllInBounds hash.key_variables → AllInBounds hash.data_variables → IsTrue (items_fit_variables hash items)
+    → IsTrue (items_fit_variables hash (with_rows_as_items hash columns rows items))
 rows_fit_as_items laws hash columns [] items b f k d h = h
 rows_fit_as_items laws hash columns (row ∷ rows) items b f k d h =
     let parts = both_true (row_fits row columns) (rows_fit rows columns) f in
@@ -220,10 +222,33 @@ rows_fit_as_items laws hash columns (row ∷ rows) items b f k d h =
     (are_both (row_fits_variables key hash.key_variables) (row_fits_variables data_row hash.data_variables)
     (row_fits_them laws hash.key_variables columns row b parts.0 k) (row_fits_them laws hash.data_variables columns row b parts.0 d)) h)
 
-first_items_fit : (laws : ValueLaws) (tables : TableRows) (hash : DeclaredHash) (loaded : Option LoadedTable) → LoadFits tables loaded → AllInBounds hash.key_variables
-    → AllInBounds hash.data_variables → IsTrue (items_fit hash (first_items hash loaded tables))
-first_items_fit laws tables hash None f k d = refl
-first_items_fit laws tables hash (Some loaded) f k d = rows_fit_as_items laws hash loaded.columns (tables loaded.table) [] f.0 f.1 k d refl
+one_more_at_most : (present : Option Row) (key row : Row) (items : HashItems) → length (added_item present key row items).items ≤ length items + 1
+one_more_at_most None key row items = omega (arith, length-append items ((key, row) ∷ []))
+one_more_at_most (Some there) key row items = omega arith
+
+-- at most one item a row
+one_a_row : (hash : DeclaredHash) (columns : Columns) (rows : List Row) (items : HashItems) → length (with_rows_as_items hash columns rows items) ≤ length rows + length items
+one_a_row hash columns [] items = omega arith
+one_a_row hash columns (row ∷ rows) items =
+    let key = row_for_variables hash.key_variables columns row in
+    let data_row = row_for_variables hash.data_variables columns row in
+    let more = one_a_row hash columns rows (hash_answer Add key data_row items).items in
+    let one = one_more_at_most (item_data key items) key data_row items in
+    omega (arith, more, one)
+
+fewer_are_countable : (m n : ℕ) → m ≤ n → IsTrue (is_countable n) → IsTrue (is_countable m)
+fewer_are_countable m n h k = let below = ltb-true n (2 ^ 63) k in lt-ltb m (2 ^ 63) (omega (arith, h, below))
+
+first_items_fit : (laws : ValueLaws) (tables : TableRows) (hash : DeclaredHash) (loaded : Option LoadedTable) → IsTypedLoad hash loaded → LoadFits tables loaded
+    → AllInBounds hash.key_variables → AllInBounds hash.data_variables → IsTrue (items_fit hash (first_items hash loaded tables))
+first_items_fit laws tables hash None t f k d = refl
+first_items_fit laws tables hash (Some loaded) t f k d =
+    let bounds = both_true (distinct_names loaded.columns) (types_in_bounds loaded.columns) t.0 in
+    let rows = tables loaded.table in
+    let few : length (with_rows_as_items hash loaded.columns rows []) ≤ length rows = omega (arith, one_a_row hash loaded.columns rows []) in
+    are_both (is_countable (length (with_rows_as_items hash loaded.columns rows []))) (items_fit_variables hash (with_rows_as_items hash loaded.columns rows []))
+    (fewer_are_countable (length (with_rows_as_items hash loaded.columns rows [])) (length rows) few f.0)
+    (rows_fit_as_items laws hash loaded.columns rows [] bounds.1 f.1 k d refl)
 
 -- ---- where items are kept
 
@@ -238,7 +263,7 @@ hash_there laws globals tables home (h ∷ hashes) name hash before t f e =
     is_here b = IsTrue (items_fit hash (items_held (if b then Items (first_items h h.loaded tables) else with_hashes_opened tables home hashes before (object_at home name))))
 
     here : IsTrue (items_fit h (first_items h h.loaded tables))
-    here = first_items_fit laws tables h h.loaded f.0 (all_in_bounds globals h.key_variables t.0.0) (all_in_bounds globals h.data_variables t.0.1)
+    here = first_items_fit laws tables h h.loaded t.0.3 f.0 (all_in_bounds globals h.key_variables t.0.0) (all_in_bounds globals h.data_variables t.0.1)
 
     by : (hash_named hashes name ≡ Some hash → IsTrue (items_fit hash (items_held (with_hashes_opened tables home hashes before (object_at home name)))))
         → (b : Bool) → bytes_eq h.name name ≡ b → (if b then Some h else hash_named hashes name) ≡ Some hash
@@ -326,3 +351,41 @@ opening_fits fitting assigned p tables values typed f g parameters =
           subst (λ content. IsTrue (items_fit hash (items_held content))) (sym (past_parameters home name p.parameters values base))
           (items_there laws p tables typed f g home name hash e);
     }
+
+-- ---- values for a stage
+
+-- each of these variables has its type under its name among all
+abbrev HaveTheirTypes : List Variable → List Variable → Type 0
+HaveTheirTypes all [] = Unit {0}
+HaveTheirTypes all (q ∷ qs) = (type_in all q.name ≡ Some q.ty) × HaveTheirTypes all qs
+
+behind_another : (p : Variable) (all qs : List Variable) → is_listed (variable_names qs) p.name ≡ false → HaveTheirTypes all qs → HaveTheirTypes (p ∷ all) qs
+behind_another p all [] n h = tt
+behind_another p all (q ∷ qs) n h =
+    let parts = neither (bytes_eq q.name p.name) (is_listed (variable_names qs) p.name) n in
+    (ap (λ b. if b then Some p.ty else type_in all q.name) (other_way_false q.name p.name parts.0) ∙ h.0, behind_another p all qs parts.1 h.1)
+
+have_their_types : (ps : List Variable) → IsTrue (are_distinct (variable_names ps)) → HaveTheirTypes ps ps
+have_their_types [] d = tt
+have_their_types (p ∷ ps) d =
+    let parts = both_true (not (is_listed (variable_names ps) p.name)) (are_distinct (variable_names ps)) d in (
+      ap (λ b. if b then Some p.ty else type_in ps p.name) ((bytes_eq-Decides p.name p.name).1 refl),
+      behind_another p ps ps (not_so (is_listed (variable_names ps) p.name) parts.0) (have_their_types ps parts.1),
+    )
+
+given_fit : (p : UnitTree) (instance : List ℕ) (all qs : List Variable) (kept : Storage) → thread_parameters p.threads instance ≡ Some all → HaveTheirTypes all qs
+    → StorageFits p kept → ParametersFit qs (parameters_given instance qs kept)
+given_fit p instance all [] kept e h f = tt
+given_fit p instance all (q ∷ qs) kept e h f = (
+  f.values (record { home = Some instance; global = Parameter q.name }) q.ty (ap (λ o. parameter_type o q.name) e ∙ h.0),
+  given_fit p instance all qs kept e h.1 f,
+)
+
+pub given_parameters_fit : GivenParametersFit
+given_parameters_fit p stage kept typed f =
+    given_fit p (stage_instance p.reading) (reader_of stage).parameters (reader_of stage).parameters kept typed.1.3
+    (have_their_types (reader_of stage).parameters (of_stage stage typed.2)) f
+  where
+    of_stage : (s : ProgramTree) → IsTypedProgram s → IsTrue (are_distinct (variable_names (reader_of s).parameters))
+    of_stage (OverTables q) t = t.0.parameters.1
+    of_stage (OverStage q inner) t = t.0.parameters.1

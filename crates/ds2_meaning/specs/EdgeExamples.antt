@@ -70,7 +70,7 @@ pub record EdgeExamples : Type 0 where
   pub wider_than_the_thread : (seen (program_answer (OverStage (record (unit_with (variable_in (DecimalOf 20 1) (codes "x") ∷ []) []) {
     threads = record { name = codes "s"; parameters = [] } ∷ [];
     reading = From (codes "s") 1 (bigint_column (codes "x") ∷ []);
-  }) (OverTables (record (program_with (codes "x" ∷ []) (assign_at 50 (codes "x") (int 3) ∷ [])) { thread = Some (codes "three") }))) [] (λ name. []) 10 0)).rows
+  }) (OverTables (record (program_with (codes "x" ∷ []) (assign_at 50 (codes "x") (int 3) ∷ [])) { thread = Some (codes "three") }))) [] (λ table. []) 10 0)).rows
       ≡ (fixed (pos 30) 1 ∷ []) ∷ []
 
 -- texts of more than 1,024 characters are cut

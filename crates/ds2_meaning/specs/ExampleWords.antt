@@ -24,6 +24,7 @@ use Rattle.ds2_meaning.specs.declared.location.Reference.{Reference}
 use Rattle.ds2_meaning.specs.declared.location.Reference.TheVariants.{At, Local}
 use Rattle.ds2_meaning.specs.declared.methods.Parameter.{Parameter}
 use Rattle.ds2_meaning.specs.declared.readings.Reading.TheVariants.{Once}
+use Rattle.ds2_meaning.specs.declared.readings.MentionedTable.{MentionedTable}
 use Rattle.ds2_meaning.specs.HashObjects.{no_objects}
 use Rattle.ds2_meaning.specs.ProgramMeaning.{program_answer}
 use Rattle.ds2_meaning.specs.ProgramTree.{BodyTree, UnitTree, OverTables}
@@ -119,6 +120,10 @@ by_value name = record { name = name; ty = BigInt; is_in_out = false }
 abbrev pub bigint_column : List ℕ → Column
 bigint_column name = record { name = name; ty = BigInt }
 
+-- a table of the store
+abbrev pub stored : List ℕ → MentionedTable
+stored name = record { name = name; maker = 0 }
+
 -- a system method without locals that has these statements
 abbrev pub body_of : List TypedStatement → BodyTree
 body_of statements = record { locals = []; statements = all_statements statements }
@@ -169,7 +174,7 @@ seen a = record { rows = map (λ (w : Written). w.row) a.rows; lines = a.lines; 
 
 -- what is seen of a program that reads nothing
 abbrev pub ran : UnitTree → ℕ → Seen
-ran p budget = seen (program_answer (OverTables p) [] (λ name. []) budget 0)
+ran p budget = seen (program_answer (OverTables p) [] (λ table. []) budget 0)
 
 -- a normal end with these rows, and what `init`, `run` and `term` left
 abbrev pub ends_with : List Row → List ℕ → Seen

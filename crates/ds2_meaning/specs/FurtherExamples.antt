@@ -15,7 +15,7 @@ use Rattle.ds2_meaning.specs.declared.location.Global.TheVariants.{First, Last, 
 use Rattle.ds2_meaning.specs.declared.location.Reference.TheVariants.{At, Local}
 use Rattle.ds2_meaning.specs.declared.readings.Reading.{Reading}
 use Rattle.ds2_meaning.specs.declared.readings.Reading.TheVariants.{Set, Merge, From}
-use Rattle.ds2_meaning.specs.ExampleWords.{col, natural, fixed, global, value_of_type, variable_of, local, int, decimal_constant, text_constant, binary, plus, less, negated, function_of, assign_at, assign_local, bigint, by_value, bigint_column, output_of, body_of, unit_with, program_with, seen, ran, ends_with, faults_at}
+use Rattle.ds2_meaning.specs.ExampleWords.{col, natural, fixed, global, value_of_type, variable_of, local, int, decimal_constant, text_constant, binary, plus, less, negated, function_of, assign_at, assign_local, bigint, by_value, bigint_column, stored, output_of, body_of, unit_with, program_with, seen, ran, ends_with, faults_at}
 use Rattle.ds2_meaning.specs.HashObjects.{no_objects}
 use Rattle.ds2_meaning.specs.Method.{MethodTree}
 use Rattle.ds2_meaning.specs.ProgramExamples.{tables_of, input_of, by_ascending, reader, with_columns, rows_over, two, getting, merging, summing, totals, sales}
@@ -184,7 +184,7 @@ pub record CallExamples : Type 0 where
 
 -- set sales; by region prod;
 abbrev pub by_region_and_product : Reading
-by_region_and_product = Set (record { table = codes "sales"; present = None; columns = record { name = codes "region"; ty = Varchar 1 } ∷ record { name = codes "prod"; ty = Varchar 1 } ∷ [] } ∷ [])
+by_region_and_product = Set (record { table = stored (codes "sales"); present = None; columns = record { name = codes "region"; ty = Varchar 1 } ∷ record { name = codes "prod"; ty = Varchar 1 } ∷ [] } ∷ [])
     (by_ascending (codes "region") ∷ by_ascending (codes "prod") ∷ [])
 
 -- sales in regions of products
@@ -195,7 +195,7 @@ product_sales = tables_of ((codes "sales", (Txt (codes "N") ∷ Txt (codes "a") 
 pub record ReadingExamples : Type 0 where
   -- set a(in=ia) b; by k; i = ia; f = first.k; l = last.k;
   pub interleaved_with_flags : rows_over (with_columns (codes "i" ∷ codes "f" ∷ codes "l" ∷ codes "k" ∷ []) (reader (Set (
-      record { table = codes "a"; present = Some (codes "ia"); columns = bigint_column (codes "k") ∷ [] } ∷ input_of (codes "b") (codes "k" ∷ []) ∷ []) (by_ascending (codes "k") ∷ []))
+      record { table = stored (codes "a"); present = Some (codes "ia"); columns = bigint_column (codes "k") ∷ [] } ∷ input_of (codes "b") (codes "k" ∷ []) ∷ []) (by_ascending (codes "k") ∷ []))
       (codes "i" ∷ codes "f" ∷ codes "l" ∷ []) (codes "k" ∷ []) (
       assign_at 1 (codes "i") (Variable (At (Present (codes "ia"))) BigInt) ∷ assign_at 9 (codes "f") (Variable (At (First (codes "k"))) BigInt) ∷ assign_at 22 (codes "l") (Variable (At (Last (codes "k"))) BigInt) ∷ [])))
       ((codes "a", (natural 1 ∷ []) ∷ (natural 2 ∷ []) ∷ []) ∷ (codes "b", (natural 1 ∷ []) ∷ (natural 2 ∷ []) ∷ (natural 2 ∷ []) ∷ []) ∷ [])
@@ -211,7 +211,7 @@ pub record ReadingExamples : Type 0 where
   pub merged_with_an_empty_table : rows_over (merging false []) ((codes "x", []) ∷ (codes "y", two 1 10 ∷ []) ∷ []) ≡ (natural 1 ∷ Null ∷ natural 10 ∷ []) ∷ []
   -- dcl decimal(20,1) a; dcl char(5) t; set s; where a is BIGINT and t is CHAR(2) in the table
   pub wider_variables : rows_over (record (unit_with (variable_in (DecimalOf 20 1) (codes "a") ∷ variable_in (Char 5) (codes "t") ∷ []) []) {
-    reading = Set (record { table = codes "s"; present = None; columns = bigint_column (codes "a") ∷ record { name = codes "t"; ty = Char 2 } ∷ [] } ∷ []) [];
+    reading = Set (record { table = stored (codes "s"); present = None; columns = bigint_column (codes "a") ∷ record { name = codes "t"; ty = Char 2 } ∷ [] } ∷ []) [];
   })
       ((codes "s", (natural 3 ∷ Txt (codes "ab") ∷ []) ∷ []) ∷ []) ≡ (fixed (pos 30) 1 ∷ Txt (codes "ab   ") ∷ []) ∷ []
   -- set sales; by region prod; : four loads, two regions, three products of a region
@@ -252,10 +252,10 @@ pub record FaultExamples : Type 0 where
   pub in_term : ran (record (program_with (codes "x" ∷ []) (assign_at 50 (codes "x") (int 1) ∷ [])) { term = body_of (If (col 90) one_by_zero (Empty (col 103)) ∷ []) }) 10
       ≡ record { rows = (natural 1 ∷ []) ∷ []; lines = []; ending = Some (Faulted DivideByZero (col 90)); budgets_left = 10 ∷ 9 ∷ 9 ∷ [] }
   -- init, the stage, run and term, with a parameter that no `setparms` gave
-  pub lines_in_order : seen (program_answer (putting (naming [])) [] (λ name. []) 10 0)
+  pub lines_in_order : seen (program_answer (putting (naming [])) [] (λ table. []) 10 0)
       ≡ record { rows = (natural 1 ∷ []) ∷ []; lines = codes "i" ∷ codes "null" ∷ codes "r" ∷ codes "t" ∷ []; ending = Some Normal; budgets_left = 9 ∷ 10 ∷ 8 ∷ 10 ∷ 9 ∷ 9 ∷ [] }
   -- a fault in the stage's `init`
-  pub in_the_stage : seen (program_answer (putting (naming (If (col 30) one_by_zero (Empty (col 43)) ∷ []))) [] (λ name. []) 10 0)
+  pub in_the_stage : seen (program_answer (putting (naming (If (col 30) one_by_zero (Empty (col 43)) ∷ []))) [] (λ table. []) 10 0)
       ≡ record { rows = []; lines = codes "i" ∷ []; ending = Some (Faulted DivideByZero (col 30)); budgets_left = 9 ∷ 9 ∷ [] }
   -- a fault in the third load of the stage: if amt = 2.25n then if 1 / 0 then;
   pub in_a_load_of_the_stage : seen (program_answer (totals faulting_sums) [] sales 20 1)

@@ -1,6 +1,6 @@
 -- What small programs with hash objects, iterators and parameters of thread programs leave, written out from the rules by hand. Each
 -- stands behind its source.
-use Rattle.std.specs.Prelude.{◌≡◌, ℕ, ◌+◌, true, codes, List, [], ◌∷◌, ◌++◌, map, Some, None, pos}
+use Rattle.std.specs.Prelude.{◌≡◌, ℕ, nat_eq, ◌+◌, true, codes, if◌then◌else◌, List, [], ◌∷◌, ◌++◌, map, Some, None, pos}
 use Rattle.ds2_value.specs.Row.{Row}
 use Rattle.ds2_value.specs.declared.comparison.Comparison.TheVariants as comparison
 use Rattle.ds2_value.specs.declared.fault.Ending.TheVariants.{Normal}
@@ -17,13 +17,14 @@ use Rattle.ds2_meaning.specs.declared.hashes.HashVariable.{HashVariable}
 use Rattle.ds2_meaning.specs.declared.location.Global.TheVariants.{Named}
 use Rattle.ds2_meaning.specs.declared.location.Reference.TheVariants.{Local}
 use Rattle.ds2_meaning.specs.declared.readings.Reading.TheVariants.{Set}
-use Rattle.ds2_meaning.specs.ExampleWords.{col, natural, fixed, value_of_type, variable_of, int, text_constant, assign_at, bigint, by_value, output_of, body_of, bigint_column, unit_with, program_with, Seen, seen, ran, ends_with}
+use Rattle.ds2_meaning.specs.ExampleWords.{col, natural, fixed, value_of_type, variable_of, int, text_constant, assign_at, bigint, by_value, output_of, body_of, bigint_column, stored, unit_with, program_with, Seen, seen, ran, ends_with}
 use Rattle.ds2_meaning.specs.FurtherExamples.{variable_in, naming, putting}
 use Rattle.ds2_meaning.specs.HashObjects.{DeclaredObjects}
 use Rattle.ds2_meaning.specs.Method.{MethodTree}
-use Rattle.ds2_meaning.specs.ProgramExamples.{tables_of, two}
+use Rattle.ds2_meaning.specs.ProgramExamples.{tables_of, reader, with_columns, two}
 use Rattle.ds2_meaning.specs.ProgramMeaning.{program_answer}
 use Rattle.ds2_meaning.specs.ProgramTree.{UnitTree, ProgramTree, OverTables, OverStage}
+use Rattle.ds2_meaning.specs.Reading.{TableRows}
 use Rattle.ds2_meaning.specs.StatementExamples.{with_methods}
 use Rattle.ds2_meaning.specs.TypedExpression.{TypedExpression, Variable, Convert, Chain, Link, NoLink, Compared, Called, HashCalled, IteratorCalled, NoArgument, ByValue}
 use Rattle.ds2_meaning.specs.TypedStatement.{TypedStatement, Evaluate, SetParameters, ParameterValue, ReturnValue, Put, If, Shown}
@@ -99,12 +100,12 @@ billing = record (unit_with (variable_in (Varchar 20) (codes "name") ∷ variabl
           name = codes "h";
           key_variables = hash_variable (Varchar 2) (codes "cust") ∷ [];
           data_variables = hash_variable (Varchar 20) (codes "name") ∷ [];
-          loaded = Some (record { table = codes "customers"; columns = record { name = codes "cust"; ty = Varchar 2 } ∷ record { name = codes "name"; ty = Varchar 10 } ∷ [] });
+          loaded = Some (record { table = stored (codes "customers"); columns = record { name = codes "cust"; ty = Varchar 2 } ∷ record { name = codes "name"; ty = Varchar 10 } ∷ [] });
         } ∷ [];
         iterators = [];
       };
       reading = Set (record {
-        table = codes "orders";
+        table = stored (codes "orders");
         present = None;
         columns = bigint_column (codes "order_id") ∷ record { name = codes "cust"; ty = Varchar 2 } ∷ bigint_column (codes "qty") ∷ record { name = codes "price"; ty = DecimalOf 5 2 } ∷ [];
       } ∷ []) [];
@@ -116,7 +117,7 @@ abbrev pub loading : List Row → Seen
 loading rows = seen (program_answer (OverTables (record (program_with (codes "k" ∷ codes "v" ∷ codes "r" ∷ []) (
     key_is 1 1 ∷ (showing 10 (on_hash hash.Find) ++ showing 40 (on_hash hash.NumItems)))) {
       objects = record {
-        hashes = record hash_of_k_and_v { loaded = Some (record { table = codes "t"; columns = bigint_column (codes "k") ∷ bigint_column (codes "v") ∷ [] }) } ∷ [];
+        hashes = record hash_of_k_and_v { loaded = Some (record { table = stored (codes "t"); columns = bigint_column (codes "k") ∷ bigint_column (codes "v") ∷ [] }) } ∷ [];
         iterators = [];
       };
     })) [] (tables_of ((codes "t", rows) ∷ [])) 10 0)
@@ -231,7 +232,29 @@ with_setparms statements = with_init (putting (naming []))
       init = body_of statements;
     }) stage
 
--- instances with hash objects of their own, and parameters of thread programs
+-- a table of the store with three rows of k and v, and every other one with a single row
+abbrev pub three_rows_stored : TableRows
+three_rows_stored table = if nat_eq table.maker 0 then two 1 5 ∷ two 2 6 ∷ two 3 7 ∷ [] else two 1 2 ∷ []
+
+-- package p; dcl bigint k v; dcl package hash h([k],[v],8,'a'); method n() returns bigint; return h.num_items; end; endpackage;
+-- data a (overwrite=yes); dcl bigint k v; method run(); k = 1; v = 2; end; enddata;
+-- data b; dcl package p i; dcl bigint c; method run(); set a; c = i.n(); end; enddata;
+abbrev pub reading_what_was_made : UnitTree
+reading_what_was_made = record (with_columns (codes "k" ∷ codes "v" ∷ codes "c" ∷ []) (reader (Set (record {
+  table = record { name = codes "a"; maker = 1 };
+  present = None;
+  columns = bigint_column (codes "k") ∷ bigint_column (codes "v") ∷ [];
+} ∷ []) []) (codes "c" ∷ []) (codes "k" ∷ codes "v" ∷ []) (assign_at 300 (codes "c") (Called (Some (codes "i")) 0 NoArgument BigInt) ∷ []))) {
+  instances = record {
+    name = codes "i";
+    package' = codes "p";
+    variables = map bigint (codes "k" ∷ codes "v" ∷ []);
+    objects = record { hashes = record hash_of_k_and_v { loaded = Some (record { table = stored (codes "a"); columns = bigint_column (codes "k") ∷ bigint_column (codes "v") ∷ [] }) } ∷ []; iterators = [] };
+    methods = record { name = codes "n"; parameters = []; locals = []; returns = Some BigInt; body = all_statements (ReturnValue (col 110) (on_hash hash.NumItems) ∷ []) } ∷ [];
+  } ∷ [];
+}
+
+-- instances with hash objects of their own, parameters of thread programs, and two tables of one name
 pub record InstanceExamples : Type 0 where
   -- dcl package p q; dcl package p r; a = q.put(1, 10); b = r.put(1, 11); c = q.put(1, 12); x = q.count(); y = r.count();
   pub own_items : ran (record (program_with (codes "a" ∷ codes "b" ∷ codes "c" ∷ codes "x" ∷ codes "y" ∷ []) (
@@ -242,7 +265,9 @@ pub record InstanceExamples : Type 0 where
       }) 40
       ≡ ends_with ((natural 0 ∷ natural 0 ∷ natural 1 ∷ natural 1 ∷ natural 1 ∷ []) ∷ []) (40 ∷ 19 ∷ 40 ∷ [])
   -- s.setparms(1); s.setparms(2); t.setparms(3); : the last values of the instance that the program reads from
-  pub last_parameters : (seen (program_answer (with_setparms (SetParameters (col 20) (codes "s") (parameter_n 1) ∷ SetParameters (col 40) (codes "s") (parameter_n 2) ∷ SetParameters (col 60) (codes "t") (parameter_n 3) ∷ [])) [] (λ name. []) 10 0))
+  pub last_parameters : (seen (program_answer (with_setparms (SetParameters (col 20) (codes "s") (parameter_n 1) ∷ SetParameters (col 40) (codes "s") (parameter_n 2) ∷ SetParameters (col 60) (codes "t") (parameter_n 3) ∷ [])) [] (λ table. []) 10 0))
       ≡ record { rows = (natural 1 ∷ []) ∷ []; lines = codes "2" ∷ codes "r" ∷ codes "t" ∷ []; ending = Some Normal; budgets_left = 7 ∷ 10 ∷ 8 ∷ 10 ∷ 9 ∷ 9 ∷ [] }
   -- t.setparms(3); : the parameters of the instance that the program reads from are null
-  pub other_parameters : (seen (program_answer (with_setparms (SetParameters (col 60) (codes "t") (parameter_n 3) ∷ [])) [] (λ name. []) 10 0)).lines ≡ codes "null" ∷ codes "r" ∷ codes "t" ∷ []
+  pub other_parameters : (seen (program_answer (with_setparms (SetParameters (col 60) (codes "t") (parameter_n 3) ∷ [])) [] (λ table. []) 10 0)).lines ≡ codes "null" ∷ codes "r" ∷ codes "t" ∷ []
+  -- the package means the table of the store, and the program that of the program before it
+  pub two_tables_of_one_name : (seen (program_answer (OverTables reading_what_was_made) [] three_rows_stored 20 0)).rows ≡ (natural 1 ∷ natural 2 ∷ natural 3 ∷ []) ∷ []

@@ -1,12 +1,13 @@
 -- Which programs are typed: by cases over the tree, every name is known, every type fits, and no statement has a flag as its target.
 use Rattle.std.specs.List.{list_all}
-use Rattle.std.specs.Prelude.{◌≡◌, ◌≤◌, ◌<◌, ◌+◌, IsTrue, ℕ, min, max, Bool, true, false, bytes_eq, if◌then◌else◌, not, ◌&&◌, List, [], ◌∷◌, ◌++◌, length, map, slice_get, is_some, Option, Some, None}
+use Rattle.std.specs.Prelude.{◌≡◌, ◌≤◌, ◌<◌, ◌+◌, IsTrue, ℕ, min, max, pos, Bool, true, false, bytes_eq, if◌then◌else◌, not, ◌&&◌, List, [], ◌∷◌, ◌++◌, length, map, slice_get, is_some, Option, Some, None}
 use Rattle.ds2_value.specs.HashList.{HashItem, HashItems}
 use Rattle.ds2_value.specs.Row.{Row, Columns}
-use Rattle.ds2_value.specs.Schema.{has_column}
+use Rattle.ds2_value.specs.Schema.{has_column, is_schema}
 use Rattle.ds2_value.specs.Types.{in_bounds, fits, takes}
 use Rattle.ds2_value.specs.declared.ty.Ty.{Ty}
 use Rattle.ds2_value.specs.declared.ty.Ty.TheVariants.{BigInt, Decimal as DecimalOf, Char, Varchar}
+use Rattle.ds2_value.specs.declared.value.Value.TheVariants.{Int}
 use Rattle.ds2_meaning.specs.declared.expressions.Function.{Function}
 use Rattle.ds2_meaning.specs.declared.expressions.Function.TheVariants as function
 use Rattle.ds2_meaning.specs.declared.expressions.Operation.{Operation}
@@ -521,10 +522,12 @@ AreLoadedVariables columns [] = Unit {0}
 AreLoadedVariables columns (v ∷ variables) =
     ((ty : Ty) × (column_type columns (global_name v.global) ≡ Some ty) × IsTrue (takes v.ty ty)) × AreLoadedVariables columns variables
 
--- the table of a hash object, where there is one
+-- the table of a hash object, where there is one: its columns have distinct names and types in bounds, and one is there for each
+-- variable
 abbrev pub IsTypedLoad : DeclaredHash → Option LoadedTable → Type 0
 IsTypedLoad hash None = Unit {0}
-IsTypedLoad hash (Some loaded) = AreLoadedVariables loaded.columns hash.key_variables × AreLoadedVariables loaded.columns hash.data_variables
+IsTypedLoad hash (Some loaded) =
+    IsTrue (is_schema loaded.columns) × AreLoadedVariables loaded.columns hash.key_variables × AreLoadedVariables loaded.columns hash.data_variables
 
 -- hash objects among these globals
 abbrev pub AreTypedHashes : (Global → Option Ty) → List DeclaredHash → Type 0
@@ -572,36 +575,56 @@ abbrev pub AreByColumns : List ByVariable → Columns → Type 0
 AreByColumns [] columns = Unit {0}
 AreByColumns (by ∷ bys) columns = IsTrue (has_column by.name columns) × AreByColumns bys columns
 
--- the tables of a reading statement: their columns are variables, and each has every BY variable
+-- the tables of a reading statement: the columns of each have distinct names and types in bounds and are variables, and every BY
+-- variable is among them
 abbrev pub AreTypedInputs : List Variable → List ByVariable → List Input → Type 0
 AreTypedInputs variables bys [] = Unit {0}
-AreTypedInputs variables bys (input ∷ inputs) = AreVariables variables input.columns × AreByColumns bys input.columns × AreTypedInputs variables bys inputs
+AreTypedInputs variables bys (input ∷ inputs) =
+    IsTrue (is_schema input.columns) × AreVariables variables input.columns × AreByColumns bys input.columns × AreTypedInputs variables bys inputs
 
--- the columns that a reading statement sets are variables
+-- a reading statement: the columns that it sets are variables; it has at most 16 tables and 16 BY variables, and 1 to 64 workers
 abbrev pub IsTypedReading : List Variable → Reading → Type 0
-IsTypedReading variables (From instance workers columns) = AreVariables variables columns
-IsTypedReading variables reading = AreTypedInputs variables (bys_of reading) (inputs_of reading)
+IsTypedReading variables (From instance workers columns) = (1 ≤ workers) × (workers ≤ 64) × AreVariables variables columns
+IsTypedReading variables reading =
+    (length (inputs_of reading) ≤ 16) × (length (bys_of reading) ≤ 16) × AreTypedInputs variables (bys_of reading) (inputs_of reading)
 
 -- each column of an output has the type of its variable
 abbrev pub AreOutputColumns : List Variable → List OutputColumn → Type 0
 AreOutputColumns variables [] = Unit {0}
 AreOutputColumns variables (c ∷ columns) = (type_in variables c.source ≡ Some c.ty) × AreOutputColumns variables columns
 
--- the columns of each output are variables, and there is at least one
+-- the columns of each output are variables, their names are distinct, and there is at least one
 abbrev pub AreTypedOutputs : List Variable → List OutputTable → Type 0
 AreTypedOutputs variables [] = Unit {0}
 AreTypedOutputs variables (output ∷ outputs) =
-    (1 ≤ length output.columns) × AreOutputColumns variables output.columns × AreTypedOutputs variables outputs
+    (1 ≤ length output.columns) × IsTrue (is_schema (output_columns output)) × AreOutputColumns variables output.columns × AreTypedOutputs variables outputs
+
+-- the names of outputs
+abbrev pub names_of_outputs : List OutputTable → List (List ℕ)
+names_of_outputs outputs = map (λ (o : OutputTable). o.name) outputs
+
+-- a data program, which has no name of its own, has no parameters
+abbrev pub IsTypedHead : Option (List ℕ) → List Variable → Type 0
+IsTypedHead None parameters = parameters ≡ []
+IsTypedHead (Some name) parameters = Unit {0}
+
+-- the parameters of the instances of thread programs
+abbrev pub AreTypedThreads : List ThreadInstance → Type 0
+AreTypedThreads [] = Unit {0}
+AreTypedThreads (i ∷ instances) = AreTypedVariables i.parameters × AreTypedThreads instances
 
 -- a program without the thread program that it reads from
 pub record IsTypedUnit (p : UnitTree) : Type 0 where
+  pub head : IsTypedHead p.thread p.parameters
   pub variables : AreTypedVariables (data_vector p)
   pub parameters : AreTypedVariables p.parameters
   pub names : IsTrue (are_distinct (names_given p))
   pub instances : AreTypedInstances p.instances
   pub objects : AreTypedObjects (globals_of p) p.objects
+  pub threads : AreTypedThreads p.threads
   pub reading : IsTypedReading (data_vector p) p.reading
   pub outputs : AreTypedOutputs (data_vector p) p.outputs
+  pub output_names : IsTrue (are_distinct (names_of_outputs p.outputs))
   pub methods : AreTypedMethods (globals_of p) (methods_of p) p.objects p.methods
   pub init : IsTypedInit p p.init
   pub run : IsTypedBody p p.run
@@ -622,17 +645,21 @@ abbrev pub AreStageColumns : Columns → List OutputTable → Type 0
 AreStageColumns columns (output ∷ []) = columns ≡ output_columns output
 AreStageColumns columns _ = ⊥
 
--- a program and the thread program that it reads from fit: its columns are those of that one's output, and its instance has that
--- one's parameters
+-- a program and the thread program that it reads from fit: that one has a name, its columns are those of that one's output, and
+-- its instance has that one's parameters
 abbrev pub FitsStage : UnitTree → UnitTree → Type 0
 FitsStage p stage =
-    ReadsStage p.reading × AreStageColumns (stage_columns p.reading) stage.outputs
+    ReadsStage p.reading × IsTrue (is_some stage.thread) × AreStageColumns (stage_columns p.reading) stage.outputs
     × (thread_parameters p.threads (stage_instance p.reading) ≡ Some stage.parameters)
 
 -- a typed program: it and the thread program that it reads from are typed
 abbrev pub IsTypedProgram : ProgramTree → Type 0
 IsTypedProgram (OverTables p) = IsTypedUnit p × ReadsNoStage p.reading
 IsTypedProgram (OverStage p stage) = IsTypedUnit p × FitsStage p (reader_of stage) × IsTypedProgram stage
+
+-- a typed data program: it has no name of its own
+abbrev pub IsTypedDataProgram : ProgramTree → Type 0
+IsTypedDataProgram p = IsTypedProgram p × ((reader_of p).thread ≡ None)
 
 -- ---- what is kept
 
@@ -641,9 +668,16 @@ abbrev pub instance_variables : List InstanceTree → List ℕ → List Variable
 instance_variables [] name = []
 instance_variables (i ∷ instances) name = if bytes_eq i.name name then i.variables else instance_variables instances name
 
--- the type of what a location of a program holds, where it is one of its variables, parameters or flags or one of an instance
+-- the type of the parameter of this name, where there are parameters
+abbrev pub parameter_type : Option (List Variable) → List ℕ → Option Ty
+parameter_type None name = None
+parameter_type (Some parameters) name = type_in parameters name
+
+-- the type of what a location of a program holds, where it is one of its variables, parameters or flags, a variable of an instance
+-- of a package, or a parameter of an instance of a thread program
 abbrev pub location_type : UnitTree → Home → Global → Option Ty
 location_type p None global = globals_of p global
+location_type p (Some instance) (Parameter name) = parameter_type (thread_parameters p.threads instance) name
 location_type p (Some instance) global = package_globals (instance_variables p.instances instance) global
 
 -- a row has a value of its type for each variable of a hash object
@@ -653,9 +687,17 @@ row_fits_variables (v ∷ row) (x ∷ variables) = fits v x.ty && row_fits_varia
 row_fits_variables _ _ = false
 
 -- each item has a key and data for the variables of its hash object
-abbrev pub items_fit : DeclaredHash → HashItems → Bool
-items_fit hash items =
+abbrev pub items_fit_variables : DeclaredHash → HashItems → Bool
+items_fit_variables hash items =
     list_all (λ (item : HashItem). row_fits_variables item.0 hash.key_variables && row_fits_variables item.1 hash.data_variables) items
+
+-- so many are a BIGINT
+abbrev pub is_countable : ℕ → Bool
+is_countable n = fits (Int (pos n)) BigInt
+
+-- the items fit the variables of their hash object, and their number is a BIGINT
+abbrev pub items_fit : DeclaredHash → HashItems → Bool
+items_fit hash items = is_countable (length items) && items_fit_variables hash items
 
 -- what is kept fits: each value the type of its location, and the items of each hash object its variables
 pub record StorageFits (p : UnitTree) (c : Storage) : Type 0 where

@@ -21,6 +21,7 @@ pub mod HashExamples
 pub mod EdgeExamples
 pub mod BudgetLaws
 pub mod TableLaws
+pub mod ReadingLaws
 pub mod IsTyped
 pub mod StorageLaws
 pub mod TypedExamples

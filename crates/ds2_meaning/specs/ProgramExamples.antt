@@ -1,5 +1,5 @@
 -- What small programs over tables leave, written out from the rules by hand. Each stands behind its source.
-use Rattle.std.specs.Prelude.{◌≡◌, ℕ, Bool, true, false, codes, bytes_eq, if◌then◌else◌, List, [], ◌∷◌, ◌++◌, map, Some, None, pos}
+use Rattle.std.specs.Prelude.{◌≡◌, ℕ, nat_eq, Bool, true, false, ◌&&◌, codes, bytes_eq, if◌then◌else◌, List, [], ◌∷◌, ◌++◌, map, Some, None, pos}
 use Rattle.ds2_value.specs.Row.{Row, Columns}
 use Rattle.ds2_value.specs.Run.{Written}
 use Rattle.ds2_value.specs.declared.comparison.Comparison.TheVariants as comparison
@@ -16,7 +16,7 @@ use Rattle.ds2_meaning.specs.declared.readings.ByVariable.{ByVariable}
 use Rattle.ds2_meaning.specs.declared.readings.Input.{Input}
 use Rattle.ds2_meaning.specs.declared.readings.Reading.{Reading}
 use Rattle.ds2_meaning.specs.declared.readings.Reading.TheVariants.{Nothing, Set, Merge, From}
-use Rattle.ds2_meaning.specs.ExampleWords.{col, natural, fixed, value_of_type, variable_of, int, binary, plus, function_of, assign_at, bigint, output_column, output_of, body_of, bigint_column, program_with, Seen, seen, ran, ends_with}
+use Rattle.ds2_meaning.specs.ExampleWords.{col, natural, fixed, value_of_type, variable_of, int, binary, plus, function_of, assign_at, bigint, output_column, output_of, body_of, bigint_column, stored, program_with, Seen, seen, ran, ends_with}
 use Rattle.ds2_meaning.specs.HashObjects.{no_objects}
 use Rattle.ds2_meaning.specs.Method.{MethodTree}
 use Rattle.ds2_meaning.specs.ProgramMeaning.{program_answer, tables_left}
@@ -27,14 +27,14 @@ use Rattle.ds2_meaning.specs.TypedExpression.{TypedExpression, Convert, Compared
 use Rattle.ds2_meaning.specs.TypedStatement.{TypedStatement, Empty, Construct, ReturnValue, Output, Put, If, Block, Text, Shown}
 use Rattle.ds2_meaning.specs.View.{all_statements}
 
--- tables of these names with these rows, and no others
+-- the tables of these names with these rows stand in the store, and no others
 abbrev pub tables_of : List (List ℕ × List Row) → TableRows
-tables_of [] name = []
-tables_of (table ∷ tables) name = if bytes_eq table.0 name then table.1 else tables_of tables name
+tables_of [] mentioned = []
+tables_of (table ∷ tables) mentioned = if bytes_eq table.0 mentioned.name && nat_eq mentioned.maker 0 then table.1 else tables_of tables mentioned
 
 -- a table without an `in=` flag, whose columns are BIGINT
 abbrev pub input_of : List ℕ → List (List ℕ) → Input
-input_of table names = record { table = table; present = None; columns = map bigint_column names }
+input_of table names = record { table = stored table; present = None; columns = map bigint_column names }
 
 -- a BY variable that is not descending
 abbrev pub by_ascending : List ℕ → ByVariable
@@ -126,13 +126,13 @@ pub record UnitExamples : Type 0 where
   pub no_run : ran (record (program_with (codes "x" ∷ []) []) { reading = Nothing; init = body_of (Put (col 16) (Text (codes "a") ∷ []) ∷ []) }) 10
       ≡ record { rows = []; lines = codes "a" ∷ []; ending = Some Normal; budgets_left = 9 ∷ 10 ∷ [] }
   -- data p (keep=(x)) q (overwrite=yes rename=(y=z)); x = 1; y = 2; with a row in each output
-  pub several_outputs : tables_left two_outputs (program_answer (OverTables two_outputs) [] (λ name. []) 10 0)
+  pub several_outputs : tables_left two_outputs (program_answer (OverTables two_outputs) [] (λ table. []) 10 0)
       ≡ record { name = codes "p"; overwrites = false; contents = record { columns = bigint_column (codes "x") ∷ []; rows = (natural 1 ∷ []) ∷ [] } }
       ∷ record { name = codes "q"; overwrites = true; contents = record { columns = bigint_column (codes "x") ∷ bigint_column (codes "z") ∷ []; rows = two 1 2 ∷ [] } } ∷ []
   -- data p q; x = 1; output q;
   pub one_of_two_outputs : (program_answer (OverTables (record (program_with (codes "x" ∷ []) (assign_at 1 (codes "x") (int 1) ∷ Output (col 8) (1 ∷ []) ∷ [])) {
     outputs = output_of (bigint (codes "x") ∷ []) ∷ output_of (bigint (codes "x") ∷ []) ∷ [];
-  })) [] (λ name. []) 10 0).rows
+  })) [] (λ table. []) 10 0).rows
       ≡ record { output = 1; row = natural 1 ∷ [] } ∷ []
   -- set t; if a = 2 then if 1 / 0 then; : the row before the fault was written, and no unit runs behind it
   pub fault_in_a_later_load : ran_over (with_columns (codes "a" ∷ []) (reader (Set (input_of (codes "t") (codes "a" ∷ []) ∷ []) []) [] (codes "a" ∷ []) (
@@ -177,8 +177,8 @@ pub record LoadExamples : Type 0 where
       ≡ (natural 1 ∷ natural 7 ∷ natural 10 ∷ []) ∷ (natural 1 ∷ natural 9 ∷ natural 11 ∷ []) ∷ (natural 1 ∷ natural 9 ∷ natural 12 ∷ []) ∷ []
   -- merge x(in=ix) y(in=iy); by k; f = ix; g = iy;
   pub merged_with_flags : rows_over (with_columns (codes "f" ∷ codes "g" ∷ codes "k" ∷ codes "p" ∷ codes "q" ∷ []) (reader (Merge (
-      record { table = codes "x"; present = Some (codes "ix"); columns = bigint_column (codes "k") ∷ bigint_column (codes "p") ∷ [] }
-      ∷ record { table = codes "y"; present = Some (codes "iy"); columns = bigint_column (codes "k") ∷ bigint_column (codes "q") ∷ [] } ∷ []) (by_ascending (codes "k") ∷ []) false)
+      record { table = stored (codes "x"); present = Some (codes "ix"); columns = bigint_column (codes "k") ∷ bigint_column (codes "p") ∷ [] }
+      ∷ record { table = stored (codes "y"); present = Some (codes "iy"); columns = bigint_column (codes "k") ∷ bigint_column (codes "q") ∷ [] } ∷ []) (by_ascending (codes "k") ∷ []) false)
       (codes "f" ∷ codes "g" ∷ []) (codes "k" ∷ codes "p" ∷ codes "q" ∷ []) (
       assign_at 1 (codes "f") (Variable (At (Present (codes "ix"))) BigInt) ∷ assign_at 9 (codes "g") (Variable (At (Present (codes "iy"))) BigInt) ∷ [])))
       ((codes "x", two 1 7 ∷ []) ∷ (codes "y", two 1 10 ∷ two 2 20 ∷ []) ∷ [])
@@ -217,7 +217,7 @@ summing first last = record {
   instances = [];
   objects = no_objects;
   threads = [];
-  reading = Set (record { table = codes "sales"; present = None; columns = record { name = codes "region"; ty = Varchar 1 } ∷ record { name = codes "amt"; ty = DecimalOf 3 2 } ∷ [] } ∷ []) (by_ascending (codes "region") ∷ []);
+  reading = Set (record { table = stored (codes "sales"); present = None; columns = record { name = codes "region"; ty = Varchar 1 } ∷ record { name = codes "amt"; ty = DecimalOf 3 2 } ∷ [] } ∷ []) (by_ascending (codes "region") ∷ []);
   outputs = record { name = codes "sums"; overwrites = false; columns = map output_column sums_variables } ∷ [];
   methods = [];
   init = body_of [];

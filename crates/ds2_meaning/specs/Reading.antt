@@ -16,11 +16,12 @@ use Rattle.ds2_meaning.specs.declared.readings.ByVariable.{ByVariable}
 use Rattle.ds2_meaning.specs.declared.readings.Input.{Input}
 use Rattle.ds2_meaning.specs.declared.readings.Reading.{Reading}
 use Rattle.ds2_meaning.specs.declared.readings.Reading.TheVariants.{Nothing, Once, Set, Merge, From}
+use Rattle.ds2_meaning.specs.declared.readings.MentionedTable.{MentionedTable}
 use Rattle.ds2_meaning.specs.Location.{Storage, Holds, with_content}
 
--- the rows of each table, by the table's name
+-- the rows of each table, by what a mention of it means
 abbrev pub TableRows : Type 0
-TableRows = List ℕ → List Row
+TableRows = MentionedTable → List Row
 
 -- the rows of the tables of a statement, in its order
 abbrev pub InputTables : Type 0

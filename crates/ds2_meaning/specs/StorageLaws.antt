@@ -1,21 +1,21 @@
--- What a typed program keeps before its first unit fits.
-use Rattle.std.specs.Prelude.{IsTrue, List, [], ◌∷◌, Option, Some, None}
-use Rattle.ds2_value.specs.Schema.{types_in_bounds}
+-- What a typed program keeps before its first unit fits, and so does what it gives to the thread program that it reads from.
+use Rattle.std.specs.Prelude.{IsTrue, List, [], ◌∷◌, length, Option, Some, None}
 use Rattle.ds2_value.specs.Types.{fits}
 use Rattle.ds2_value.specs.declared.value.Value.{Value}
 use Rattle.ds2_table.specs.Table.{rows_fit}
 use Rattle.ds2_meaning.specs.declared.globals.Variable.{Variable}
 use Rattle.ds2_meaning.specs.declared.hashes.DeclaredHash.{DeclaredHash}
 use Rattle.ds2_meaning.specs.declared.hashes.LoadedTable.{LoadedTable}
-use Rattle.ds2_meaning.specs.IsTyped.{IsTypedUnit, StorageFits}
-use Rattle.ds2_meaning.specs.ProgramMeaning.{opening_of}
-use Rattle.ds2_meaning.specs.ProgramTree.{InstanceTree, UnitTree}
-use Rattle.ds2_meaning.specs.Reading.{TableRows}
+use Rattle.ds2_meaning.specs.IsTyped.{IsTypedUnit, IsTypedProgram, is_countable, StorageFits}
+use Rattle.ds2_meaning.specs.Location.{Storage}
+use Rattle.ds2_meaning.specs.ProgramMeaning.{opening_of, parameters_given}
+use Rattle.ds2_meaning.specs.ProgramTree.{InstanceTree, UnitTree, ProgramTree, OverStage, reader_of}
+use Rattle.ds2_meaning.specs.Reading.{TableRows, stage_instance}
 
--- the rows of the table that a hash object is loaded from fit its columns
+-- the rows of the table that a hash object is loaded from fit its columns, and their number is a BIGINT
 abbrev pub LoadFits : TableRows → Option LoadedTable → Type 0
 LoadFits tables None = Unit {0}
-LoadFits tables (Some loaded) = IsTrue (types_in_bounds loaded.columns) × IsTrue (rows_fit (tables loaded.table) loaded.columns)
+LoadFits tables (Some loaded) = IsTrue (is_countable (length (tables loaded.table))) × IsTrue (rows_fit (tables loaded.table) loaded.columns)
 
 -- likewise for each of several hash objects
 abbrev pub LoadsFit : TableRows → List DeclaredHash → Type 0
@@ -38,3 +38,8 @@ abbrev pub OpeningFits : Type 0
 OpeningFits = (p : UnitTree) (tables : TableRows) (values : List Value) → IsTypedUnit p
     → LoadsFit tables p.objects.hashes → InstanceLoadsFit tables p.instances → ParametersFit p.parameters values
     → StorageFits p (opening_of p tables values)
+
+-- where what a typed program keeps fits, the values that it gives to the thread program that it reads from fit that one's parameters
+abbrev pub GivenParametersFit : Type 0
+GivenParametersFit = (p : UnitTree) (stage : ProgramTree) (kept : Storage) → IsTypedProgram (OverStage p stage) → StorageFits p kept
+    → ParametersFit (reader_of stage).parameters (parameters_given (stage_instance p.reading) (reader_of stage).parameters kept)

@@ -1,6 +1,6 @@
 //! Hash objects, their iterators, and instances of thread programs, as a unit declares them.
 
-use crate::{Global, Variable};
+use crate::{Global, MentionedTable, Variable};
 use ds2_base::{List, Name};
 use ds2_value::{Column, Ty};
 
@@ -14,7 +14,7 @@ pub struct HashVariable {
 /// The table of which a hash object has the rows before the first unit.
 #[derive(Drop)]
 pub struct LoadedTable {
-    pub table: Name,
+    pub table: MentionedTable,
     /// Its columns, in order. Each key and data variable gets the column of its name.
     pub columns: List<Column>,
 }

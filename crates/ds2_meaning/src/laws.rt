@@ -5,9 +5,10 @@ ghost use Rattle.ds2_meaning.specs.ExpressionExamples.{IntegerExamples, DecimalE
 ghost use Rattle.ds2_meaning.specs.FurtherExamples.{NullExamples, ConversionExamples, RoundExamples, CallExamples, ReadingExamples, FaultExamples};
 ghost use Rattle.ds2_meaning.specs.HashExamples.{HashExamples, InstanceExamples, IteratorExamples};
 ghost use Rattle.ds2_meaning.specs.ProgramExamples.{UnitExamples, LoadExamples, StageExamples};
+ghost use Rattle.ds2_meaning.specs.ReadingLaws.{GroupsDivideReadings, ReadingsStandInByOrder};
 ghost use Rattle.ds2_meaning.specs.StatementExamples.{ChoiceExamples, LoopExamples, OutputExamples, MethodExamples};
 ghost use Rattle.ds2_meaning.specs.TypedExamples.{TypedExamples};
-ghost use Rattle.ds2_meaning.specs.StorageLaws.{OpeningFits};
+ghost use Rattle.ds2_meaning.specs.StorageLaws.{GivenParametersFit, OpeningFits};
 ghost use Rattle.ds2_meaning.specs.TableLaws.{TablesMentionedDecide, FaultLeavesNoTable};
 
 /// No statement raises the budget, whatever methods it calls.
@@ -30,6 +31,21 @@ pub fn fault_leaves_no_table()
     ensures { FaultLeavesNoTable }
 {}
 
+/// The loads of every reading statement stand in BY order.
+pub fn readings_stand_in_by_order()
+    ensures { ReadingsStandInByOrder }
+{
+    ds2_table::laws::loads_stand_in_by_order();
+}
+
+/// The groups of the loads of every reading statement, one after the other, are its loads.
+pub fn groups_divide_readings()
+    ensures { GroupsDivideReadings }
+{
+    ds2_table::laws::groups_divide_loads();
+    readings_stand_in_by_order();
+}
+
 /// What a typed program keeps before its first unit fits, over tables whose rows fit and with values that fit its parameters.
 pub fn opening_fits()
     ensures { OpeningFits }
@@ -37,6 +53,12 @@ pub fn opening_fits()
     ds2_value::laws::fitting_is_held();
     ds2_value::laws::assigned_fits();
 }
+
+/// The values that a typed program gives to the thread program that it reads from fit that one's parameters, where what it keeps
+/// fits.
+pub fn given_parameters_fit()
+    ensures { GivenParametersFit }
+{}
 
 /// Operators on BIGINT values, in small programs.
 pub fn integer_examples()

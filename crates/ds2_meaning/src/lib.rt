@@ -25,7 +25,7 @@ pub use globals::{OutputColumn, OutputTable, Variable};
 pub use hashes::{DeclaredHash, DeclaredIterator, HashVariable, LoadedTable, ThreadInstance};
 pub use location::{Global, Reference};
 pub use methods::{Method, Parameter, SystemMethod};
-pub use readings::{ByVariable, Input, Reading};
+pub use readings::{ByVariable, Input, MentionedTable, Reading};
 pub use refusals::{ScopeKind, TypeKind};
 pub use statements::{Arm, ParameterSetting, PutItem, Statement, When};
 pub use units::{Instance, Program, TypedData, TypedPackage, TypedThread, TypedUnit};

@@ -3,10 +3,18 @@
 use ds2_base::{List, Name};
 use ds2_value::Column;
 
+/// The table that a mention in a source means. Two mentions of one name may mean two tables.
+#[derive(Drop)]
+pub struct MentionedTable {
+    pub name: Name,
+    /// The number of the data program of the source that makes it, from 1; 0 for a table of the store.
+    pub maker: u32,
+}
+
 /// A table of a reading statement.
 #[derive(Drop)]
 pub struct Input {
-    pub table: Name,
+    pub table: MentionedTable,
     /// The flag that `in=` names, which is 1 where the table has rows for a load.
     pub present: Option<Name>,
     /// The table's columns, in order; each sets the variable of its name.

@@ -59,4 +59,8 @@ limit_examples = record {
   just_enough_tokens = refl;
   seventeenth_table = refl;
   made_table = refl;
+  last_maker = refl;
+  no_maker = refl;
+  table_of_the_store = refl;
+  table_of_the_first = refl;
 }

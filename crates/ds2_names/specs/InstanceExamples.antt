@@ -1,12 +1,13 @@
 -- Small units with instances, packages and thread programs, and the refusals of their names. In `dcl package hash h([k],[v]);` the
 -- name stands 17 columns behind the first word, the key variable 20 and the data variable 24.
-use Rattle.std.specs.Prelude.{◌≡◌, ℕ, ◌+◌, codes, List, [], ◌∷◌, map, Option, Some, None}
+use Rattle.std.specs.Prelude.{◌≡◌, ℕ, ◌+◌, codes, List, [], ◌∷◌, ◌++◌, map, Option, Some, None}
 use Rattle.ds2_base.specs.declared.place.Refusal.{Refusal}
 use Rattle.ds2_token.specs.declared.kinds.TokenKind.TheVariants.{Text, Integer}
 use Rattle.ds2_token.specs.declared.token.Token.{Token}
 use Rattle.ds2_tree.specs.Expressions.{Variable, Member, Arguments, NoArgument, Argument}
 use Rattle.ds2_tree.specs.Globals.{Method, GlobalItem, Declared, Listed, Defined}
 use Rattle.ds2_tree.specs.Statements as s
+use Rattle.ds2_tree.specs.Units.{DataProgram, AData}
 use Rattle.ds2_tree.specs.declared.expressions.Callee.TheVariants as callee
 use Rattle.ds2_tree.specs.declared.globals.Bracketed.{Bracketed}
 use Rattle.ds2_tree.specs.declared.globals.Constant.{Constant}
@@ -15,12 +16,13 @@ use Rattle.ds2_tree.specs.declared.globals.Parameter as source_parameter
 use Rattle.ds2_tree.specs.declared.globals.TypeName.TheVariants as type_name
 use Rattle.ds2_tree.specs.declared.readings.Reading as source_reading
 use Rattle.ds2_tree.specs.declared.readings.Reading.TheVariants as reading
+use Rattle.ds2_tree.specs.declared.units.OutputTable as source_output
 use Rattle.ds2_meaning.specs.ExampleWords.{col}
 use Rattle.ds2_meaning.specs.declared.refusals.ScopeKind.{ScopeKind}
 use Rattle.ds2_meaning.specs.declared.refusals.ScopeKind.TheVariants.{UnknownName, DuplicateName, UnknownMethod, WrongCount, NotVariable, AliasedArgument, TooManyNames, Misplaced, NoColumns}
-use Rattle.ds2_names.specs.NameExamples.{word_in, two_columns}
-use Rattle.ds2_names.specs.SourceUnit.{OfPackage, OfThread, OfData, UnitSource, KnownUnit, Packaged, Threaded}
-use Rattle.ds2_names.specs.SourceLimits.{BeforeUnit, scope_refusal}
+use Rattle.ds2_names.specs.NameExamples.{word_in, program_of_statement, two_columns, sum_of_names}
+use Rattle.ds2_names.specs.SourceUnit.{names_alone, OfPackage, OfThread, OfData, UnitSource, KnownUnit, Packaged, Threaded}
+use Rattle.ds2_names.specs.SourceLimits.{mentioned_table, tables_made_by, store_tables, BeforeUnit, before_all, behind_part, scope_refusal}
 
 -- ---- words
 
@@ -245,7 +247,19 @@ sixteen_tables =
 abbrev pub from_s : Option source_reading.Reading
 from_s = Some (reading.Set (word_in 215 (codes "set")) (record { table = word_in 219 (codes "s"); flag = None } ∷ []) (col 220) None)
 
--- limits over a source
+-- outputs of these names
+abbrev pub outputs_named : List (List ℕ) → List source_output.OutputTable
+outputs_named names = map (λ name. record { table = word_in 6 name; options = None }) names
+
+-- data out; dcl bigint x; method run(); set t; x = a + b; end; enddata;
+abbrev pub reads_t : DataProgram
+reads_t = program_of_statement (sum_of_names (codes "x") (codes "a") (codes "b"))
+
+-- data t; likewise
+abbrev pub reads_and_makes_t : DataProgram
+reads_and_makes_t = record reads_t { outputs = outputs_named (codes "t" ∷ []) }
+
+-- limits over a source, and the tables that mentions mean
 pub record LimitExamples : Type 0 where
   -- the 65th data program
   pub sixty_five_programs : scope_refusal two_columns (record (behind []) { data_programs = 64 }) (with_hash (running [] ∷ [])) ≡ refused_at TooManyNames 6
@@ -255,4 +269,11 @@ pub record LimitExamples : Type 0 where
   pub just_enough_tokens : scope_refusal two_columns (record (behind (package_p None)) { tokens = 999960 }) (with_hash (instance_at 80 (codes "p") (codes "i") (integer_placed_at 96 ∷ []) ∷ running [] ∷ [])) ≡ None
   -- set s; as the 17th table of the store, and as one that a program makes
   pub seventeenth_table : scope_refusal two_columns (record (behind []) { mentioned = sixteen_tables }) (with_hash (Defined (method_placed_at 200 (codes "run") [] from_s []) ∷ [])) ≡ refused_at TooManyNames 219
-  pub made_table : scope_refusal two_columns (record (behind []) { mentioned = sixteen_tables; made = codes "s" ∷ [] }) (with_hash (Defined (method_placed_at 200 (codes "run") [] from_s []) ∷ [])) ≡ None
+  pub made_table : scope_refusal two_columns (record (behind []) { mentioned = sixteen_tables; made = record { name = codes "s"; maker = 1 } ∷ [] }) (with_hash (Defined (method_placed_at 200 (codes "run") [] from_s []) ∷ [])) ≡ None
+  -- data s; data t; data S; : a mention of s behind them means the table of the third program, and `_null_` is none
+  pub last_maker : mentioned_table (tables_made_by 3 (outputs_named (codes "S" ∷ [])) ++ tables_made_by 2 (outputs_named (codes "t" ∷ [])) ++ tables_made_by 1 (outputs_named (codes "s" ∷ []))) (codes "s")
+      ≡ record { name = codes "s"; maker = 3 }
+  pub no_maker : mentioned_table (tables_made_by 1 (outputs_named (codes "_null_" ∷ []))) (codes "_null_") ≡ record { name = codes "_null_"; maker = 0 }
+  -- data t; set t; and data out; set t; : the first means the table of the store, and the second that of the first
+  pub table_of_the_store : names_alone (store_tables 0 [] [] (AData reads_and_makes_t ∷ AData reads_t ∷ [])) ≡ codes "t" ∷ []
+  pub table_of_the_first : (behind_part two_columns (AData reads_and_makes_t) (before_all (AData reads_and_makes_t ∷ AData reads_t ∷ []))).made ≡ record { name = codes "t"; maker = 1 } ∷ []

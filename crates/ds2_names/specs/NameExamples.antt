@@ -1,18 +1,20 @@
 -- Small sources and the refusals of their names.
-use Rattle.std.specs.Prelude.{◌≡◌, ℕ, codes, List, [], ◌∷◌, Some, None}
+use Rattle.std.specs.Prelude.{◌≡◌, ℕ, codes, List, [], ◌∷◌, Option, Some, None}
 use Rattle.ds2_token.specs.declared.kinds.TokenKind.TheVariants.{Word, Mark}
 use Rattle.ds2_token.specs.declared.token.Token.{Token}
 use Rattle.ds2_tree.specs.Expressions.{Variable, Chain, NoOperand, Operand}
 use Rattle.ds2_tree.specs.Globals.{Declared, Defined}
 use Rattle.ds2_tree.specs.Statements.{Statement, Assignment, Leave, NoStatement, Then}
-use Rattle.ds2_tree.specs.Units.{DataProgram}
+use Rattle.ds2_tree.specs.Units.{DataProgram, AData}
 use Rattle.ds2_tree.specs.declared.expressions.ChainKind.TheVariants.{Sum}
 use Rattle.ds2_tree.specs.declared.globals.Declaration.TheVariants.{Variables}
 use Rattle.ds2_tree.specs.declared.globals.TypeName.TheVariants as type_name
 use Rattle.ds2_tree.specs.declared.readings.Reading.TheVariants as reading
 use Rattle.ds2_meaning.specs.ExampleWords.{col, bigint_column}
-use Rattle.ds2_names.specs.SourceUnit.{TableColumns}
-use Rattle.ds2_names.specs.UnitRules.{name_refusal}
+use Rattle.ds2_base.specs.declared.place.Refusal.{Refusal}
+use Rattle.ds2_meaning.specs.declared.refusals.ScopeKind.{ScopeKind}
+use Rattle.ds2_names.specs.SourceLimits.{before_all, scope_refusal}
+use Rattle.ds2_names.specs.SourceUnit.{TableColumns, unit_of_data}
 use Rattle.ds2_meaning.specs.declared.refusals.ScopeKind.TheVariants.{UnknownName, Misplaced}
 
 -- a word in this column
@@ -46,6 +48,10 @@ program_of_statement statement = record {
 abbrev pub two_columns : TableColumns
 two_columns table = bigint_column (codes "a") ∷ bigint_column (codes "b") ∷ []
 
+-- the refusal of the names of the one program of a source
+abbrev pub refusal_of_program : DataProgram → Option (Refusal ScopeKind)
+refusal_of_program program = scope_refusal two_columns (before_all (AData program ∷ [])) (unit_of_data program)
+
 -- target = left + right; in the columns 46, 50 and 54
 abbrev pub sum_of_names : List ℕ → List ℕ → List ℕ → Statement
 sum_of_names target left right =
@@ -55,12 +61,12 @@ sum_of_names target left right =
 -- small sources and the refusals of their names
 pub record NameExamples : Type 0 where
   -- x = a + b;
-  pub taken : name_refusal two_columns (program_of_statement (sum_of_names (codes "x") (codes "a") (codes "b"))) ≡ None
+  pub taken : refusal_of_program (program_of_statement (sum_of_names (codes "x") (codes "a") (codes "b"))) ≡ None
   -- X = A + b; in letters of either case
-  pub taken_in_any_case : name_refusal two_columns (program_of_statement (sum_of_names (codes "X") (codes "A") (codes "b"))) ≡ None
+  pub taken_in_any_case : refusal_of_program (program_of_statement (sum_of_names (codes "X") (codes "A") (codes "b"))) ≡ None
   -- x = q + r; : the first of two
-  pub first_of_two : name_refusal two_columns (program_of_statement (sum_of_names (codes "x") (codes "q") (codes "r"))) ≡ Some (record { kind = UnknownName; place = col 50 })
+  pub first_of_two : refusal_of_program (program_of_statement (sum_of_names (codes "x") (codes "q") (codes "r"))) ≡ Some (record { kind = UnknownName; place = col 50 })
   -- z = a + b; : at one place the first kind
-  pub first_kind : name_refusal two_columns (program_of_statement (sum_of_names (codes "z") (codes "a") (codes "b"))) ≡ Some (record { kind = UnknownName; place = col 46 })
+  pub first_kind : refusal_of_program (program_of_statement (sum_of_names (codes "z") (codes "a") (codes "b"))) ≡ Some (record { kind = UnknownName; place = col 46 })
   -- leave; outside of loops
-  pub leave_outside_of_loops : name_refusal two_columns (program_of_statement (Leave (word_in 46 (codes "leave")) (col 51))) ≡ Some (record { kind = Misplaced; place = col 46 })
+  pub leave_outside_of_loops : refusal_of_program (program_of_statement (Leave (word_in 46 (codes "leave")) (col 51))) ≡ Some (record { kind = Misplaced; place = col 46 })

@@ -269,26 +269,29 @@ pub record OutputName : Type 0 where
   pub name : List ℕ
   pub new_place : Option Place
 
+-- a name, or a new one where it is renamed
+abbrev pub name_if_renamed : List ℕ → Option PlacedName → OutputName
+name_if_renamed name None = record { name = name; new_place = None }
+name_if_renamed name (Some new) = record { name = new.name; new_place = Some new.place }
+
 -- the name of a column of an output: its new name where it is renamed
 abbrev pub output_name : List Renaming → List ℕ → OutputName
-output_name renamings name = of_renamed (renamed_to renamings name)
-  where
-    of_renamed : Option PlacedName → OutputName
-    of_renamed None = record { name = name; new_place = None }
-    of_renamed (Some new) = record { name = new.name; new_place = Some new.place }
+output_name renamings name = name_if_renamed name (renamed_to renamings name)
 
 -- a renamed column stands behind another column of its name: one that is not renamed, or one renamed at an earlier place
 abbrev pub is_behind : Place → Option Place → Bool
 is_behind place None = true
 is_behind place (Some other) = is_earlier other place
 
+-- the place of a column, renamed there, that has the name of another one
+abbrev pub clash_at_new_name : List OutputName → OutputName → Option Place → List Place
+clash_at_new_name all n None = []
+clash_at_new_name all n (Some place) =
+    if list_any (λ (o : OutputName). bytes_eq o.name n.name && is_behind place o.new_place) all then place ∷ [] else []
+
 -- the place of a renamed column that has the name of another one
 abbrev pub clashing_name : List OutputName → OutputName → List Place
-clashing_name all n = of_place n.new_place
-  where
-    of_place : Option Place → List Place
-    of_place None = []
-    of_place (Some place) = if list_any (λ (o : OutputName). bytes_eq o.name n.name && is_behind place o.new_place) all then place ∷ [] else []
+clashing_name all n = clash_at_new_name all n n.new_place
 
 -- two output columns of one name, at the renamed name
 abbrev pub clashing_columns : SourceNames → source_output.OutputTable → List Place

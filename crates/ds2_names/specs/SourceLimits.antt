@@ -1,5 +1,5 @@
 -- The limits over a whole source, what is known before each of its units, and the refusal of the names of a unit.
-use Rattle.std.specs.Prelude.{ℕ, ◌+◌, ◌-◌, max, not, nat_le, nat_lt, bytes_eq, codes, if◌then◌else◌, List, [], ◌∷◌, ◌++◌, length, map, filter, drop, Option, Some, None}
+use Rattle.std.specs.Prelude.{ℕ, ◌+◌, ◌-◌, max, Bool, not, nat_le, nat_lt, nat_eq, bytes_eq, codes, if◌then◌else◌, List, [], ◌∷◌, ◌++◌, length, map, filter, drop, Option, Some, None}
 use Rattle.std.specs.Option.{option_map_or}
 use Rattle.ds2_base.specs.declared.place.Place.{Place}
 use Rattle.ds2_base.specs.declared.place.Refusal.{Refusal}
@@ -10,12 +10,24 @@ use Rattle.ds2_tree.specs.declared.globals.Declaration.TheVariants as declaratio
 use Rattle.ds2_tree.specs.declared.readings.Input as source_input
 use Rattle.ds2_tree.specs.declared.units.OutputTable as source_output
 use Rattle.ds2_names.specs.NameRules.{from_each, place_unless, columns_left}
+use Rattle.ds2_meaning.specs.declared.readings.MentionedTable.{MentionedTable}
 use Rattle.ds2_meaning.specs.ProgramTree.{is_listed}
 use Rattle.ds2_names.specs.Refusals.{scope_rank, least_refusal, broken_at}
 use Rattle.ds2_names.specs.SourceUnit.{TableColumns, spelled_name, spelled_text, PlacedName, placed_name, names_alone, source_methods, UnitKind, OfPackage, OfThread, OfData, UnitSource, unit_of_package, unit_of_thread, unit_of_data, InstanceOf, AnyPackage, AnyThread, SourceInstance, source_instances, sized_table, KnownPackage, KnownThread, KnownUnit, Packaged, Threaded, package_named, thread_named, tables_of_reading, names_of_unit}
 use Rattle.ds2_names.specs.UnitRules.{broken_name_rules}
 use Rattle.ds2_meaning.specs.declared.refusals.ScopeKind.{ScopeKind}
 use Rattle.ds2_meaning.specs.declared.refusals.ScopeKind.TheVariants as kind
+
+-- ---- the table that a mention means
+
+-- among tables that data programs make, the last program's first, the first of this name; where there is none, the table of the store
+abbrev pub mentioned_table : List MentionedTable → List ℕ → MentionedTable
+mentioned_table [] name = record { name = name; maker = 0 }
+mentioned_table (t ∷ made) name = if bytes_eq t.name name then t else mentioned_table made name
+
+-- a name means a table of the store
+abbrev pub is_stored : List MentionedTable → List ℕ → Bool
+is_stored made name = nat_eq (mentioned_table made name).maker 0
 
 -- ---- tables of the store
 
@@ -33,17 +45,19 @@ tables_in_item (Listed keyword names end) = []
 tables_in_item (Defined m) = map (λ (i : source_input.Input). placed_name i.table) (tables_of_reading m.reading)
 
 -- those that no data program before makes
-abbrev pub tables_of_store : List (List ℕ) → List GlobalItem → List PlacedName
-tables_of_store made globals = filter (λ (t : PlacedName). not (is_listed made t.name)) (from_each tables_in_item globals)
+abbrev pub tables_of_store : List MentionedTable → List GlobalItem → List PlacedName
+tables_of_store made globals = filter (λ (t : PlacedName). is_stored made t.name) (from_each tables_in_item globals)
 
 -- each name at its first mention, without those that were seen
 abbrev pub first_mentions : List (List ℕ) → List PlacedName → List PlacedName
 first_mentions seen [] = []
 first_mentions seen (t ∷ tables) = if is_listed seen t.name then first_mentions seen tables else t ∷ first_mentions (t.name ∷ seen) tables
 
--- the tables that outputs make; `_null_` is none
-abbrev pub tables_made_by : List source_output.OutputTable → List (List ℕ)
-tables_made_by outputs = filter (λ name. not (bytes_eq name (codes "_null_"))) (map (λ (o : source_output.OutputTable). spelled_name o.table) outputs)
+-- the tables that the outputs of the data program of this number make; `_null_` is none
+abbrev pub tables_made_by : ℕ → List source_output.OutputTable → List MentionedTable
+tables_made_by number outputs =
+    map (λ name. record { name = name; maker = number })
+    (filter (λ name. not (bytes_eq name (codes "_null_"))) (map (λ (o : source_output.OutputTable). spelled_name o.table) outputs))
 
 -- a part of a source as a unit, where it is one
 abbrev pub unit_of_part : SourcePart → Option UnitSource
@@ -62,23 +76,28 @@ globals_in part = option_map_or (λ (u : UnitSource). u.globals) (unit_of_part p
 abbrev pub outputs_in : SourcePart → List source_output.OutputTable
 outputs_in part = option_map_or (λ (u : UnitSource). u.outputs) (unit_of_part part) []
 
--- the tables that must come from the store, each at its first mention in parts of a source behind data programs that make some tables
--- and behind mentions of others
-abbrev pub store_tables : (made seen : List (List ℕ)) → List SourcePart → List PlacedName
-store_tables made seen [] = []
-store_tables made seen (part ∷ parts) =
+-- one for a data program
+abbrev pub data_programs_in : SourcePart → ℕ
+data_programs_in (AData u) = 1
+data_programs_in _ = 0
+
+-- the tables that must come from the store, each at its first mention in parts of a source behind so many data programs, which make
+-- some tables, and behind mentions of others
+abbrev pub store_tables : ℕ → (made : List MentionedTable) → (seen : List (List ℕ)) → List SourcePart → List PlacedName
+store_tables programs made seen [] = []
+store_tables programs made seen (part ∷ parts) =
     let own = first_mentions seen (tables_of_store made (globals_in part)) in
-    own ++ store_tables (tables_made_by (outputs_in part) ++ made) (names_alone own ++ seen) parts
+    own ++ store_tables (programs + data_programs_in part) (tables_made_by (programs + 1) (outputs_in part) ++ made) (names_alone own ++ seen) parts
 
 -- ---- what stands before a unit
 
--- what stands before a unit: packages and thread programs; how many data programs, and the tables that they make; the tables of the
--- store that are mentioned; and the count of tokens, which begins with all tokens of the source and grows at each instance of a
+-- what stands before a unit: packages and thread programs; how many data programs, and the tables that they make, those
+-- of the last one first; the tables of the store that are mentioned; and the count of tokens, which begins with all tokens of the source and grows at each instance of a
 -- package by the tokens of that package
 pub record BeforeUnit : Type 0 where
   pub known : List KnownUnit
   pub data_programs : ℕ
-  pub made : List (List ℕ)
+  pub made : List MentionedTable
   pub mentioned : List (List ℕ)
   pub tokens : ℕ
 
@@ -120,17 +139,12 @@ known_part tables known (AThread u) =
     }) ∷ []
 known_part tables known _ = []
 
--- one for a data program
-abbrev pub data_programs_in : SourcePart → ℕ
-data_programs_in (AData u) = 1
-data_programs_in _ = 0
-
 -- what stands before the unit that follows a part of a source
 abbrev pub behind_part : TableColumns → SourcePart → BeforeUnit → BeforeUnit
 behind_part tables part before = record {
   known = known_part tables before.known part ++ before.known;
   data_programs = before.data_programs + data_programs_in part;
-  made = tables_made_by (outputs_in part) ++ before.made;
+  made = tables_made_by (before.data_programs + 1) (outputs_in part) ++ before.made;
   mentioned = names_alone (first_mentions before.mentioned (tables_of_store before.made (globals_in part))) ++ before.mentioned;
   tokens = tokens_behind before.known before.tokens (source_instances (globals_in part));
 }

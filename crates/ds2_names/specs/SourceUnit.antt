@@ -27,6 +27,7 @@ use Rattle.ds2_tree.specs.declared.readings.Reading.TheVariants as reading
 use Rattle.ds2_tree.specs.declared.units.OutputTable as source_output
 use Rattle.ds2_value.specs.Row.{Columns}
 use Rattle.ds2_meaning.specs.ProgramTree.{is_listed}
+use Rattle.ds2_names.specs.declared.placed.PlacedName as placed
 
 -- the columns of each table of the store, by the table's name
 abbrev pub TableColumns : Type 0
@@ -37,9 +38,8 @@ abbrev pub spelled_name : Token → List ℕ
 spelled_name t = map to_ascii_lowercase (if quoted_kind t.kind then between_quotes t.spelling else t.spelling)
 
 -- a name, and the place at which it is given
-pub record PlacedName : Type 0 where
-  pub name : List ℕ
-  pub place : Place
+abbrev pub PlacedName : Type 0
+PlacedName = placed.PlacedName
 
 -- the name that a token gives
 abbrev pub placed_name : Token → PlacedName

@@ -7,7 +7,6 @@ use Rattle.ds2_token.specs.declared.token.Token.{Token}
 use Rattle.ds2_tree.specs.Expressions.{Expression}
 use Rattle.ds2_tree.specs.Globals.{Method, GlobalItem, Listed}
 use Rattle.ds2_tree.specs.Statements as s
-use Rattle.ds2_tree.specs.Units.{DataProgram}
 use Rattle.ds2_tree.specs.declared.expressions.Callee.TheVariants as callee
 use Rattle.ds2_tree.specs.declared.globals.Parameter as source_parameter
 use Rattle.ds2_tree.specs.declared.globals.Returns.{Returns}
@@ -22,8 +21,8 @@ use Rattle.ds2_tree.specs.declared.readings.Threads.{Threads}
 use Rattle.ds2_tree.specs.declared.units.OutputOption.{OutputOption}
 use Rattle.ds2_tree.specs.declared.units.OutputOption.TheVariants as option
 use Rattle.ds2_tree.specs.declared.units.OutputTable as source_output
-use Rattle.ds2_names.specs.Refusals.{scope_rank, least_refusal, broken_at}
-use Rattle.ds2_names.specs.SourceUnit.{TableColumns, spelled_name, PlacedName, placed_name, is_earlier, variable_declarations, local_names, UnitKind, OfPackage, OfThread, OfData, is_package, is_thread, InstanceOf, AnyPackage, HashObject, AnyThread, SourceInstance, KnownThread, KnownUnit, thread_named, tables_of_reading, SourceNames, names_of_source, instance_names, all_globals}
+use Rattle.ds2_names.specs.Refusals.{broken_at}
+use Rattle.ds2_names.specs.SourceUnit.{TableColumns, spelled_name, PlacedName, placed_name, is_earlier, variable_declarations, local_names, UnitKind, OfPackage, OfThread, OfData, is_package, is_thread, InstanceOf, AnyPackage, HashObject, AnyThread, SourceInstance, KnownThread, KnownUnit, thread_named, tables_of_reading, SourceNames, instance_names, all_globals}
 use Rattle.ds2_names.specs.Uses.{NameUse, CallsOn}
 use Rattle.ds2_meaning.specs.declared.refusals.ScopeKind.{ScopeKind}
 use Rattle.ds2_meaning.specs.declared.refusals.ScopeKind.TheVariants as kind
@@ -279,8 +278,3 @@ broken_name_rules tables names =
     ++ broken_at kind.BadNumber (bad_numbers names)
     ++ broken_at kind.Misplaced (misplaced names)
     ++ broken_at kind.NoColumns (no_columns names)
-
--- the refusal of the names of a data program behind no other unit, where there is one: that of the least place, and at one place
--- the first kind
-abbrev pub name_refusal : TableColumns → DataProgram → Option (Refusal ScopeKind)
-name_refusal tables u = least_refusal scope_rank (broken_name_rules tables (names_of_source tables u))

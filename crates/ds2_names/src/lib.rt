@@ -8,3 +8,6 @@
 #![tactic(auto)]
 
 pub mod laws;
+mod placed;
+
+pub use placed::PlacedName;

@@ -6,7 +6,7 @@
 
 ghost use Rattle.std.specs.Prelude.{◌<◌, ◌^◌};
 
-use ds2_base::{List, Place, Text};
+use ds2_base::{List, OutOfMemory, Place, Text};
 use ds2_parse::parse;
 use ds2_token::{Token, end_place, tokens};
 use std::alloc::{AllocError, Global};
@@ -61,7 +61,10 @@ fn source(alloc: Global, shape: &Shape, bytes: usize) -> Result<Text, AllocError
         text.push(' ')?;
     }
     text.push_str(shape.back)?;
-    Ok(Text::from_string(text))
+    match Text::from_string(alloc, text) {
+        Ok(text) => Ok(text),
+        Err(OutOfMemory) => Err(AllocError),
+    }
 }
 
 // What there is to parse: the tokens of a source and the place of its end.

@@ -51,7 +51,9 @@ fn said_of_tokens(alloc: Global, tokens: &List<Token>, end: Place) -> Result<Str
 
 /// The answer to a source: its refusal, or how its tree is grouped.
 pub fn answer(alloc: Global, text: String) -> Result<String, AllocError> {
-    let text = Text::from_string(text);
+    let Ok(text) = Text::from_string(alloc, text) else {
+        return want_of_memory(alloc);
+    };
     match tokens(alloc, &text) {
         Ok(tokens) => said_of_tokens(alloc, &tokens, end_place(&text)),
         Err(Stop::Refused(refusal)) => said_of_lexing(alloc, refusal),

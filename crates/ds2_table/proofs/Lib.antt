@@ -2,3 +2,4 @@ pub mod ByOrder
 pub mod Groups
 pub mod Parts
 pub mod Sorted
+pub mod LoadOrder

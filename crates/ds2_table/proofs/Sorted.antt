@@ -13,7 +13,7 @@ use Rattle.ds2_table.specs.Loads.{InputRow, value_order, keys_order, placed, in_
 use Rattle.ds2_table.proofs.ByOrder.{order_total, tied_order, Fits, as_long, then-Less, then-Equal, Stands, before, level, after, stands, greater_not, greater_not_less, not_less, level_part, rows_equiv}
 
 -- a key does not stand after another one
-abbrev IsNotAfter : List Bool → List Value → List Value → Type 0
+abbrev pub IsNotAfter : List Bool → List Value → List Value → Type 0
 IsNotAfter ds a b = IsTrue (not (is_gt (keys_order ds a b)))
 
 reverse_then : (r o : Ordering) → ordering_reverse (ordering_then r o) ≡ ordering_then (ordering_reverse r) (ordering_reverse o)
@@ -21,7 +21,7 @@ reverse_then Less o = refl
 reverse_then Equal o = refl
 reverse_then Greater o = refl
 
-keys_antisymm : (ds : List Bool) (a b : List Value) → keys_order ds a b ≡ ordering_reverse (keys_order ds b a)
+pub keys_antisymm : (ds : List Bool) (a b : List Value) → keys_order ds a b ≡ ordering_reverse (keys_order ds b a)
 keys_antisymm [] a b = refl
 keys_antisymm (d ∷ ds) [] [] = refl
 keys_antisymm (d ∷ ds) [] (y ∷ ys) = refl
@@ -80,26 +80,26 @@ before_differs (d ∷ ds) (x ∷ xs) (y ∷ ys) f g h = by (λ inner. before_dif
 -- ---- rows
 
 -- each row has a value for each BY variable
-abbrev AllFit : List Bool → List InputRow → Type 0
+abbrev pub AllFit : List Bool → List InputRow → Type 0
 AllFit ds [] = Unit {0}
 AllFit ds (row ∷ rows) = Fits ds row.key × AllFit ds rows
 
-all_fit : (ds : List Bool) (rows : List InputRow) → HaveKeys ds rows → AllFit ds rows
+pub all_fit : (ds : List Bool) (rows : List InputRow) → HaveKeys ds rows → AllFit ds rows
 all_fit ds [] h = tt
 all_fit ds (row ∷ rows) h = (as_long ds row.key h.0, all_fit ds rows h.1)
 
 -- the test for rows that do not stand before a row
-abbrev not_before_row : List Bool → InputRow → InputRow → Bool
+abbrev pub not_before_row : List Bool → InputRow → InputRow → Bool
 not_before_row ds row other = not (is_gt (keys_order ds row.key other.key))
 
 both_so : (b c : Bool) → b ≡ true → c ≡ true → b && c ≡ true
 both_so b c h k = ap (λ x. x && c) h ∙ k
 
-first_part : (b c : Bool) → b && c ≡ true → b ≡ true
+pub first_part : (b c : Bool) → b && c ≡ true → b ≡ true
 first_part true c h = refl
 first_part false c h = absurd (true≢false (sym h))
 
-second_part : (b c : Bool) → b && c ≡ true → c ≡ true
+pub second_part : (b c : Bool) → b && c ≡ true → c ≡ true
 second_part true c h = h
 second_part false c h = absurd (true≢false (sym h))
 
@@ -167,11 +167,11 @@ placed_stable ds key row (other ∷ others) f k = by (placed_stable ds key row o
     by again true e = passed again e (same_row row.key key) refl
     by again false e = refl
 
-order_fits : (ds : List Bool) (rows : List InputRow) → AllFit ds rows → AllFit ds (in_by_order ds rows)
+pub order_fits : (ds : List Bool) (rows : List InputRow) → AllFit ds rows → AllFit ds (in_by_order ds rows)
 order_fits ds [] h = tt
 order_fits ds (row ∷ rows) h = placed_fits ds row (in_by_order ds rows) h.0 (order_fits ds rows h.1)
 
-sorted : (ds : List Bool) (rows : List InputRow) → AllFit ds rows → AreSorted ds (in_by_order ds rows)
+pub sorted : (ds : List Bool) (rows : List InputRow) → AllFit ds rows → AreSorted ds (in_by_order ds rows)
 sorted ds [] h = tt
 sorted ds (row ∷ rows) h = placed_sorted ds row (in_by_order ds rows) h.0 (order_fits ds rows h.1) (sorted ds rows h.1)
 

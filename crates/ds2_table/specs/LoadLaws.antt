@@ -4,7 +4,7 @@ use Rattle.std.specs.List.{list_all}
 use Rattle.std.specs.Ordering.{is_gt}
 use Rattle.ds2_value.specs.declared.value.Value.{Value}
 use Rattle.ds2_value.specs.Order.{same_row}
-use Rattle.ds2_table.specs.Loads.{InputRow, KeyedLoad, keys_order, in_by_order, groups}
+use Rattle.ds2_table.specs.Loads.{InputRow, KeyedLoad, keys_order, in_by_order, set_loads, merge_loads, groups}
 use Rattle.ds2_table.specs.OneThread.{Units, Reached, Standing, Halted, Astray, GroupResult, group_at, run_all}
 
 -- ---- BY order
@@ -48,6 +48,21 @@ AreInOrderAfter descending previous (l ∷ loads) =
 abbrev pub AreInByOrder : List Bool → List KeyedLoad → Type 0
 AreInByOrder descending [] = Unit {0}
 AreInByOrder descending (l ∷ loads) = (length l.key ≡ length descending) × AreInOrderAfter descending l.key loads
+
+-- keys with a value for each BY variable
+abbrev pub AreKeys : List Bool → List (List Value) → Type 0
+AreKeys descending [] = Unit {0}
+AreKeys descending (key ∷ keys) = (length key ≡ length descending) × AreKeys descending keys
+
+-- the key of each row of each table has a value for each BY variable
+abbrev pub HaveTableKeys : List Bool → List (List (List Value)) → Type 0
+HaveTableKeys descending [] = Unit {0}
+HaveTableKeys descending (keys ∷ tables) = AreKeys descending keys × HaveTableKeys descending tables
+
+-- the loads of `set` and those of `merge` stand in BY order
+abbrev pub LoadsStandInByOrder : Type 0
+LoadsStandInByOrder = (descending : List Bool) (tables : List (List (List Value))) → HaveTableKeys descending tables
+    → AreInByOrder descending (set_loads descending tables) × AreInByOrder descending (merge_loads descending tables)
 
 -- the groups of loads in BY order, one after the other, are these loads in their order
 abbrev pub GroupsDivideLoads : Type 0

@@ -26,7 +26,7 @@ fn lists(alloc: Global) -> Result<bool, OutOfMemory> {
 
 fn texts(alloc: Global) -> Result<bool, OutOfMemory> {
     let text = Text::of(alloc, "Käse")?;
-    Ok(Text::from_bytes(text.copy(alloc)?.into_bytes()) == Some(text))
+    Ok(Text::from_bytes(alloc, List::from_slice(alloc, text.as_bytes())?)? == Some(text))
 }
 
 fn names(alloc: Global) -> Result<bool, OutOfMemory> {
@@ -52,5 +52,5 @@ fn may_be_shared<T: Send + Sync>(_shared: &T) {}
 #[test]
 fn threads_may_share(rt: HostRuntime) {
     may_be_shared(&List::<u64>::new(rt.alloc()));
-    may_be_shared(&Text::from_string(String::new(rt.alloc())));
+    may_be_shared(&Text::of(rt.alloc(), "").ok());
 }

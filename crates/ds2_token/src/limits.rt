@@ -59,7 +59,7 @@ fn text_fault(alloc: Global, spelling: &[u8]) -> Result<Option<LexKind>, OutOfMe
     if quoted.len() <= CONTENT_CHARACTERS {
         return Ok(None);
     }
-    match Text::from_bytes(undoubled(alloc, quoted)?) {
+    match Text::from_bytes(alloc, undoubled(alloc, quoted)?)? {
         Some(content) => Ok(unless(
             char_count(content.as_str()) <= CONTENT_CHARACTERS,
             LexKind::TextTooLong,

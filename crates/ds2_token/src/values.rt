@@ -135,7 +135,10 @@ impl Token {
     pub fn text(&self, alloc: Global) -> Result<Option<Text>, OutOfMemory>
         ensures { IfOk result (λ text. text ≡ values.token_text self.now) }
     {
-        Ok(Text::from_bytes(undoubled(alloc, between_quotes(self.spelling.as_bytes()))?))
+        Text::from_bytes(
+            alloc,
+            undoubled(alloc, between_quotes(self.spelling.as_bytes()))?,
+        )
     }
 
     /// The number that the digits of an integer write; None above 9223372036854775807.

@@ -6,7 +6,7 @@
 
 ghost use Rattle.std.specs.Prelude.{◌<◌, ◌^◌};
 
-use ds2_base::Text;
+use ds2_base::{OutOfMemory, Text};
 use ds2_token::tokens;
 use std::alloc::{AllocError, Global};
 use std::time::Instant;
@@ -44,7 +44,10 @@ fn source(alloc: Global, bytes: usize) -> Result<Text, AllocError> {
     for _ in 0..bytes / PROGRAM.len().max(1) {
         text.push_str(PROGRAM)?;
     }
-    Ok(Text::from_string(text))
+    match Text::from_string(alloc, text) {
+        Ok(text) => Ok(text),
+        Err(OutOfMemory) => Err(AllocError),
+    }
 }
 
 // How many tokens the source has, over so many turns.

@@ -47,12 +47,18 @@ fn said_of_refusal(alloc: Global, refusal: Refusal<LexKind>) -> Result<String, A
     format!(in alloc; "{}:{} {kind:?}", place.line, place.column)
 }
 
+fn want_of_memory(alloc: Global) -> Result<String, AllocError> {
+    String::from_str(alloc, "want of memory")
+}
+
 /// The answer to a text: its tokens, or its first refusal.
 pub fn answer(alloc: Global, text: String) -> Result<String, AllocError> {
-    let text = Text::from_string(text);
+    let Ok(text) = Text::from_string(alloc, text) else {
+        return want_of_memory(alloc);
+    };
     match tokens(alloc, &text) {
         Ok(tokens) => said_of_tokens(alloc, &tokens, end_place(&text)),
         Err(Stop::Refused(refusal)) => said_of_refusal(alloc, refusal),
-        Err(Stop::OutOfMemory) => String::from_str(alloc, "want of memory"),
+        Err(Stop::OutOfMemory) => want_of_memory(alloc),
     }
 }

@@ -19,7 +19,7 @@ pub(crate) fn table_file(alloc: Global, name: &Name) -> Result<Text, OutOfMemory
     ensures { IfOk result (λ file. file ≡ table_file name.now) }
 {
     let name = name.as_str();
-    Ok(Text::from_string(format!(in alloc; "{name}.csv")?))
+    Text::from_string(alloc, format!(in alloc; "{name}.csv")?)
 }
 
 // The step that counts a table's rows in the log.

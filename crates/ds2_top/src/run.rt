@@ -233,7 +233,7 @@ fn run_file<S: Store>(
     ensures read { Caused Status.Read result (S.read_faults store.old) (S.read_faults store.new) }
     ensures write { Caused Status.Write result (S.write_faults store.old) (S.write_faults store.new) }
 {
-    match Text::from_bytes(bytes) {
+    match Text::from_bytes(alloc, bytes)? {
         Some(text) => run_text(alloc, &text, budget, log, store),
         None => {
             say_refused(alloc, name, FileKind::NotUtf8, log)?;

@@ -43,7 +43,7 @@ pub fn write_dec(alloc: Global, d: Dec) -> Result<Text, OutOfMemory>
     let magnitude = units.unsigned_abs();
     let sign = if units < 0 { "-" } else { "" };
     if scale == 0 {
-        return Ok(Text::from_string(format!(in alloc; "{sign}{magnitude}")?));
+        return Text::from_string(alloc, format!(in alloc; "{sign}{magnitude}")?);
     }
     let unit = power_of_ten(scale);
     let text = pointed(
@@ -53,5 +53,5 @@ pub fn write_dec(alloc: Global, d: Dec) -> Result<Text, OutOfMemory>
         magnitude % unit,
         scale as usize,
     )?;
-    Ok(Text::from_string(text))
+    Text::from_string(alloc, text)
 }

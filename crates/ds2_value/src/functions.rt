@@ -97,7 +97,7 @@ pub fn concat(alloc: Global, args: &[Value]) -> Result<Value, Stop<Fault>>
     match joined_texts(alloc, args)? {
         None => Ok(Value::Null),
         Some(joined) => Ok(Value::Txt(shortened_to(
-            Text::from_string(joined),
+            Text::from_string(alloc, joined)?,
             TEXT_CHARACTERS as usize,
         ))),
     }

@@ -1,7 +1,6 @@
 //! Parts of texts, counted in characters.
-ghost use Rattle.std.specs.Prelude.{◌≡◌, ◌-◌, ◌≤◌, ◌++◌, IfOk, replicate, string_bytes};
+ghost use Rattle.std.specs.Prelude.{◌≡◌, IfOk};
 ghost use Rattle.std.specs.Str.{IsUtf8};
-ghost use Rattle.ds2_base.specs.Characters.{char_count};
 ghost use Rattle.ds2_value.specs.Texts.{trimmed, cut_to, after_characters, filled_to};
 
 use ds2_base::{OutOfMemory, Text, char_count};
@@ -48,38 +47,17 @@ pub(crate) fn shortened_to(t: Text, n: usize) -> Text
     ensures text { result ≡ cut_to n t }
     ensures utf8 { IsUtf8 t }
 {
-    let mut text = t.into_string();
-    let kept = cut_to(text.as_str(), n).len();
-    text.truncate(kept);
-    Text::from_string(text)
-}
-
-// The text of at most n characters, with blanks behind them up to n.
-fn with_blanks(t: String, n: usize) -> Result<String, OutOfMemory>
-    requires { char_count (string_bytes t) ≤ n }
-    ensures { IfOk result (λ text. string_bytes text ≡ string_bytes t ++ replicate (n - char_count (string_bytes t)) 32) }
-{
-    let count = char_count(t.as_str());
+    let _bytes = t.as_bytes();
+    let kept = cut_to(t.as_str(), n).len();
     let mut text = t;
-    'blanks: for i in count..n {
-        text.push(' ')?;
-    }
-    Ok(text)
-}
-
-// The text of its first n characters, filled with blanks to n.
-pub(crate) fn widened_to(t: Text, n: usize) -> Result<Text, OutOfMemory>
-    ensures text { IfOk result (λ text. text ≡ filled_to n t) }
-    ensures utf8 { IsUtf8 t }
-{
-    let kept = shortened_to(t, n);
-    Ok(Text::from_string(with_blanks(kept.into_string(), n)?))
+    text.truncate(kept);
+    text
 }
 
 // The first n characters, filled with blanks to n.
 pub(crate) fn filled_to(alloc: Global, s: &str, n: usize) -> Result<Text, OutOfMemory>
     ensures { IfOk result (λ text. text ≡ filled_to n s.now) }
 {
-    let kept = String::from_str(alloc, cut_to(s, n))?;
-    Ok(Text::from_string(with_blanks(kept, n)?))
+    let kept = cut_to(s, n);
+    Text::filled(alloc, kept, n - char_count(kept))
 }

@@ -6,9 +6,15 @@ use Rattle.ds2_tree.specs.UnitViews.{method_tree}
 use Rattle.ds2_parse_rules.specs.GrammarTokens.{word_rule}
 use Rattle.ds2_parse_rules.specs.GlobalGrammar.{method_of}
 use Rattle.ds2_parse.specs.MethodBodies.{method_tail_rule, method_tail_parts}
-use Rattle.ds2_parse_rules.proofs.RuleSteps.{exit, held, on_read, on_last, on_last_stop}
+use Rattle.ds2_parse_rules.proofs.RuleSteps.{exit, held, on_read, on_stop, on_last, on_last_stop}
 use Rattle.ds2_parse.proofs.MethodSteps.{with_body}
 use Rattle.ds2_parse.proofs.globals.method.Goals as goal
+
+pub returns-in_err-name-clause-exact : goal.returns-in_err-name-clause-exact
+returns-in_err-name-clause-exact c m lt =
+    exit c.args.end (λ x. (method_tree x.0, x.1.now)) c.from_residual-in_err-name.result c.in_err-name.field-0.0 (to method_of (seq (word_rule (codes "method")) (seq (kept is_name_token) (method_tail_rule m c.args.levels))) c.args.tokens.now) c.from_residual-in_err-name.ensures.1
+    (held (Fails c.args.end c.in_err-name.field-0.0) method_of (seq (word_rule (codes "method")) (seq (kept is_name_token) (method_tail_rule m c.args.levels))) c.args.tokens.now
+    (on_read (word_rule (codes "method")) (seq (kept is_name_token) (method_tail_rule m c.args.levels)) c.in_ok-keyword.ensures.exact (on_stop (kept is_name_token) (method_tail_rule m c.args.levels) c.args.end c.in_err-name.field-0.0 c.in_err-name.ensures.exact)))
 
 pub returns-in_err-tail-clause-exact : goal.returns-in_err-tail-clause-exact
 returns-in_err-tail-clause-exact c m lt =

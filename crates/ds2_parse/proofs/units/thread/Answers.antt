@@ -10,6 +10,12 @@ use Rattle.ds2_parse.specs.UnitBodies.{unit_body_parts}
 use Rattle.ds2_parse_rules.proofs.RuleSteps.{exit, held, on_read, on_stop, on_last, on_last_stop}
 use Rattle.ds2_parse.proofs.units.thread.Goals as goal
 
+pub returns-in_err-name-clause-exact : goal.returns-in_err-name-clause-exact
+returns-in_err-name-clause-exact c m lt =
+    exit c.args.end (λ x. (thread_tree x.0, x.1.now)) c.from_residual-in_err-name.result c.in_err-name.field-0.0 (to thread_of (seq (word_rule (codes "thread")) (seq (kept is_name_token) (seq (optional is_open_mark (parameters_rule m)) (seq (mark_rule (codes ";")) (unit_body_rule m c.args.levels (codes "endthread")))))) c.args.tokens.now) c.from_residual-in_err-name.ensures.1
+    (held (Fails c.args.end c.in_err-name.field-0.0) thread_of (seq (word_rule (codes "thread")) (seq (kept is_name_token) (seq (optional is_open_mark (parameters_rule m)) (seq (mark_rule (codes ";")) (unit_body_rule m c.args.levels (codes "endthread")))))) c.args.tokens.now
+    (on_read (word_rule (codes "thread")) (seq (kept is_name_token) (seq (optional is_open_mark (parameters_rule m)) (seq (mark_rule (codes ";")) (unit_body_rule m c.args.levels (codes "endthread"))))) c.in_ok-keyword.ensures.exact (on_stop (kept is_name_token) (seq (optional is_open_mark (parameters_rule m)) (seq (mark_rule (codes ";")) (unit_body_rule m c.args.levels (codes "endthread")))) c.args.end c.in_err-name.field-0.0 c.in_err-name.ensures.exact)))
+
 pub returns-in_err-parameters-clause-exact : goal.returns-in_err-parameters-clause-exact
 returns-in_err-parameters-clause-exact c m lt =
     exit c.args.end (λ x. (thread_tree x.0, x.1.now)) c.from_residual-in_err-parameters.result c.in_err-parameters.field-0.0 (to thread_of (seq (word_rule (codes "thread")) (seq (kept is_name_token) (seq (optional is_open_mark (parameters_rule m)) (seq (mark_rule (codes ";")) (unit_body_rule m c.args.levels (codes "endthread")))))) c.args.tokens.now) c.from_residual-in_err-parameters.ensures.1

@@ -3,8 +3,14 @@ use Rattle.ds2_grammar.specs.Parsers.{Read, One, Two, to, seq, optional}
 use Rattle.ds2_grammar.specs.Promise.{Fails}
 use Rattle.ds2_parse_rules.specs.GrammarTokens.{mark_rule, starts}
 use Rattle.ds2_parse_rules.specs.ReadingGrammar.{inputs_rule, by_rule, reading_of_kind}
-use Rattle.ds2_parse_rules.proofs.RuleSteps.{exit, held, on_read, on_last, on_last_stop}
+use Rattle.ds2_parse_rules.proofs.RuleSteps.{exit, held, on_read, on_stop, on_last, on_last_stop}
 use Rattle.ds2_parse_declarations.proofs.readings.set_tables.Goals as goal
+
+pub returns-in_err-inputs-clause-exact : goal.returns-in_err-inputs-clause-exact
+returns-in_err-inputs-clause-exact c m lt =
+    exit c.args.end (λ x. (x.0, x.1.now)) c.from_residual.result c.in_err-inputs.field-0.0 (to (λ x. reading_of_kind (One (c.args.keyword, Two x))) (seq (inputs_rule m) (seq (mark_rule (codes ";")) (optional (starts (codes "by")) (by_rule m)))) c.args.tokens.now) c.from_residual.ensures.1
+    (held (Fails c.args.end c.in_err-inputs.field-0.0) (λ x. reading_of_kind (One (c.args.keyword, Two x))) (seq (inputs_rule m) (seq (mark_rule (codes ";")) (optional (starts (codes "by")) (by_rule m)))) c.args.tokens.now
+    (on_stop (inputs_rule m) (seq (mark_rule (codes ";")) (optional (starts (codes "by")) (by_rule m))) c.args.end c.in_err-inputs.field-0.0 (c.in_err-inputs.ensures.exact m (omega (arith, lt)))))
 
 pub returns-in_err-by-clause-exact : goal.returns-in_err-by-clause-exact
 returns-in_err-by-clause-exact c m lt =

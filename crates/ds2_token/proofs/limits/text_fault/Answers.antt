@@ -11,4 +11,4 @@ returns-then-quoted-le-CONTENT_CHARACTERS c =
 pub returns-in-None : goal.returns-in-None
 returns-in-None c =
     let form : is_text_form c.args.spelling.now ≡ true = search rules in
-    absurd (content_is_text c.args.spelling.now _ c.requires.text form (search rules) (sym c.from_bytes.ensures ∙ c.in-None.is))
+    absurd (content_is_text c.args.spelling.now _ c.requires.text form (search rules) (sym c.in_ok-content.ensures ∙ c.in-None.is))

@@ -11,6 +11,11 @@ use Rattle.ds2_top.proofs.run.run_file.Goals as goal
 pub returns-in_err-say_refused-in-None-clause-does : goal.returns-in_err-say_refused-in-None-clause-does
 returns-in_err-say_refused-in-None-clause-does g c sources =
     over_halted (g.S.Store.files c.args.store.now) (λ (files : Files). on_text sources c.args.name.now (text_of c.args.bytes) c.args.budget files) c.args.log.now c.say_refused.new.log
+    c.from_residual-in_err-say_refused-in-None.result c.from_residual-in_err-say_refused-in-None.ensures.1
+
+pub returns-in_err-text-clause-does : goal.returns-in_err-text-clause-does
+returns-in_err-text-clause-does g c sources =
+    over_halted (g.S.Store.files c.args.store.now) (λ (files : Files). on_text sources c.args.name.now (text_of c.args.bytes) c.args.budget files) c.args.log.now c.args.log.now
     c.from_residual.result c.from_residual.ensures.1
 
 pub returns-in-Some-clause-does : goal.returns-in-Some-clause-does
@@ -18,9 +23,9 @@ returns-in-Some-clause-does g c sources =
     let told = g.S.Store.files c.args.store.now in
     let now = g.S.Store.files c.run_text.new.store in
     subst (λ (text : Option Bytes). OverFiles told (λ files. DoesAll (on_text sources c.args.name.now text c.args.budget files) c.args.log.now told c.run_text.result c.run_text.new.log now))
-    (sym c.in-Some.is ∙ c.from_bytes.ensures) (c.run_text.ensures.does sources)
+    (sym c.in-Some.is ∙ c.in_ok-text.ensures) (c.run_text.ensures.does sources)
 
 pub returns-in_ok-say_refused-in-None-clause-does : goal.returns-in_ok-say_refused-in-None-clause-does
 returns-in_ok-say_refused-in-None-clause-does g c sources =
-    no_text sources (g.S.Store.files c.args.store.now) c.args.name.now (text_of c.args.bytes) c.args.budget c.args.log.now c.say_refused.new.log (sym c.in-None.is ∙ c.from_bytes.ensures)
+    no_text sources (g.S.Store.files c.args.store.now) c.args.name.now (text_of c.args.bytes) c.args.budget c.args.log.now c.say_refused.new.log (sym c.in-None.is ∙ c.in_ok-text.ensures)
     c.in_ok-say_refused-in-None.ensures

@@ -17,7 +17,7 @@ no_text bytes odd =
 pub returns-in-Ok : goal.returns-in-Ok
 returns-in-Ok c =
     let same = ap (λ v. v.items) c.in-Ok.ensures.ok ∙ c.into_vec.ensures in
-    ap (λ x. Some x) same ∙ some_text c.args.bytes (subst IsUtf8 same (IsUtf8-string_bytes c.in-Ok.text))
+    ap (λ (x : List ℕ). Some x) (c.in_ok-from_string-in-Ok.ensures.text ∙ same) ∙ some_text c.args.bytes (subst IsUtf8 same (IsUtf8-string_bytes c.in-Ok.text))
 
 pub returns : goal.returns
 returns c =

@@ -1,6 +1,0 @@
-use Rattle.std.proofs.Common.{string_bytes}
-use Rattle.std.proofs.lemmas.Str.{IsUtf8-string_bytes, is_utf8-from_IsUtf8}
-use Rattle.ds2_base.proofs.text.Text.from_string.Goals as goal
-
-pub returns-clause-utf8 : goal.returns-clause-utf8
-returns-clause-utf8 c = is_utf8-from_IsUtf8 (string_bytes c.args.text) (IsUtf8-string_bytes c.args.text)
