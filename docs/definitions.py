@@ -7,7 +7,8 @@ usage: docs/definitions.py            writes the list
 
 What the headline says comes first: the definitions that the clauses of `ds2` cite with those that
 these cite, and then all that they stand on. The others follow, crate by crate in the order of
-crates.txt.
+crates.txt, and in each crate file by file in the order of specs/Lib.antt, each behind those that it
+uses.
 """
 import re
 import sys
@@ -112,13 +113,34 @@ def crates():
             yield words[0]
 
 
+def in_reading_order(crate, folder):
+    """The files of specs/ in the order of its Lib.antt, each behind those that it uses."""
+    paths = {path.stem: path for path in sorted(folder.glob("*.antt")) if path.stem != "Lib"}
+    library = folder / "Lib.antt"
+    listed = re.findall(r"^pub mod (\w+)", library.read_text(), re.M) if library.exists() else []
+    names = [name for name in listed if name in paths] + [name for name in paths if name not in listed]
+    uses = {name: re.findall(rf"^use Rattle\.{crate}\.specs\.(\w+)", paths[name].read_text(), re.M) for name in names}
+    seen, found = set(), []
+
+    def visit(name):
+        if name not in seen:
+            seen.add(name)
+            for other in names:
+                if other in uses[name]:
+                    visit(other)
+            found.append(paths[name])
+
+    for name in names:
+        visit(name)
+    return found
+
+
 def files():
     for crate in crates():
         folder = TOP / "crates" / crate / "specs"
         if folder.is_dir():
-            for path in sorted(folder.glob("*.antt")):
-                if path.name != "Lib.antt":
-                    yield File(crate, path)
+            for path in in_reading_order(crate, folder):
+                yield File(crate, path)
 
 
 def resolve(all_files):

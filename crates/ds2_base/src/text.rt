@@ -12,9 +12,16 @@ use std::mem::size_of;
 
 /// A text. A contract sees its UTF-8 bytes; its characters are std's `chars` of them. One of at most 22 bytes takes no memory
 /// beside itself.
-#[derive(Debug, Drop)]
+#[derive(Debug)]
 pub struct Text {
     held: Held,
+}
+
+// A text is let go by a call, so that whoever lets one go need not know where its bytes are.
+impl Drop for Text {
+    fn drop(self) {
+        let Text { held: _ } = self;
+    }
 }
 
 // Where the characters are.

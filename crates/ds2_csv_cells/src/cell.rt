@@ -76,32 +76,27 @@ fn is_short(text: &str, n: usize) -> bool
     text.len() <= n || char_count(text) <= n
 }
 
-// The value of a cell's text in a column of at most, or exactly, n characters.
-fn text_value(alloc: Global, n: u16, exact: bool, cell: &str) -> Result<Option<Value>, OutOfMemory>
-    ensures value { IfOk result (λ v. v ≡ text_value n exact (decoded cell.now)) }
-    ensures fit { IfOk result (λ v. IfSome v (λ x. IsTrue (fits x (if exact then Ty.Char n else Ty.Varchar n)))) }
+// Adds the value of a cell's text in a column of at most, or exactly, n characters at the end, and says whether there is one.
+fn add_text(
+    alloc: Global,
+    values: &mut Row,
+    n: u16,
+    exact: bool,
+    cell: &str,
+) -> Result<bool, OutOfMemory>
+    ensures added { IfOk result (λ good. IsAdded good values.old values.new (text_value n exact (decoded cell.now))) }
+    ensures fit { IfOk result (λ good. IfSome (text_value n exact (decoded cell.now)) (λ v. IsTrue (fits v (if exact then Ty.Char n else Ty.Varchar n)))) }
 {
     let Some(text) = decoded(cell) else {
-        return Ok(Some(Value::Null));
+        values.push(Value::Null)?;
+        return Ok(true);
     };
-    if is_short(text, n as usize) {
-        Ok(Some(column_text(alloc, n, exact, text)?))
-    } else {
-        Ok(None)
+    if !is_short(text, n as usize) {
+        return Ok(false);
     }
-}
-
-// Adds a value at the end, where there is one.
-fn add(values: &mut Row, value: Option<Value>) -> Result<bool, OutOfMemory>
-    ensures { IfOk result (λ good. IsAdded good values.old values.new value) }
-{
-    match value {
-        Some(value) => {
-            values.push(value)?;
-            Ok(true)
-        }
-        None => Ok(false),
-    }
+    let value = column_text(alloc, n, exact, text)?;
+    values.push(value)?;
+    Ok(true)
 }
 
 #[tactic(auto, unfolding(crate::specs::Cells::value_of))]
@@ -158,8 +153,8 @@ fn add_value(alloc: Global, values: &mut Row, ty: Ty, cell: &str) -> Result<bool
     match ty {
         Ty::BigInt => add_bigint(values, cell.as_bytes()),
         Ty::Decimal { p, s } => add_decimal(values, p, s, cell),
-        Ty::Char { n } => add(values, text_value(alloc, n, true, cell)?),
-        Ty::Varchar { n } => add(values, text_value(alloc, n, false, cell)?),
+        Ty::Char { n } => add_text(alloc, values, n, true, cell),
+        Ty::Varchar { n } => add_text(alloc, values, n, false, cell),
     }
 }
 

@@ -21,7 +21,10 @@ pub struct Record<'t> {
 
 impl<'t> Record<'t> {
     /// A record without cells. Takes no memory.
-    pub fn new(alloc: Global) -> Record<'t> {
+    pub fn new(alloc: Global) -> Record<'t>
+        ensures cells { result.cells ≡ [] }
+        ensures count { result.count ≡ 0 }
+    {
         Record {
             cells: List::new(alloc),
             count: 0,

@@ -1,12 +1,13 @@
 -- What a number gives, and the groups of its run.
 use Rattle.std.proofs.Common.{◌≡◌, ℕ, ◌+◌, ◌-◌, ◌*◌, ◌<◌, ◌≤◌, List, [], Bool, false, sym, ap, subst, ◌∙◌, arith, inl, inr}
+use Rattle.std.specs.List.{range_with_len}
 use Rattle.std.specs.Prelude.{min, if◌then◌else◌}
 use Rattle.std.proofs.lemmas.Bool.{cases_lt}
 use Rattle.std.proofs.Math.Nat.{mul-le-mul_right}
 use Rattle.ds2_dealer.specs.declared.tickets.Tickets.{Tickets}
 use Rattle.ds2_dealer.specs.declared.tickets.Draw.{Draw}
 use Rattle.ds2_dealer.specs.declared.tickets.Draw.TheVariants.{Run, NoMore}
-use Rattle.ds2_dealer.specs.Runs.{numbers_from, run_count, run_groups}
+use Rattle.ds2_dealer.specs.Runs.{run_count, run_groups}
 use Rattle.ds2_dealer.specs.Seats.{draw_of, groups_drawn, IsRun, IsInside}
 use Rattle.ds2_dealer.proofs.Counts.{lt_true, lt_false}
 use Rattle.ds2_dealer.proofs.Runs.{enough, begins_inside}
@@ -24,7 +25,7 @@ no_groups m l d one high =
     let a = enough m l one in
     let b = mul-le-mul_right {m = run_count m l} {n = d} l high in
     let e : 0 ≡ min m ((d + 1) * l) - d * l = omega (arith, a, b) in
-    ap (numbers_from (d * l)) e
+    ap (range_with_len (d * l)) e
 
 -- what a number gives are the groups of its run
 pub gives_groups : (t : Tickets) (d : ℕ) → 1 ≤ t.length → t.runs ≡ run_count t.groups t.length → groups_drawn (draw_of t d) ≡ run_groups t.groups t.length d

@@ -1,11 +1,11 @@
 -- What the tests on steps and stages say, as facts.
 use Rattle.std.proofs.Common.{◌≡◌, ℕ, zero, suc, ◌≤◌, List, [], ◌∷◌, Bool, true, false, refl, sym, ap, ◌∙◌, arith, inl, inr}
 use Rattle.std.specs.Prelude.{◌⊎◌, Some, slice_get, not, ◌&&◌, ◌||◌, if◌then◌else◌, ◌==◌, nat_le}
-use Rattle.std.specs.List.{list_all}
+use Rattle.std.specs.List.{list_all, concat}
 use Rattle.std.proofs.lemmas.Bool.Decides.{nat_tests}
 use Rattle.std.proofs.lemmas.Bool.{eq-eqb, eqb-true}
 use Rattle.ds2_dealer.specs.Runs.{run_count, times}
-use Rattle.ds2_dealer.specs.Stage.{Stage, StageStep, Draws, HandsIn, Retakes, left_for, is_next, none_left, in_one_list, has_faulted, is_legal_step, after_step, are_legal, some_fault, fault_below, is_complete_stage}
+use Rattle.ds2_dealer.specs.Stage.{Stage, StageStep, Draws, HandsIn, Retakes, left_for, is_next, none_left, has_faulted, is_legal_step, after_step, are_legal, some_fault, fault_below, is_complete_stage}
 
 abbrev pub IsLegalStep : ℕ → Stage → StageStep → Type 0
 IsLegalStep workers s (Draws w d) = (w ≤ workers) × (d ≡ s.drawn)
@@ -17,7 +17,7 @@ AreLegal m l workers s [] = Unit {0}
 AreLegal m l workers s (x ∷ xs) = IsLegalStep workers s x × AreLegal m l workers (after_step m l workers s x) xs
 
 abbrev pub IsCompleteStage : ℕ → ℕ → Stage → Type 0
-IsCompleteStage m l s = ((run_count m l ≤ s.drawn) ⊎ (some_fault s.handed ≡ true)) × ((g : ℕ) → 1 ≤ times g (in_one_list s.left) → fault_below g s.handed ≡ true)
+IsCompleteStage m l s = ((run_count m l ≤ s.drawn) ⊎ (some_fault s.handed ≡ true)) × ((g : ℕ) → 1 ≤ times g (concat s.left) → fault_below g s.handed ≡ true)
 
 pub and_true : (a b : Bool) → (a && b) ≡ true → (a ≡ true) × (b ≡ true)
 and_true true b e = (refl, e)
@@ -115,13 +115,13 @@ all_of p (x ∷ xs) h = both_true (p x) (list_all p xs)
 
 pub complete_stage : (m l : ℕ) (s : Stage) → is_complete_stage m l s ≡ true → IsCompleteStage m l s
 complete_stage m l s e =
-    let b = and_true (nat_le (run_count m l) s.drawn || some_fault s.handed) (list_all (λ g. fault_below g s.handed) (in_one_list s.left)) e in (
+    let b = and_true (nat_le (run_count m l) s.drawn || some_fault s.handed) (list_all (λ g. fault_below g s.handed) (concat s.left)) e in (
       elim (or_true (nat_le (run_count m l) s.drawn) (some_fault s.handed) b.0) [ inl t ↦ inl (le_of (run_count m l) s.drawn t) | inr t ↦ inr t ],
-      all_hold (λ g. fault_below g s.handed) (in_one_list s.left) b.1,
+      all_hold (λ g. fault_below g s.handed) (concat s.left) b.1,
     )
 
 pub is_complete_of : (m l : ℕ) (s : Stage) → IsCompleteStage m l s → is_complete_stage m l s ≡ true
 is_complete_of m l s h =
-    both_true (nat_le (run_count m l) s.drawn || some_fault s.handed) (list_all (λ g. fault_below g s.handed) (in_one_list s.left))
+    both_true (nat_le (run_count m l) s.drawn || some_fault s.handed) (list_all (λ g. fault_below g s.handed) (concat s.left))
     (elim h.0 [ inl t ↦ or_left (nat_le (run_count m l) s.drawn) (some_fault s.handed) (of_le (run_count m l) s.drawn t) | inr t ↦ or_right (nat_le (run_count m l) s.drawn) (some_fault s.handed) t ])
-    (all_of (λ g. fault_below g s.handed) (in_one_list s.left) h.1)
+    (all_of (λ g. fault_below g s.handed) (concat s.left) h.1)

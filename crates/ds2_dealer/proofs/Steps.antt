@@ -1,10 +1,11 @@
 -- Each step keeps that the groups of the runs drawn are left or handed in, each once.
 use Rattle.std.proofs.Common.{◌≡◌, ℕ, zero, suc, ◌+◌, ◌*◌, List, [], ◌∷◌, ◌++◌, sym, ap, ◌∙◌, arith, length}
+use Rattle.std.specs.List.{concat}
 use Rattle.std.specs.Prelude.{min, map, replicate}
 use Rattle.std.proofs.lemmas.Bool.Decides.{nat_tests}
 use Rattle.std.proofs.lemmas.List.{length-replicate, length-append, map-append}
 use Rattle.ds2_dealer.specs.Runs.{run_length, run_groups, times, once_below}
-use Rattle.ds2_dealer.specs.Stage.{HandIn, Stage, StageStep, Draws, HandsIn, Retakes, without_next, in_one_list, ascending, after_step, opening_stage, after_steps, replay, group_of, occurs, first_runs, EachGroupOnce}
+use Rattle.ds2_dealer.specs.Stage.{HandIn, Stage, StageStep, Draws, HandsIn, Retakes, without_next, ascending, after_step, opening_stage, after_steps, replay, group_of, occurs, first_runs, EachGroupOnce}
 use Rattle.ds2_dealer.proofs.Counts.{times-append, run_drawn, left_more, left_fewer, times_ascending, left_last, left_none, length_changed}
 use Rattle.ds2_dealer.proofs.Legal.{IsLegalStep, AreLegal, legal_steps}
 
@@ -28,8 +29,8 @@ sound_step m l workers s (HandsIn w g rows faulted) h legal = record {
       omega (arith, h.once x, left_fewer x g legal.0.0 s.left w legal.0.1, ap (times x) (map-append group_of s.handed (e ∷ [])), times-append x (map group_of s.handed) (g ∷ []));
 }
 sound_step m l workers s Retakes h legal = record {
-  parties = omega (arith, length-append (replicate workers []) (ascending (in_one_list s.left) ∷ []), (let none : List ℕ = [] in length-replicate workers none));
-  once = λ x. omega (arith, h.once x, left_last x workers (ascending (in_one_list s.left)), times_ascending x (in_one_list s.left));
+  parties = omega (arith, length-append (replicate workers []) (ascending (concat s.left) ∷ []), (let none : List ℕ = [] in length-replicate workers none));
+  once = λ x. omega (arith, h.once x, left_last x workers (ascending (concat s.left)), times_ascending x (concat s.left));
 }
 
 pub sound_all : (m l workers : ℕ) (s : Stage) (xs : List StageStep) → Sound m l workers s → AreLegal m l workers s xs → Sound m l workers (after_steps m l workers s xs)

@@ -1,10 +1,6 @@
 -- How the groups of a stage are cut into runs.
 use Rattle.std.specs.Prelude.{◌≡◌, ℕ, zero, suc, ◌+◌, ◌-◌, ◌*◌, ◌/◌, ◌≤◌, List, [], ◌∷◌, min, max, if◌then◌else◌, ◌==◌, nat_lt}
-
--- The n numbers from a on.
-abbrev pub numbers_from : ℕ → ℕ → List ℕ
-numbers_from a zero = []
-numbers_from a (suc n) = a ∷ numbers_from (a + 1) n
+use Rattle.std.specs.List.{range_with_len}
 
 -- How many groups a run has: a quarter of a worker's share, but at least 1 and at most 64.
 unfoldable pub run_length : ℕ → ℕ → ℕ
@@ -16,7 +12,7 @@ run_count m l = (m + (l - 1)) / l
 
 -- The groups of run d, where runs have l of the m groups: none where d is past the last run.
 abbrev pub run_groups : ℕ → ℕ → ℕ → List ℕ
-run_groups m l d = numbers_from (d * l) (min m ((d + 1) * l) - d * l)
+run_groups m l d = range_with_len (d * l) (min m ((d + 1) * l) - d * l)
 
 -- How often x stands in a list.
 abbrev pub times : ℕ → List ℕ → ℕ

@@ -1,11 +1,12 @@
 -- What the calls on tickets and their seats give.
 use Rattle.std.specs.Prelude.{◌≡◌, ℕ, ◌+◌, ◌-◌, ◌*◌, ◌<◌, ◌≤◌, List, [], min, if◌then◌else◌, nat_lt}
+use Rattle.std.specs.List.{range_with_len}
 use Rattle.ds2_dealer.specs.declared.rule.SeatView.{SeatView}
 use Rattle.ds2_dealer.specs.declared.tickets.Tickets.{Tickets}
 use Rattle.ds2_dealer.specs.declared.tickets.TicketSeat.{TicketSeat}
 use Rattle.ds2_dealer.specs.declared.tickets.Draw.{Draw}
 use Rattle.ds2_dealer.specs.declared.tickets.Draw.TheVariants.{Run, NoMore}
-use Rattle.ds2_dealer.specs.Runs.{numbers_from, run_groups}
+use Rattle.ds2_dealer.specs.Runs.{run_groups}
 use Rattle.ds2_dealer.specs.Rule.{shown, past, most_past, with_number, IsAbove, ShowsAll}
 
 -- What a seat shows.
@@ -28,7 +29,7 @@ draw_of t d = if nat_lt d t.runs then Run (d * t.length) (min t.groups ((d + 1) 
 
 -- The groups that a draw gives.
 abbrev pub groups_drawn : Draw → List ℕ
-groups_drawn (Run from to) = numbers_from from (to - from)
+groups_drawn (Run from to) = range_with_len from (to - from)
 groups_drawn (NoMore d) = []
 
 -- A run has a group, and no group past the last.

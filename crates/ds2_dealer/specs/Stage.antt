@@ -1,6 +1,6 @@
 -- The stage machine: parties draw runs of groups, hand groups in, and the caller takes over what is left.
 use Rattle.std.specs.Prelude.{◌≡◌, ℕ, zero, suc, ◌+◌, ◌*◌, List, [], ◌∷◌, ◌++◌, Bool, true, false, not, ◌&&◌, ◌||◌, min, map, replicate, if◌then◌else◌, ◌==◌, nat_lt, nat_le}
-use Rattle.std.specs.List.{list_any, list_all}
+use Rattle.std.specs.List.{list_any, list_all, concat, fold}
 use Rattle.ds2_dealer.specs.Runs.{run_length, run_count, run_groups, times, once_below}
 
 -- A group that a party has handed in, the number of its rows, and whether it ended in a fault.
@@ -49,11 +49,6 @@ abbrev pub without_next : List ℕ → List ℕ
 without_next [] = []
 without_next (g ∷ gs) = gs
 
--- Several lists in one, one after the other.
-abbrev pub in_one_list : List (List ℕ) → List ℕ
-in_one_list [] = []
-in_one_list (gs ∷ others) = gs ++ in_one_list others
-
 -- A number put in front of the first one that is not below it.
 abbrev pub inserted : ℕ → List ℕ → List ℕ
 inserted x [] = x ∷ []
@@ -78,7 +73,7 @@ is_legal_step workers s Retakes = none_left (left_for workers s.left)
 abbrev pub after_step : ℕ → ℕ → ℕ → Stage → StageStep → Stage
 after_step m l workers s (Draws w d) = record { drawn = s.drawn + 1; left = changed_at (λ gs. gs ++ run_groups m l d) s.left w; handed = s.handed }
 after_step m l workers s (HandsIn w g rows faulted) = record { drawn = s.drawn; left = changed_at without_next s.left w; handed = s.handed ++ record { party = w; group = g; rows = rows; faulted = faulted } ∷ [] }
-after_step m l workers s Retakes = record { drawn = s.drawn; left = replicate workers [] ++ ascending (in_one_list s.left) ∷ []; handed = s.handed }
+after_step m l workers s Retakes = record { drawn = s.drawn; left = replicate workers [] ++ ascending (concat s.left) ∷ []; handed = s.handed }
 
 -- Before the first step nothing is drawn, left or handed in.
 abbrev pub opening_stage : ℕ → Stage
@@ -86,8 +81,7 @@ opening_stage workers = record { drawn = 0; left = replicate (workers + 1) []; h
 
 -- The stage after several steps.
 abbrev pub after_steps : ℕ → ℕ → ℕ → Stage → List StageStep → Stage
-after_steps m l workers s [] = s
-after_steps m l workers s (x ∷ xs) = after_steps m l workers (after_step m l workers s x) xs
+after_steps m l workers s xs = fold (after_step m l workers) s xs
 
 -- Whether each of several steps is legal where it comes.
 abbrev pub are_legal : ℕ → ℕ → ℕ → Stage → List StageStep → Bool
@@ -112,7 +106,7 @@ fault_below g handed = list_any (λ (e : HandIn). e.faulted && nat_lt e.group g)
 
 -- A stage is complete where all runs were drawn or a fault was handed in, and each group left is above a group that faulted.
 abbrev pub is_complete_stage : ℕ → ℕ → Stage → Bool
-is_complete_stage m l s = (nat_le (run_count m l) s.drawn || some_fault s.handed) && list_all (λ g. fault_below g s.handed) (in_one_list s.left)
+is_complete_stage m l s = (nat_le (run_count m l) s.drawn || some_fault s.handed) && list_all (λ g. fault_below g s.handed) (concat s.left)
 
 -- A history is complete where its replay is.
 abbrev pub is_complete : ℕ → ℕ → List StageStep → Bool
@@ -124,7 +118,7 @@ group_of e = e.group
 
 -- How often group g is left or handed in.
 abbrev pub occurs : ℕ → Stage → ℕ
-occurs g s = times g (in_one_list s.left) + times g (map group_of s.handed)
+occurs g s = times g (concat s.left) + times g (map group_of s.handed)
 
 -- The groups of the first n runs.
 abbrev pub first_runs : ℕ → ℕ → ℕ → List ℕ

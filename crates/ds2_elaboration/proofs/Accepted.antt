@@ -1,11 +1,10 @@
 -- What holds of a data program that breaks no rule of names.
-use Rattle.std.proofs.Common.{◌≡◌, ℕ, nat_le, nat_lt, nat_eq, bytes_eq, codes, cond, is_some, is_none, Bool, true, false, not, ◌&&◌, ◌||◌, List, [], ◌∷◌, ◌++◌, length, map, filter, find, position, slice_get, unwrap_or, if◌then◌else◌, Option, Some, None, option_map, refl, sym, ap, ◌∙◌, subst, true≢false, arith}
+use Rattle.std.proofs.Common.{◌≡◌, ℕ, nat_le, nat_lt, bytes_eq, codes, cond, Bool, true, false, List, [], ◌∷◌, ◌++◌, length, map, filter, find, position, slice_get, unwrap_or, if◌then◌else◌, Option, Some, None, option_map, refl, sym, ap, ◌∙◌, subst, true≢false, arith}
 use Rattle.std.specs.List.{position_or_len, AllByRecursion}
-use Rattle.std.proofs.lemmas.Bool.{and_parts, and_from, leb-true, le-leb, lt-ltb, eqb-true}
+use Rattle.std.proofs.lemmas.Bool.{and_from, le-leb, lt-ltb}
 use Rattle.std.proofs.lemmas.List.Folds.{find_at}
 use Rattle.std.proofs.lemmas.Option.{slice_get-map, slice_get_within}
 use Rattle.ds2_base.specs.declared.place.Place.{Place}
-use Rattle.ds2_base.specs.declared.place.Refusal.{Refusal}
 use Rattle.ds2_token.specs.Words.{is_word}
 use Rattle.ds2_token.specs.declared.token.Token.{Token}
 use Rattle.ds2_tree.specs.Globals.{Method}
@@ -20,7 +19,6 @@ use Rattle.ds2_value.specs.declared.ty.Ty.{Ty}
 use Rattle.ds2_value.specs.declared.ty.Ty.TheVariants.{Char, Varchar}
 use Rattle.ds2_meaning.specs.declared.globals.Variable as typed
 use Rattle.ds2_meaning.specs.declared.methods.Parameter as typed_parameter
-use Rattle.ds2_meaning.specs.declared.refusals.ScopeKind.{ScopeKind}
 use Rattle.ds2_meaning.specs.declared.refusals.ScopeKind.TheVariants as kind
 use Rattle.ds2_meaning.specs.IsTyped.{type_in, with_parameters_of, AreInBounds}
 use Rattle.ds2_names.specs.NameRules.{from_each, place_unless, spelled_number, later_places, renamed_twice, output_names, clashing_columns, real_outputs, duplicate_unit, unknown_names, duplicate_names, unknown_methods, wrong_counts, not_variables, aliased_arguments}

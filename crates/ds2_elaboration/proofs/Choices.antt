@@ -1,5 +1,5 @@
 -- Functions of several values, and functions by their names, become typed nodes where their arguments break no rule.
-use Rattle.std.proofs.Common.{◌≡◌, ℕ, suc, ◌<◌, ◌≤◌, max, nat_le, bytes_eq, codes, Bool, true, false, not, ◌&&◌, ◌||◌, List, [], ◌∷◌, ◌++◌, length, map, fold, if◌then◌else◌, refl, sym, ap, ◌∙◌, subst, arith}
+use Rattle.std.proofs.Common.{◌≡◌, ℕ, suc, ◌≤◌, max, nat_le, bytes_eq, codes, Bool, true, false, not, ◌||◌, List, [], ◌∷◌, ◌++◌, length, map, fold, if◌then◌else◌, refl, sym, ap, ◌∙◌, subst, arith}
 use Rattle.std.specs.List.{list_all, AllByRecursion}
 use Rattle.std.proofs.lemmas.Bool.{and_parts, and_from, leb-true, le-leb}
 use Rattle.ds2_base.specs.declared.place.Place.{Place}
@@ -8,17 +8,17 @@ use Rattle.ds2_value.specs.Types.{in_bounds}
 use Rattle.ds2_value.specs.declared.ty.Ty.{Ty}
 use Rattle.ds2_value.specs.declared.ty.Ty.TheVariants.{BigInt, Decimal as DecimalOf, Char, Varchar}
 use Rattle.ds2_meaning.specs.IsTyped.{NamesInScope, type_scale, type_width, decimal_result, expression_type, expression_types, AllOfType, IsManyFrom, IsTypedExpression, AreTypedExpressions, IsApplication}
-use Rattle.ds2_meaning.specs.TypedExpression.{TypedExpression, TypedExpressions, Applied}
+use Rattle.ds2_meaning.specs.TypedExpression.{TypedExpression, TypedExpressions}
 use Rattle.ds2_meaning.specs.declared.expressions.Function.{Function}
 use Rattle.ds2_meaning.specs.declared.expressions.Function.TheVariants as function
 use Rattle.ds2_names.specs.NameRules.{from_each}
 use Rattle.ds2_names.specs.SourceUnit.{spelled_name}
-use Rattle.ds2_elaboration.specs.FunctionTypes.{ElaboratedArgument, nodes_in_order, refusals_in, argument_refusals, elaborated_absolute, elaborated_whole, elaborated_remainder, known_types, is_null_argument, common_type, common_node, elaborated_coalesce, elaborated_extreme, elaborated_length, elaborated_trim, elaborated_substring, elaborated_null_test, form_of_one, elaborated_many, form_of_two, elaborated_part, form_of_several, elaborated_function}
+use Rattle.ds2_elaboration.specs.FunctionTypes.{ElaboratedArgument, nodes_in_order, refusals_in, argument_refusals, elaborated_absolute, elaborated_whole, known_types, is_null_argument, common_type, common_node, elaborated_coalesce, elaborated_extreme, elaborated_length, elaborated_trim, elaborated_substring, elaborated_null_test, form_of_one, elaborated_many, form_of_two, elaborated_part, form_of_several, elaborated_function}
 use Rattle.ds2_elaboration.specs.TypedForms.{IsOfTyping, IsSoundlyElaborated, IsSoundArgument, IsInType}
 use Rattle.ds2_elaboration.specs.Typings.{TypeRefusals, clash_unless, Typing, Known, NullAt, Unknown, ElaboratedExpression, elaborated_nameless, is_numeric_type, is_characters, is_integer_type, is_assigned_from, where_known, null_clash, operand_clash, assigned_node}
 use Rattle.ds2_elaboration.proofs.Functions.{absolute_typed, floor_typed, ceiling_typed, remainder_typed, length_typed, width_bounds, trim_typed}
 use Rattle.ds2_elaboration.proofs.Links.{scale_at_most, result_in_bounds, greater_within, width_from_one}
-use Rattle.ds2_elaboration.proofs.Operands.{unclashed, numeric, integer, textual, Operand, operand, form_typed, assigned_as}
+use Rattle.ds2_elaboration.proofs.Operands.{unclashed, numeric, integer, textual, operand, form_typed, assigned_as}
 use Rattle.ds2_elaboration.proofs.Outcome.{both_empty}
 
 -- ---- the common type

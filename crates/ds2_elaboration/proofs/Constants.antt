@@ -1,11 +1,11 @@
 -- Constants become typed nodes.
-use Rattle.std.proofs.Common.{◌≡◌, ℕ, suc, ◌+◌, ◌^◌, ◌%◌, ◌<◌, ◌≤◌, max, nat_le, nat_lt, Bool, true, false, ◌&&◌, ◌==◌, ℤ, pos, unsigned_abs, List, [], ◌∷◌, ◌++◌, length, if◌then◌else◌, Some, None, option_and_then, decimal, refl, sym, subst, arith, length-append, lit≤, lt_of_lt_of_le}
+use Rattle.std.proofs.Common.{◌≡◌, ℕ, suc, ◌+◌, ◌^◌, ◌%◌, ◌<◌, ◌≤◌, max, nat_le, nat_lt, Bool, true, false, ◌&&◌, ◌==◌, pos, List, [], ◌∷◌, ◌++◌, length, if◌then◌else◌, Some, None, option_and_then, decimal, refl, sym, subst, arith, length-append, lit≤, lt_of_lt_of_le}
 use Rattle.std.proofs.Math.Nat.{pow-le-pow_right}
 use Rattle.std.specs.Str.{is_utf8}
 use Rattle.std.proofs.lemmas.Bool.{and_parts, and_from, ltb-true, leb-true, le-leb, lt-ltb, eq-eqb}
 use Rattle.std.proofs.lemmas.Fmt.{decimal_by_steps_wide, length-decimal-le_wide}
 use Rattle.ds2_base.specs.Characters.{char_count}
-use Rattle.ds2_decimal.specs.Decimal.{Decimal, is_within, digit_count}
+use Rattle.ds2_decimal.specs.Decimal.{is_within}
 use Rattle.ds2_decimal.specs.declared.dec.TheConstants.{MOST_DIGITS}
 use Rattle.ds2_token.specs.Limits.{text_content, units_of, scale_of}
 use Rattle.ds2_token.specs.Words.{is_integer, is_decimal}
@@ -14,7 +14,7 @@ use Rattle.ds2_value.specs.Types.{in_bounds}
 use Rattle.ds2_value.specs.declared.ty.TheConstants.{TEXT_CHARACTERS}
 use Rattle.ds2_meaning.specs.IsTyped.{NamesInScope, expression_type, IsTypedExpression}
 use Rattle.ds2_meaning.specs.TypedExpression.{TypedExpression}
-use Rattle.ds2_elaboration.specs.ExpressionTypes.{integer_node, integer_constant, decimal_type, decimal_node, typed_decimal, text_within, text_node, typed_text, constant_node}
+use Rattle.ds2_elaboration.specs.ExpressionTypes.{integer_node, integer_constant, decimal_node, typed_decimal, text_within, text_node, typed_text, constant_node}
 use Rattle.ds2_elaboration.specs.TypedForms.{IsSoundlyElaborated}
 use Rattle.ds2_elaboration.specs.Typings.{form_of_operands}
 use Rattle.ds2_elaboration.proofs.Operands.{form_typed}

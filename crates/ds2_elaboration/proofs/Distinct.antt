@@ -1,28 +1,27 @@
 -- The variables of a data program that breaks no rule have distinct names.
-use Rattle.std.proofs.Common.{◌≡◌, ℕ, bytes_eq, codes, Bool, true, false, not, ◌&&◌, ◌||◌, List, [], ◌∷◌, ◌++◌, map, if◌then◌else◌, Option, Some, None, refl, sym, ap, ◌∙◌, subst, append-nil}
+use Rattle.std.proofs.Common.{◌≡◌, ℕ, bytes_eq, Bool, true, false, not, List, [], ◌∷◌, ◌++◌, map, if◌then◌else◌, Option, Some, None, refl, sym, ap, ◌∙◌, subst, append-nil}
 use Rattle.std.specs.List.{AllByRecursion}
 use Rattle.std.proofs.lemmas.Bool.{and_parts, and_from, or_from, or_parts, not_from_false}
 use Rattle.ds2_base.specs.declared.place.Place.{Place}
 use Rattle.ds2_token.specs.declared.token.Token.{Token}
-use Rattle.ds2_tree.specs.Globals.{Method, GlobalItem, Declared, Listed, Defined, declaration_spelling, variables_spelling, global_spelling}
+use Rattle.ds2_tree.specs.Globals.{GlobalItem, Declared, Listed, Defined, declaration_spelling, global_spelling}
 use Rattle.ds2_tree.specs.Lists.{all_spelled}
 use Rattle.ds2_tree.specs.Units.{DataProgram}
 use Rattle.ds2_tree.specs.declared.globals.Declaration.TheVariants as declaration
 use Rattle.ds2_tree.specs.declared.globals.VariableDeclaration.{VariableDeclaration}
 use Rattle.ds2_tree.specs.declared.readings.Input as source_input
-use Rattle.ds2_tree.specs.declared.readings.Reading as source_reading
 use Rattle.ds2_value.specs.Row.{Columns}
 use Rattle.ds2_value.specs.declared.ty.Ty.{Ty}
 use Rattle.ds2_meaning.specs.declared.globals.Variable as typed
 use Rattle.ds2_meaning.specs.IsTyped.{are_distinct, variable_names}
 use Rattle.ds2_meaning.specs.ProgramTree.{is_listed}
 use Rattle.ds2_names.specs.NameRules.{from_each, later_places}
-use Rattle.ds2_names.specs.SourceUnit.{TableColumns, spelled_name, PlacedName, placed_name, names_alone, declared_names, variable_declarations, source_methods, source_instances, SourceInstance, KnownUnit, reading_of_run, tables_of_reading, new_columns_of, new_columns, stage_token, columns_of_stage, unit_of_data, names_of_unit, names_of_source, all_globals, instance_names}
+use Rattle.ds2_names.specs.SourceUnit.{TableColumns, spelled_name, PlacedName, names_alone, declared_names, variable_declarations, source_methods, source_instances, SourceInstance, KnownUnit, reading_of_run, tables_of_reading, new_columns_of, new_columns, stage_token, columns_of_stage, unit_of_data, names_of_unit, names_of_source, all_globals, instance_names}
 use Rattle.ds2_elaboration.specs.SourceTypes.{Absent, joined_over, joined_type, program_variables, program_inputs, column_variables}
 use Rattle.ds2_elaboration.specs.ProgramTypes.{vector_variables}
 use Rattle.ds2_elaboration.specs.TypedPrograms.{StandInOrder}
 use Rattle.ds2_elaboration.proofs.Locals.{declaration_within, declared_as_tokens, declared_variable_names, map_append}
-use Rattle.ds2_elaboration.proofs.Orders.{Within, none_within, itself_within, behind_others, before_others, both_within, order_within, turned_bytes, is_given_before, not_given_before, first_not_before, distinct_tokens}
+use Rattle.ds2_elaboration.proofs.Orders.{Within, none_within, behind_others, both_within, order_within, turned_bytes, is_given_before, not_given_before, first_not_before, distinct_tokens}
 
 -- ---- lists of names
 

@@ -1,5 +1,5 @@
 -- Expressions that break no rule become typed nodes.
-use Rattle.std.proofs.Common.{◌≡◌, ℕ, bytes_eq, codes, is_some, Bool, true, false, not, List, [], ◌∷◌, ◌++◌, if◌then◌else◌, Option, Some, None, refl, sym, ap, ◌∙◌, subst, true≢false}
+use Rattle.std.proofs.Common.{◌≡◌, ℕ, codes, is_some, Bool, true, false, not, List, [], ◌∷◌, ◌++◌, if◌then◌else◌, Option, Some, None, refl, sym, ap, ◌∙◌, subst, true≢false}
 use Rattle.std.specs.List.{AllByRecursion}
 use Rattle.ds2_base.specs.declared.place.Place.{Place}
 use Rattle.ds2_token.specs.Words.{is_word}
@@ -22,13 +22,13 @@ use Rattle.ds2_meaning.specs.ProgramTree.{is_listed}
 use Rattle.ds2_meaning.specs.TypedExpression as tree
 use Rattle.ds2_names.specs.SourceUnit.{spelled_name}
 use Rattle.ds2_names.specs.Uses.{first_place, method_named}
-use Rattle.ds2_elaboration.specs.ExpressionTypes.{TypeScope, KnownVariable, known_global, known_before_globals, known_variable, variable_node, value_of_variable, elaborated_variable, flag_node, elaborated_flag, number_of_method, ElaboratedArguments, value_argument, is_settable_reference, reference_in, reference_or_none, in_out_argument, arguments_for, result_of_method, elaborated_method_call, method_or_function_call, elaborated_call, ElaboratedLinks, is_truth_chain, link_refusals, elaborated, truth_links, value_links, elaborated_arguments}
+use Rattle.ds2_elaboration.specs.ExpressionTypes.{TypeScope, KnownVariable, known_global, known_before_globals, known_variable, variable_node, value_of_variable, elaborated_variable, flag_node, elaborated_flag, number_of_method, ElaboratedArguments, value_argument, is_settable_reference, reference_in, reference_or_none, in_out_argument, arguments_for, result_of_method, method_or_function_call, elaborated_call, ElaboratedLinks, is_truth_chain, link_refusals, elaborated, truth_links, value_links, elaborated_arguments}
 use Rattle.ds2_elaboration.specs.FunctionTypes.{ElaboratedArgument}
 use Rattle.ds2_elaboration.specs.OperatorTypes.{elaborated_link}
 use Rattle.ds2_elaboration.specs.SourceTypes.{is_one_type, elaborated_parameters, returned_type}
 use Rattle.ds2_elaboration.specs.TypedForms.{IsOfTyping, IsSoundlyElaborated, IsSoundArgument, IsLeft, LinkFits}
 use Rattle.ds2_elaboration.specs.TypedScopes.{IsBoundedIfAny, MethodStands, ScopeStands, ExpressionsAreTyped}
-use Rattle.ds2_elaboration.specs.Typings.{TypeRefusals, clash_unless, Typing, Known, NullAt, Unknown, ElaboratedExpression, form_of_type, typing_behind, form_of_operands, elaborated_nameless, is_numeric_type, where_known, truth_refusals, assigned_refusals}
+use Rattle.ds2_elaboration.specs.Typings.{TypeRefusals, clash_unless, Typing, Known, NullAt, Unknown, ElaboratedExpression, form_of_type, typing_behind, form_of_operands, elaborated_nameless, where_known, truth_refusals, assigned_refusals}
 use Rattle.ds2_elaboration.proofs.Choices.{nameless_typed, any_of_typing, null_test_typed, either, function_typed}
 use Rattle.ds2_elaboration.proofs.Comparisons.{comparison_typed}
 use Rattle.ds2_elaboration.proofs.Constants.{constant_typed}

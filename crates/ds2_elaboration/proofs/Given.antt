@@ -4,7 +4,7 @@ use Rattle.std.specs.List.{AllByRecursion}
 use Rattle.std.proofs.lemmas.Bool.{cases_Bool, cases_order, cases_lt, or_cases, and_parts, or_left, or_right, and_from, ltb-true, leb-true, eqb-true, lt-ltb, le-leb, eq-eqb}
 use Rattle.ds2_base.specs.declared.place.Refusal.{Refusal}
 use Rattle.ds2_names.specs.Refusals.{scope_rank, type_rank, comes_before, first_of_both, least_refusal}
-use Rattle.ds2_elaboration.specs.ElaborationLaws.{IsAmong, FirstRefusals}
+use Rattle.ds2_elaboration.specs.ElaborationLaws.{StandsAmong, FirstRefusals}
 
 -- ---- the order of places and kinds
 
@@ -96,7 +96,7 @@ module _ {K : Type 0} (rank : K → ℕ) where
 
   -- what is said of the one that is given
   abbrev IsFirst : List (Refusal K) → Refusal K → Type 0
-  IsFirst refusals given = IsAmong refusals given × AllByRecursion (λ due. comes_before rank given due ≡ true) refusals
+  IsFirst refusals given = StandsAmong refusals given × AllByRecursion (λ due. comes_before rank given due ≡ true) refusals
 
   -- a refusal before others, of which this one is the first
   first_of_two : (a : Refusal K) (refusals : List (Refusal K)) (b : Refusal K) → IsFirst refusals b

@@ -2,6 +2,7 @@ pub mod OperatorExamples
 pub mod CallExamples
 pub mod SourceExamples
 pub mod VariableExamples
+pub mod ListingExamples
 pub mod Given
 pub mod Outcome
 pub mod Returning
@@ -27,3 +28,5 @@ pub mod Limits
 pub mod OutputNames
 pub mod Schemas
 pub mod Sources
+pub mod FirstBytes
+pub mod TokenOrder

@@ -1,46 +1,42 @@
 -- The methods of a data program that breaks no rule become typed methods.
-use Rattle.std.proofs.Common.{◌≡◌, ℕ, bytes_eq, codes, nat_eq, is_some, is_none, Bool, true, false, not, ◌&&◌, ◌||◌, List, [], ◌∷◌, ◌++◌, length, map, filter, if◌then◌else◌, Option, Some, None, refl, sym, ap, ◌∙◌, subst, true≢false, arith}
+use Rattle.std.proofs.Common.{◌≡◌, ℕ, bytes_eq, codes, nat_eq, is_some, is_none, Bool, true, false, not, ◌&&◌, ◌||◌, List, [], ◌∷◌, ◌++◌, length, map, if◌then◌else◌, Option, Some, None, refl, sym, ap, ◌∙◌, subst, true≢false, arith}
 use Rattle.std.specs.List.{AllByRecursion}
 use Rattle.std.proofs.lemmas.Bool.{and_parts, eqb-true}
 use Rattle.std.proofs.lemmas.List.{length-map}
 use Rattle.ds2_base.specs.declared.place.Place.{Place}
 use Rattle.ds2_token.specs.declared.token.Token.{Token}
-use Rattle.ds2_tree.specs.Globals.{Method, GlobalItem, Declared, Listed, Defined, parameter_spelling, parameters_spelling, variables_spelling, type_spelling, returns_spelling, method_spelling, global_spelling, IsGlobal}
-use Rattle.ds2_tree.specs.Lists.{one_token, if_any, all_spelled, comma_spelling, Each}
-use Rattle.ds2_tree.specs.Marks.{open_mark, close_mark, semicolon_mark}
+use Rattle.ds2_tree.specs.Globals.{Method, GlobalItem, Declared, Listed, Defined, parameters_spelling, variables_spelling, returns_spelling, method_spelling, global_spelling, IsGlobal}
+use Rattle.ds2_tree.specs.Lists.{if_any, all_spelled, Each}
+use Rattle.ds2_tree.specs.Marks.{semicolon_mark}
 use Rattle.ds2_tree.specs.Readings.{reading_spelling}
 use Rattle.ds2_tree.specs.Statements.{statements_spelling, AreStatements}
 use Rattle.ds2_tree.specs.Units.{DataProgram, output_spelling, data_spelling}
-use Rattle.ds2_tree.specs.declared.globals.Parameter as source_parameter
 use Rattle.ds2_tree.specs.declared.globals.Returns.{Returns}
-use Rattle.ds2_tree.specs.declared.globals.VariableDeclaration.{VariableDeclaration}
 use Rattle.ds2_tree.specs.declared.readings.Reading as source_reading
 use Rattle.ds2_tree.specs.declared.units.OutputTable as source_output
-use Rattle.ds2_value.specs.Types.{in_bounds, JoinTakesBoth}
+use Rattle.ds2_value.specs.Types.{JoinTakesBoth}
 use Rattle.ds2_value.specs.declared.ty.Ty.{Ty}
 use Rattle.ds2_meaning.specs.declared.globals.Variable as typed
-use Rattle.ds2_meaning.specs.declared.methods.Parameter as typed_parameter
 use Rattle.ds2_meaning.specs.declared.refusals.TypeKind.TheVariants.{NoReturn, TypeClash}
-use Rattle.ds2_meaning.specs.IsTyped.{NamesInScope, type_in, with_parameters_of, AreInBounds, are_distinct, variable_names, AreTypedVariables, AreTypedStatements, ListSurelyReturns, ReturnsWhatItSays, IsTypedMethod, AreTypedMethods, IsTypedBody, IsTypedInit, flag_type, globals_of}
-use Rattle.ds2_meaning.specs.Method.{MethodTree}
+use Rattle.ds2_meaning.specs.IsTyped.{NamesInScope, type_in, with_parameters_of, AreInBounds, are_distinct, variable_names, ReturnsWhatItSays, IsTypedMethod, AreTypedMethods, IsTypedBody, flag_type, globals_of}
 use Rattle.ds2_meaning.specs.ProgramTree.{UnitTree, methods_of}
-use Rattle.ds2_names.specs.NameRules.{from_each, place_unless, options_of, later_places, is_system, uses_in}
+use Rattle.ds2_names.specs.NameRules.{from_each, options_of, later_places, is_system, uses_in}
 use Rattle.ds2_names.specs.Refusals.{broken_at}
 use Rattle.ds2_names.specs.SourceLimits.{BeforeUnit}
-use Rattle.ds2_names.specs.SourceUnit.{TableColumns, spelled_name, PlacedName, placed_name, names_alone, declared_names, variable_declarations, source_methods, is_system_name, local_names, reading_of_run, SourceNames, unit_of_data, names_of_unit, names_of_source}
+use Rattle.ds2_names.specs.SourceUnit.{TableColumns, spelled_name, placed_name, names_alone, variable_declarations, source_methods, is_system_name, local_names, reading_of_run, SourceNames, unit_of_data, names_of_unit, names_of_source}
 use Rattle.ds2_names.specs.UnitRules.{bad_type_numbers, declared_types, method_types, bad_reading_number, unit_types, misplaced_in_all, misplaced_head, misplaced_reading, is_system_method, may_write, misplaced_setting, misplaced_in_method, misplaced_in_kind, misplaced_null, option_word}
 use Rattle.ds2_names.specs.Uses.{method_named}
 use Rattle.ds2_elaboration.specs.ElaborationLaws.{BreaksNoRule}
 use Rattle.ds2_elaboration.specs.ExpressionTypes.{callable_methods}
-use Rattle.ds2_elaboration.specs.ProgramTypes.{made_outputs, made_names, vector_variables, made_output, scope_of_method, return_rule, method_refusals, method_tree_of, body_of_method, system_body, typed_program}
-use Rattle.ds2_elaboration.specs.SourceTypes.{declared_variables, elaborated_parameter, elaborated_parameters, variables_in_method, returned_type, spelled_type, program_variables, program_inputs, column_variables, clashing_tables}
-use Rattle.ds2_elaboration.specs.StatementTypes.{statements_refusals, statements_node, list_surely_returns}
+use Rattle.ds2_elaboration.specs.ProgramTypes.{made_outputs, made_names, vector_variables, made_output, scope_of_method, return_rule, method_refusals, method_tree_of, body_of_method, typed_program}
+use Rattle.ds2_elaboration.specs.SourceTypes.{declared_variables, elaborated_parameter, variables_in_method, returned_type, program_variables, program_inputs, column_variables, clashing_tables}
+use Rattle.ds2_elaboration.specs.StatementTypes.{statements_refusals, list_surely_returns}
 use Rattle.ds2_elaboration.specs.TypedPrograms.{StandInOrder, StandsInSource, HaveSchemas, MethodsAreTyped, EveryMethodIsTyped}
 use Rattle.ds2_elaboration.specs.TypedScopes.{ScopeStands}
 use Rattle.ds2_elaboration.specs.Typings.{type_refusal_at}
 use Rattle.ds2_elaboration.proofs.Accepted.{each_empty, both_all, each_of, halves_empty, nested_empty, NamesHold, names_hold, NamesOnce, names_once, bounds_append, declared_bounds, MethodBounds, method_bounds, bounded_in, same_item, number_stands, of_named, of_kept, all_pass}
 use Rattle.ds2_elaboration.proofs.Locals.{local_tokens, locals_within, locals_as_tokens, local_variable_names}
-use Rattle.ds2_elaboration.proofs.Orders.{Within, nothing, kept, passed, none_within, itself_within, behind_others, before_others, both_within, order_within, tokens_within, parts_within, same_bytes, not_given_before, distinct_tokens}
+use Rattle.ds2_elaboration.proofs.Orders.{Within, passed, itself_within, behind_others, before_others, order_within, same_bytes, not_given_before, distinct_tokens}
 use Rattle.ds2_elaboration.proofs.Outcome.{both_empty, unplaced}
 use Rattle.ds2_elaboration.proofs.Returning.{list_kept}
 use Rattle.ds2_elaboration.proofs.Statements.{statements_typed}

@@ -1,9 +1,8 @@
 -- Tokens among tokens: their order, and distinct names.
-use Rattle.std.proofs.Common.{◌≡◌, ℕ, bytes_eq, Bool, true, false, not, ◌&&◌, ◌||◌, List, [], ◌∷◌, ◌++◌, map, filter, cond, if◌then◌else◌, refl, sym, ap, ◌∙◌, true≢false}
+use Rattle.std.proofs.Common.{◌≡◌, ℕ, bytes_eq, Bool, true, false, not, ◌&&◌, List, [], ◌∷◌, ◌++◌, map, filter, cond, refl, sym, ◌∙◌, true≢false}
 use Rattle.std.specs.List.{list_any, AllByRecursion}
 use Rattle.std.proofs.lemmas.Bool.{and_from, or_from, or_parts, false_from_ne_true, not_from_false}
 use Rattle.std.proofs.lemmas.Slice.Eq.{bytes_eq-Decides}
-use Rattle.ds2_base.specs.declared.place.Place.{Place}
 use Rattle.ds2_token.specs.declared.token.Token.{Token}
 use Rattle.ds2_tree.specs.Lists.{one_token, all_spelled}
 use Rattle.ds2_meaning.specs.IsTyped.{are_distinct}

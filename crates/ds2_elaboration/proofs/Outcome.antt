@@ -68,12 +68,12 @@ nothing_broken tables before u names types =
 
 pub one_outcome : OneOutcome
 one_outcome = record {
-  becomes_typed = λ tables before u b.
+  becomes_typed = λ tables before u d b.
       ap (λ o. names_before_types o (type_refusal tables u) (typed_program tables before.made u)) (names_none tables before u b)
       ∙ ap (λ o. names_before_types None o (typed_program tables before.made u)) (types_none tables before u b);
-  breaks_no_rule = λ tables before u p h.
+  breaks_no_rule = λ tables before u p d h.
       let parts = accepted (scope_refusal tables before (unit_of_data u)) (type_refusal tables u) (typed_program tables before.made u) p h in
       (nothing_broken tables before u parts.0 parts.1, parts.2);
   refused_for_names = λ tables before u r h. for_names (scope_refusal tables before (unit_of_data u)) (type_refusal tables u) (typed_program tables before.made u) r h;
-  refused_for_types = λ tables before u r h. for_types (scope_refusal tables before (unit_of_data u)) (type_refusal tables u) (typed_program tables before.made u) r h;
+  refused_for_types = λ tables before u r d h. for_types (scope_refusal tables before (unit_of_data u)) (type_refusal tables u) (typed_program tables before.made u) r h;
 }

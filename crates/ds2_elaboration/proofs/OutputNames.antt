@@ -1,5 +1,5 @@
 -- The outputs of a data program that breaks no rule have distinct names, and so have the columns of each.
-use Rattle.std.proofs.Common.{◌≡◌, ◌⊎◌, inl, inr, ℕ, bytes_eq, codes, cond, Bool, true, false, not, ◌&&◌, ◌||◌, List, [], ◌∷◌, ◌++◌, map, filter, if◌then◌else◌, Option, Some, None, refl, sym, ap, ◌∙◌, subst, true≢false}
+use Rattle.std.proofs.Common.{◌≡◌, ◌⊎◌, inl, inr, ℕ, bytes_eq, cond, Bool, true, false, not, ◌&&◌, List, [], ◌∷◌, ◌++◌, map, filter, if◌then◌else◌, Option, Some, None, refl, sym, ap, ◌∙◌, subst, true≢false}
 use Rattle.std.specs.List.{list_any, AllByRecursion}
 use Rattle.std.proofs.lemmas.Bool.{and_parts, and_from, or_parts, or_from, or_left, or_right, not_from_false, false_from_ne_true}
 use Rattle.ds2_base.specs.declared.place.Place.{Place}
@@ -16,7 +16,6 @@ use Rattle.ds2_tree.specs.declared.units.Renaming.{Renaming}
 use Rattle.ds2_value.specs.Row.{Columns}
 use Rattle.ds2_value.specs.Schema.{has_column, distinct_names, types_in_bounds}
 use Rattle.ds2_value.specs.Types.{in_bounds}
-use Rattle.ds2_value.specs.declared.schema.Column.{Column}
 use Rattle.ds2_value.specs.declared.ty.Ty.{Ty}
 use Rattle.ds2_meaning.specs.declared.globals.OutputColumn.{OutputColumn}
 use Rattle.ds2_meaning.specs.declared.globals.Variable as typed
@@ -24,24 +23,24 @@ use Rattle.ds2_meaning.specs.IsTyped.{type_in, AreInBounds, are_distinct}
 use Rattle.ds2_meaning.specs.ProgramTree.{is_listed}
 use Rattle.ds2_names.specs.NameRules.{from_each, options_of, renamed_to, renamings_in, renamings_of, OutputName, name_if_renamed, output_name, is_behind, clash_at_new_name, clashing_name, later_places}
 use Rattle.ds2_names.specs.SourceUnit.{spelled_name, PlacedName, placed_name, names_alone, is_earlier}
-use Rattle.ds2_elaboration.specs.ElaborationLaws.{IsAmong}
+use Rattle.ds2_elaboration.specs.ElaborationLaws.{StandsAmong}
 use Rattle.ds2_elaboration.specs.ProgramTypes.{type_or_bigint, made_column}
 use Rattle.ds2_elaboration.specs.TypedPrograms.{StandInOrder}
 use Rattle.ds2_elaboration.proofs.Accepted.{each_empty, same_item, bounded_in}
 use Rattle.ds2_elaboration.proofs.Locals.{map_append}
-use Rattle.ds2_elaboration.proofs.Orders.{Within, nothing, kept, passed, none_within, itself_within, behind_others, before_others, order_within, parts_within, same_bytes, bytes_are, turned_bytes, not_given_before, distinct_tokens}
+use Rattle.ds2_elaboration.proofs.Orders.{Within, kept, passed, none_within, itself_within, behind_others, before_others, order_within, parts_within, same_bytes, bytes_are, not_given_before, distinct_tokens}
 use Rattle.ds2_elaboration.proofs.Readings.{of_among}
 
 -- ---- items of lists
 
-among_any : {A : Type 0} (test : A → Bool) (xs : List A) (x : A) → IsAmong xs x → test x ≡ true → list_any test xs ≡ true
+among_any : {A : Type 0} (test : A → Bool) (xs : List A) (x : A) → StandsAmong xs x → test x ≡ true → list_any test xs ≡ true
 among_any test [] x m h = absurd m
 among_any test (y ∷ ys) x m h = elim m [
   | inl e ↦ or_left (test y) (list_any test ys) (ap test (sym e) ∙ h)
   | inr k ↦ or_right (test y) (list_any test ys) (among_any test ys x k h)
 ]
 
-mapped_among : {A B : Type 0} (f : A → B) (xs : List A) (x : A) → IsAmong xs x → IsAmong (map f xs) (f x)
+mapped_among : {A B : Type 0} (f : A → B) (xs : List A) (x : A) → StandsAmong xs x → StandsAmong (map f xs) (f x)
 mapped_among f [] x m = absurd m
 mapped_among f (y ∷ ys) x m = elim m [
   | inl e ↦ inl (ap f e)
@@ -159,7 +158,7 @@ one_place_if true place e h = cc
 one_place_if false place e h = sym e
 
 -- a name that stands behind another one clashes
-clashes : (all : List OutputName) (n o : OutputName) (place : Place) → IsAmong all o → bytes_eq o.name n.name ≡ true → is_behind place o.new_place ≡ true
+clashes : (all : List OutputName) (n o : OutputName) (place : Place) → StandsAmong all o → bytes_eq o.name n.name ≡ true → is_behind place o.new_place ≡ true
     → clash_at_new_name all n (Some place) ≡ [] → true ≡ false
 clashes all n o place m e b h =
     let test = λ (x : OutputName). bytes_eq x.name n.name && is_behind place x.new_place in
@@ -170,7 +169,7 @@ turned_true a b h = bytes_are b a (sym (same_bytes a b h))
 
 module _ (renamings : List Renaming) (order : StandInOrder (new_tokens renamings)) (all : List OutputName) where
   two_names : (a b : List ℕ) (x y : Option PlacedName) → renamed_to renamings a ≡ x → renamed_to renamings b ≡ y → bytes_eq a b ≡ false
-      → IsAmong all (name_if_renamed a x) → IsAmong all (name_if_renamed b y) → clashing_name all (name_if_renamed a x) ≡ [] → clashing_name all (name_if_renamed b y) ≡ []
+      → StandsAmong all (name_if_renamed a x) → StandsAmong all (name_if_renamed b y) → clashing_name all (name_if_renamed a x) ≡ [] → clashing_name all (name_if_renamed b y) ≡ []
       → bytes_eq (name_if_renamed a x).name (name_if_renamed b y).name ≡ true → true ≡ false
   two_names a b None None e g n ma mb ca cb h = sym h ∙ n
   two_names a b (Some x) None e g n ma mb ca cb h = clashes all (name_if_renamed a (Some x)) (name_if_renamed b None) x.place mb (turned_true x.name b h) refl ca
@@ -189,13 +188,13 @@ module _ (variables : List typed.Variable) (o : source_output.OutputTable) (orde
   abbrev columns_of : List (List ℕ) → Columns
   columns_of names = map (λ (c : OutputColumn). record { name = c.name; ty = c.ty }) (map (made_column variables o) names)
 
-  clash_free : (name : List ℕ) → IsAmong left name → clashing_name all_names (output_name (renamings_of o) name) ≡ []
+  clash_free : (name : List ℕ) → StandsAmong left name → clashing_name all_names (output_name (renamings_of o) name) ≡ []
   clash_free name m =
       of_among (λ (n : OutputName). clashing_name all_names n ≡ []) all_names (output_name (renamings_of o) name) (each_empty (clashing_name all_names) all_names once)
       (mapped_among (output_name (renamings_of o)) left name m)
 
   -- two names become two names
-  names_differ : (a b : List ℕ) → IsAmong left a → IsAmong left b → bytes_eq a b ≡ false
+  names_differ : (a b : List ℕ) → StandsAmong left a → StandsAmong left b → bytes_eq a b ≡ false
       → bytes_eq (output_name (renamings_of o) a).name (output_name (renamings_of o) b).name ≡ false
   names_differ a b ma mb n =
       let renamings = renamings_of o in
@@ -203,7 +202,7 @@ module _ (variables : List typed.Variable) (o : source_output.OutputTable) (orde
       true≢false (two_names renamings order all_names a b (renamed_to renamings a) (renamed_to renamings b) refl refl n
       (mapped_among (output_name renamings) left a ma) (mapped_among (output_name renamings) left b mb) (clash_free a ma) (clash_free b mb) h))
 
-  no_column : (a : List ℕ) (rest : List (List ℕ)) → IsAmong left a → ((name : List ℕ) → IsAmong rest name → IsAmong left name) → is_listed rest a ≡ false
+  no_column : (a : List ℕ) (rest : List (List ℕ)) → StandsAmong left a → ((name : List ℕ) → StandsAmong rest name → StandsAmong left name) → is_listed rest a ≡ false
       → has_column (output_name (renamings_of o) a).name (columns_of rest) ≡ false
   no_column a [] m f h = refl
   no_column a (b ∷ rest) m f h =
@@ -211,7 +210,7 @@ module _ (variables : List typed.Variable) (o : source_output.OutputTable) (orde
       or_from (bytes_eq (output_name (renamings_of o) b).name (output_name (renamings_of o) a).name) (has_column (output_name (renamings_of o) a).name (columns_of rest))
       (names_differ b a (f b (inl refl)) m p.0) (no_column a rest m (λ name k. f name (inr k)) p.1)
 
-  columns_distinct_from : (names : List (List ℕ)) → ((name : List ℕ) → IsAmong names name → IsAmong left name) → are_distinct names ≡ true
+  columns_distinct_from : (names : List (List ℕ)) → ((name : List ℕ) → StandsAmong names name → StandsAmong left name) → are_distinct names ≡ true
       → distinct_names (columns_of names) ≡ true
   columns_distinct_from [] f h = refl
   columns_distinct_from (a ∷ rest) f h =

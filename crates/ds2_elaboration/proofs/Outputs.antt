@@ -1,5 +1,5 @@
 -- The outputs of a data program that breaks no rule are typed.
-use Rattle.std.proofs.Common.{◌≡◌, ◌⊎◌, inl, inr, ℕ, ◌≤◌, nat_eq, bytes_eq, codes, Bool, true, false, not, ◌&&◌, ◌||◌, List, [], ◌∷◌, ◌++◌, length, map, filter, if◌then◌else◌, is_none, is_some, Option, Some, None, refl, sym, ap, ◌∙◌, subst, true≢false, arith}
+use Rattle.std.proofs.Common.{◌≡◌, inl, inr, ℕ, ◌≤◌, nat_eq, bytes_eq, codes, Bool, true, false, not, ◌||◌, List, [], ◌∷◌, ◌++◌, length, map, filter, if◌then◌else◌, is_none, is_some, Option, Some, None, refl, sym, ap, ◌∙◌, subst, true≢false, arith}
 use Rattle.std.specs.List.{AllByRecursion}
 use Rattle.std.specs.Option.{option_map_or}
 use Rattle.std.proofs.lemmas.Bool.{or_left, or_right}
@@ -16,10 +16,10 @@ use Rattle.ds2_meaning.specs.declared.globals.Variable as typed
 use Rattle.ds2_meaning.specs.IsTyped.{type_in, variable_names, AreOutputColumns, AreTypedOutputs}
 use Rattle.ds2_meaning.specs.ProgramMeaning.{output_columns}
 use Rattle.ds2_meaning.specs.ProgramTree.{is_listed}
-use Rattle.ds2_names.specs.NameRules.{from_each, place_unless, columns_are_known, options_of, is_thread_instance, is_stage_name, unknown_stage, is_output_column, columns_left}
+use Rattle.ds2_names.specs.NameRules.{place_unless, columns_are_known, options_of, is_thread_instance, is_stage_name, unknown_stage, is_output_column, columns_left}
 use Rattle.ds2_names.specs.SourceUnit.{TableColumns, spelled_name, PlacedName, names_alone, declared_names, variable_declarations, SourceInstance, source_instances, instance_named, KnownUnit, stage_token, stage_read, SourceNames, unit_of_data, names_of_unit, names_of_source, vector_names}
 use Rattle.ds2_names.specs.UnitRules.{without_columns, output_without_columns}
-use Rattle.ds2_elaboration.specs.ElaborationLaws.{IsAmong}
+use Rattle.ds2_elaboration.specs.ElaborationLaws.{StandsAmong}
 use Rattle.ds2_elaboration.specs.ProgramTypes.{made_outputs, vector_variables, type_or_bigint, made_column, made_output}
 use Rattle.ds2_elaboration.proofs.Accepted.{both_all, of_kept, all_pass}
 use Rattle.ds2_elaboration.proofs.Distinct.{columns_are, names_append, vector_variable_names}
@@ -29,7 +29,7 @@ use Rattle.ds2_elaboration.proofs.Readings.{for_each}
 
 -- ---- columns
 
-among_listed : (names : List (List ℕ)) (name : List ℕ) → IsAmong names name → is_listed names name ≡ true
+among_listed : (names : List (List ℕ)) (name : List ℕ) → StandsAmong names name → is_listed names name ≡ true
 among_listed [] name m = absurd m
 among_listed (n ∷ names) name m = elim m [
   | inl e ↦ or_left (bytes_eq n name) (is_listed names name) (bytes_are n name (sym e))

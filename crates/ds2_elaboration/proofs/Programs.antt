@@ -1,7 +1,6 @@
 -- A data program that breaks no rule becomes a typed program.
-use Rattle.std.proofs.Common.{◌≡◌, ℕ, ◌≤◌, bytes_eq, codes, true, not, List, [], ◌∷◌, ◌++◌, length, map, filter, Option, Some, None, refl, ap, ◌∙◌, subst, append-nil}
+use Rattle.std.proofs.Common.{◌≡◌, ◌≤◌, bytes_eq, codes, true, not, List, [], ◌∷◌, ◌++◌, length, map, Option, Some, None, refl, ap, ◌∙◌, subst, append-nil}
 use Rattle.std.specs.List.{AllByRecursion}
-use Rattle.ds2_base.specs.declared.place.Place.{Place}
 use Rattle.ds2_token.specs.declared.token.Token.{Token}
 use Rattle.ds2_tree.specs.Globals.{Method}
 use Rattle.ds2_tree.specs.Lists.{if_any}
@@ -15,8 +14,7 @@ use Rattle.ds2_tree.specs.declared.units.OutputTable as source_output
 use Rattle.ds2_value.specs.Types.{JoinTakesBoth, TakesItself, TakesOnward}
 use Rattle.ds2_meaning.specs.declared.refusals.TypeKind.TheVariants.{TypeClash}
 use Rattle.ds2_meaning.specs.declared.readings.MentionedTable.{MentionedTable}
-use Rattle.ds2_meaning.specs.IsTyped.{are_distinct, variable_names, names_of_outputs, IsTypedUnit, ReadsNoStage, IsTypedProgram}
-use Rattle.ds2_meaning.specs.ProgramTree.{OverTables}
+use Rattle.ds2_meaning.specs.IsTyped.{are_distinct, variable_names, names_of_outputs, IsTypedUnit, ReadsNoStage}
 use Rattle.ds2_names.specs.NameRules.{from_each, place_unless, from_uses, unknown_in_use, may_be_global, all_listed_tokens, is_in_all_tables, unknown_in_instance, unknown_stage, real_outputs}
 use Rattle.ds2_names.specs.Refusals.{broken_at}
 use Rattle.ds2_names.specs.SourceLimits.{BeforeUnit}

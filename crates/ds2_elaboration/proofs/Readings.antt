@@ -1,5 +1,5 @@
 -- The reading statement of a data program that breaks no rule is typed.
-use Rattle.std.proofs.Common.{◌≡◌, ◌⊎◌, inl, inr, ℕ, ◌≤◌, length, bytes_eq, codes, Bool, true, false, not, ◌&&◌, ◌||◌, List, [], ◌∷◌, ◌++◌, map, if◌then◌else◌, Option, Some, None, refl, sym, ap, ◌∙◌, subst, true≢false}
+use Rattle.std.proofs.Common.{◌≡◌, inl, inr, ℕ, ◌≤◌, length, bytes_eq, codes, Bool, true, false, not, ◌||◌, List, [], ◌∷◌, ◌++◌, map, if◌then◌else◌, Option, Some, None, refl, sym, ap, ◌∙◌, subst}
 use Rattle.std.specs.List.{AllByRecursion}
 use Rattle.std.proofs.lemmas.Bool.{and_parts, or_parts, or_from, or_left, or_right}
 use Rattle.std.proofs.lemmas.List.{length-map}
@@ -20,10 +20,10 @@ use Rattle.ds2_meaning.specs.declared.globals.Variable as typed
 use Rattle.ds2_meaning.specs.declared.readings.MentionedTable.{MentionedTable}
 use Rattle.ds2_meaning.specs.IsTyped.{type_in, AreInBounds, variable_names, AreVariables, AreByColumns, AreTypedInputs, IsTypedReading}
 use Rattle.ds2_meaning.specs.ProgramTree.{is_listed}
-use Rattle.ds2_names.specs.NameRules.{from_each, place_unless, is_in_all_tables}
+use Rattle.ds2_names.specs.NameRules.{from_each, is_in_all_tables}
 use Rattle.ds2_names.specs.SourceUnit.{TableColumns, spelled_name, PlacedName, names_alone, declared_names, variable_declarations, source_methods, source_instances, reading_of_run, tables_of_reading, bys_of_reading, new_columns_of, new_columns, names_of_source}
 use Rattle.ds2_names.specs.Uses.{method_named}
-use Rattle.ds2_elaboration.specs.ElaborationLaws.{IsAmong}
+use Rattle.ds2_elaboration.specs.ElaborationLaws.{StandsAmong}
 use Rattle.ds2_elaboration.specs.ProgramTypes.{vector_variables, read_input, read_by, read_statement, reading_of_method, program_reading}
 use Rattle.ds2_elaboration.specs.SourceTypes.{type_of_column, Absent, joined_over, clashing_table, joined_type, program_variables, program_inputs, column_variables, clashing_tables}
 use Rattle.ds2_elaboration.proofs.Accepted.{each_empty, bounded_in}
@@ -36,14 +36,14 @@ use Rattle.ds2_elaboration.proofs.Vectors.{reading_if_any, reading_found}
 
 -- ---- items of lists
 
-pub of_among : {A : Type 0} (P : A → Type 0) (xs : List A) (x : A) → AllByRecursion P xs → IsAmong xs x → P x
+pub of_among : {A : Type 0} (P : A → Type 0) (xs : List A) (x : A) → AllByRecursion P xs → StandsAmong xs x → P x
 of_among P [] x f m = absurd m
 of_among P (y ∷ ys) x f m = elim m [
   | inl e ↦ subst P (sym e) f.0
   | inr k ↦ of_among P ys x f.1 k
 ]
 
-pub for_each : {A : Type 0} (P : A → Type 0) (xs : List A) → ((x : A) → IsAmong xs x → P x) → AllByRecursion P xs
+pub for_each : {A : Type 0} (P : A → Type 0) (xs : List A) → ((x : A) → StandsAmong xs x → P x) → AllByRecursion P xs
 for_each P [] f = tt
 for_each P (y ∷ ys) f = (f y (inl refl), for_each P ys (λ x m. f x (inr m)))
 
@@ -140,7 +140,7 @@ further_if : (b : Bool) (known : List (List ℕ)) (own name : List ℕ) (place :
 further_if true known own name place others rest f g = f
 further_if false known own name place others rest f g = turned_or (bytes_eq own name) (is_listed known name) (is_listed (names_alone rest) name) g
 
-column_listed : (known : List (List ℕ)) (place : Place) (columns : Columns) (c : Column) → IsAmong columns c → IsKnownOrNew known (new_columns_of known place columns) c.name
+column_listed : (known : List (List ℕ)) (place : Place) (columns : Columns) (c : Column) → StandsAmong columns c → IsKnownOrNew known (new_columns_of known place columns) c.name
 column_listed known place [] c m = absurd m
 column_listed known place (d ∷ columns) c m = elim m [
   | inl e ↦ subst (λ (x : Column). IsKnownOrNew known (new_columns_of known place (d ∷ columns)) x.name) (sym e)
@@ -158,15 +158,15 @@ either_listed known own rest name h =
     ap (λ ns. is_listed known name || is_listed ns name) (names_append own rest)
     ∙ (ap (λ b. is_listed known name || b) (listed_or (names_alone own) (names_alone rest) name) ∙ h)
 
-all_listed : (tables : TableColumns) (known : List (List ℕ)) (inputs : List source_input.Input) (i : source_input.Input) → IsAmong inputs i → (c : Column)
-    → IsAmong (tables (spelled_name i.table)) c → IsKnownOrNew known (new_columns tables known inputs) c.name
+all_listed : (tables : TableColumns) (known : List (List ℕ)) (inputs : List source_input.Input) (i : source_input.Input) → StandsAmong inputs i → (c : Column)
+    → StandsAmong (tables (spelled_name i.table)) c → IsKnownOrNew known (new_columns tables known inputs) c.name
 all_listed tables known [] i m c k = absurd m
 all_listed tables known (j ∷ inputs) i m c k =
     let own = new_columns_of known j.table.place (tables (spelled_name j.table)) in
     let rest = new_columns tables (names_alone own ++ known) inputs in
     either_listed known own rest c.name (elim m [
       | inl e ↦ or_further (is_listed known c.name) (is_listed (names_alone own) c.name) (is_listed (names_alone rest) c.name)
-          (column_listed known j.table.place (tables (spelled_name j.table)) c (subst (λ (x : source_input.Input). IsAmong (tables (spelled_name x.table)) c) e k))
+          (column_listed known j.table.place (tables (spelled_name j.table)) c (subst (λ (x : source_input.Input). StandsAmong (tables (spelled_name x.table)) c) e k))
       | inr n ↦ turned_or (is_listed (names_alone own) c.name) (is_listed known c.name) (is_listed (names_alone rest) c.name)
           (sym (ap (λ b. b || is_listed (names_alone rest) c.name) (listed_or (names_alone own) known c.name))
           ∙ all_listed tables (names_alone own ++ known) inputs i n c k)
@@ -178,7 +178,7 @@ own_type_if : (b : Bool) (own ty : Ty) (rest : Option Ty) → b ≡ false → re
 own_type_if true own ty rest e h = cc
 own_type_if false own ty rest e h = h
 
-unlisted_column : (own : List ℕ) (columns : Columns) (c : Column) → has_column own columns ≡ false → IsAmong columns c → bytes_eq own c.name ≡ false
+unlisted_column : (own : List ℕ) (columns : Columns) (c : Column) → has_column own columns ≡ false → StandsAmong columns c → bytes_eq own c.name ≡ false
 unlisted_column own [] c h m = absurd m
 unlisted_column own (d ∷ columns) c h m =
     let p = or_parts (bytes_eq d.name own) (has_column own columns) h in elim m [
@@ -190,7 +190,7 @@ from_not : (b : Bool) → not b ≡ true → b ≡ false
 from_not true h = cc
 from_not false h = refl
 
-own_type : (columns : Columns) → distinct_names columns ≡ true → (c : Column) → IsAmong columns c → type_of_column c.name columns ≡ Some c.ty
+own_type : (columns : Columns) → distinct_names columns ≡ true → (c : Column) → StandsAmong columns c → type_of_column c.name columns ≡ Some c.ty
 own_type [] f c m = absurd m
 own_type (d ∷ columns) f c m =
     let p = and_parts (not (has_column d.name columns)) (distinct_names columns) f in elim m [
@@ -274,7 +274,7 @@ module _ (join : JoinTakesBoth) (itself : TakesItself) (onward : TakesOnward) (t
   abbrev IsTaken : List ℕ → Ty → Type 0
   IsTaken name own = (ty : Ty) × (type_in (vector_variables tables u) name ≡ Some ty) × (takes ty own ≡ true)
 
-  taken_declared : (name : List ℕ) (d own : Ty) (i : source_input.Input) → IsAmong inputs_here i → type_of_column name (tables (spelled_name i.table)) ≡ Some own
+  taken_declared : (name : List ℕ) (d own : Ty) (i : source_input.Input) → StandsAmong inputs_here i → type_of_column name (tables (spelled_name i.table)) ≡ Some own
       → type_in (program_variables u) name ≡ Some d → IsTaken name own
   taken_declared name d own i m t e =
       let rule = subst (λ o. clashing_table tables o name Absent inputs_here ≡ []) e (declared_rule clash_of (program_variables u) name d rules_hold.0 e) in
@@ -283,7 +283,7 @@ module _ (join : JoinTakesBoth) (itself : TakesItself) (onward : TakesOnward) (t
       let own_taken = of_among (λ (x : source_input.Input). (ty : Ty) → type_of_column name (tables (spelled_name x.table)) ≡ Some ty → TakesType final ty) inputs_here i fits.2 m own t in
       (d, type_in_first (program_variables u) (column_variables tables u) name d e, declared_takes join itself onward d own final fits.1 own_taken)
 
-  taken_column : (name : List ℕ) (own : Ty) (i : source_input.Input) → IsAmong inputs_here i → type_of_column name (tables (spelled_name i.table)) ≡ Some own
+  taken_column : (name : List ℕ) (own : Ty) (i : source_input.Input) → StandsAmong inputs_here i → type_of_column name (tables (spelled_name i.table)) ≡ Some own
       → type_in (program_variables u) name ≡ None → is_listed (names_alone columns_here) name ≡ true → IsTaken name own
   taken_column name own i m t e listed =
       let rule = subst (λ o. clashing_table tables o name Absent inputs_here ≡ []) e (column_rule clash_of columns_here name rules_hold.1 listed) in
@@ -296,7 +296,7 @@ module _ (join : JoinTakesBoth) (itself : TakesItself) (onward : TakesOnward) (t
         joined_takes own final own_taken,
       )
 
-  listed_column : (i : source_input.Input) → IsAmong inputs_here i → (c : Column) → IsAmong (tables (spelled_name i.table)) c → type_in (program_variables u) c.name ≡ None
+  listed_column : (i : source_input.Input) → StandsAmong inputs_here i → (c : Column) → StandsAmong (tables (spelled_name i.table)) c → type_in (program_variables u) c.name ≡ None
       → is_listed (names_alone columns_here) c.name ≡ true
   listed_column i m c k e =
       let declared = names_alone (declared_names (variable_declarations u.globals)) in
@@ -305,7 +305,7 @@ module _ (join : JoinTakesBoth) (itself : TakesItself) (onward : TakesOnward) (t
       let made = new_columns tables declared inputs_here in
       ap (λ ns. is_listed (names_alone ns) c.name) (columns_are tables [] u none) ∙ (sym (ap (λ b. b || is_listed (names_alone made) c.name) unlisted) ∙ new)
 
-  taken : (found : Option Ty) (i : source_input.Input) → IsAmong inputs_here i → (c : Column) → IsAmong (tables (spelled_name i.table)) c
+  taken : (found : Option Ty) (i : source_input.Input) → StandsAmong inputs_here i → (c : Column) → StandsAmong (tables (spelled_name i.table)) c
       → type_in (program_variables u) c.name ≡ found → IsTaken c.name c.ty
   taken (Some d) i m c k e =
       let columns = tables (spelled_name i.table) in

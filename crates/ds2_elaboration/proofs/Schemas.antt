@@ -1,5 +1,5 @@
 -- The columns of each output of a data program that breaks no rule are those of a schema.
-use Rattle.std.proofs.Common.{◌≡◌, ℕ, bytes_eq, codes, true, not, List, [], ◌∷◌, map, filter, ap, ◌∙◌, subst}
+use Rattle.std.proofs.Common.{◌≡◌, ℕ, bytes_eq, codes, true, not, List, [], ◌∷◌, map, ap, ◌∙◌, subst}
 use Rattle.std.specs.List.{AllByRecursion}
 use Rattle.std.proofs.lemmas.Bool.{and_from}
 use Rattle.ds2_tree.specs.Units.{DataProgram, output_spelling}

@@ -50,7 +50,7 @@ module _ (join : JoinTakesBoth) (itself : TakesItself) (onward : TakesOnward) wh
       → AreTyped programs
   program_first tables before u (Err refusal) others programs source schemas e f h = cc
   program_first tables before u (Ok p) others programs source schemas e f h =
-      let outcome = one_outcome.breaks_no_rule tables before u p e in
+      let outcome = one_outcome.breaks_no_rule tables before u p source.no_instances e in
       let made = output_schemas join tables before u source schemas outcome.0 in
       let typed = every_program_is_typed join itself onward tables before u source schemas outcome.0 in
       let own = subst (λ (q : UnitTree). AllByRecursion HasSchema q.outputs) (sym outcome.1) made in
@@ -67,8 +67,8 @@ module _ (join : JoinTakesBoth) (itself : TakesItself) (onward : TakesOnward) wh
       parts_typed tables (behind_part tables (Proc keyword ds2 end) before) parts programs schemas source.1 h
   parts_typed tables before (Run keyword end ∷ parts) programs schemas source h = parts_typed tables (behind_part tables (Run keyword end) before) parts programs schemas source.1 h
   parts_typed tables before (Quit keyword end ∷ parts) programs schemas source h = parts_typed tables (behind_part tables (Quit keyword end) before) parts programs schemas source.1 h
-  parts_typed tables before (APackage u ∷ parts) programs schemas source h = parts_typed tables (behind_part tables (APackage u) before) parts programs schemas source.1 h
-  parts_typed tables before (AThread u ∷ parts) programs schemas source h = parts_typed tables (behind_part tables (AThread u) before) parts programs schemas source.1 h
+  parts_typed tables before (APackage u ∷ parts) programs schemas source h = absurd source.0
+  parts_typed tables before (AThread u ∷ parts) programs schemas source h = absurd source.0
 
 pub every_source_is_typed : JoinTakesBoth → TakesItself → TakesOnward → EverySourceIsTyped
 every_source_is_typed join itself onward tables parts programs schemas source h = parts_typed join itself onward tables (before_all parts) parts programs schemas source h

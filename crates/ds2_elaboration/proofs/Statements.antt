@@ -13,25 +13,23 @@ use Rattle.ds2_tree.specs.declared.expressions.Callee.{Callee}
 use Rattle.ds2_tree.specs.declared.expressions.Callee.TheVariants as callee
 use Rattle.ds2_tree.specs.declared.statements.PutItem.{PutItem}
 use Rattle.ds2_tree.specs.declared.statements.PutItem.TheVariants as item
-use Rattle.ds2_value.specs.Types.{in_bounds}
 use Rattle.ds2_value.specs.declared.ty.Ty.{Ty}
 use Rattle.ds2_value.specs.declared.ty.Ty.TheVariants.{BigInt, Decimal as DecimalOf, Char, Varchar}
-use Rattle.ds2_meaning.specs.IsTyped.{NamesInScope, reference_type, IsTarget, TypeClass, Integers, Decimals, Texts, class_of, IsNumeric, expression_type, IsTypedExpression, IsTypedCondition, AreTypedConditions, AreTypedValues, IsTypedInteger, IsTypedStep, AreTypedItems, AreOutputs, IsTypedStatement, AreTypedStatements, AreTypedWhens, AreTypedValueWhens}
+use Rattle.ds2_meaning.specs.IsTyped.{NamesInScope, reference_type, IsTarget, TypeClass, Integers, Decimals, Texts, class_of, expression_type, IsTypedExpression, IsTypedCondition, AreTypedConditions, AreTypedValues, IsTypedInteger, IsTypedStep, AreTypedItems, AreOutputs, IsTypedStatement, AreTypedStatements, AreTypedWhens, AreTypedValueWhens}
 use Rattle.ds2_meaning.specs.ProgramTree.{is_listed}
 use Rattle.ds2_meaning.specs.TypedExpression.{TypedExpression, Widen}
 use Rattle.ds2_meaning.specs.TypedStatement as t
-use Rattle.ds2_names.specs.NameRules.{from_each, place_unless}
+use Rattle.ds2_names.specs.NameRules.{from_each}
 use Rattle.ds2_names.specs.SourceUnit.{spelled_name}
 use Rattle.ds2_names.specs.UnitRules.{misplaced_return, misplaced_in, misplaced_in_all, misplaced_in_whens, misplaced_in_otherwise}
 use Rattle.ds2_names.specs.Uses.{callee_place, first_place, method_named}
-use Rattle.ds2_elaboration.specs.ExpressionTypes.{TypeScope, KnownVariable, variable_typing, known_variable, elaborated_variable, elaborated_flag, number_of_method, is_settable_reference, arguments_for, elaborated_call, elaborated, elaborated_arguments}
+use Rattle.ds2_elaboration.specs.ExpressionTypes.{TypeScope, KnownVariable, known_variable, elaborated_variable, elaborated_flag, number_of_method, is_settable_reference, elaborated_call, elaborated, elaborated_arguments}
 use Rattle.ds2_elaboration.specs.FunctionTypes.{ElaboratedArgument, nodes_in_order}
 use Rattle.ds2_elaboration.specs.OperatorTypes.{is_known_decimal}
-use Rattle.ds2_elaboration.specs.SourceTypes.{elaborated_parameters}
-use Rattle.ds2_elaboration.specs.StatementTypes.{argument_nodes, bound_refusals, condition_test_refusals, value_test_refusals, output_numbers, settable_variable, target_refusals, target_of, assignment_refusals, assignment_node, named_call_refusals, call_refusals, named_call_node, call_node, return_refusals, return_node, item_refusals, item_node, written_refusals, selector_refusals, test_refusals, has_decimal_test, selects_decimals, selected_node, select_node, step_refusals, step_node, counted_refusals, counted_reference, control_refusals, do_node, statement_refusals, statements_refusals, when_refusals, otherwise_refusals, statement_node, statements_node, whens_node, otherwise_node}
+use Rattle.ds2_elaboration.specs.StatementTypes.{argument_nodes, bound_refusals, condition_test_refusals, value_test_refusals, output_numbers, settable_variable, target_refusals, target_of, assignment_refusals, assignment_node, named_call_refusals, call_refusals, named_call_node, call_node, return_refusals, return_node, item_refusals, item_node, written_refusals, selector_refusals, test_refusals, has_decimal_test, selected_node, step_refusals, step_node, counted_refusals, counted_reference, statement_refusals, statements_refusals, when_refusals, otherwise_refusals, statement_node, statements_node, whens_node, otherwise_node}
 use Rattle.ds2_elaboration.specs.TypedForms.{IsOfTyping, IsSoundlyElaborated, IsSoundArgument}
 use Rattle.ds2_elaboration.specs.TypedScopes.{IsBoundedIfAny, ScopeStands, StatementsAreTyped}
-use Rattle.ds2_elaboration.specs.Typings.{TypeRefusals, clash_unless, Typing, Known, NullAt, Unknown, ElaboratedExpression, typing_behind, is_numeric_type, is_integer_type, are_comparable, where_known, where_both_known, null_clash, operand_clash, truth_refusals, assigned_refusals, assigned_node}
+use Rattle.ds2_elaboration.specs.Typings.{TypeRefusals, clash_unless, Typing, Known, NullAt, Unknown, ElaboratedExpression, typing_behind, is_numeric_type, is_integer_type, are_comparable, where_known, where_both_known, null_clash, truth_refusals, assigned_refusals}
 use Rattle.ds2_elaboration.proofs.Choices.{any_of_typing}
 use Rattle.ds2_elaboration.proofs.Expressions.{is_target, KnownStands, StandsIfKnown, known_stands, variable_typed, flag_typed, method_arguments, call_typed, expression_typed, arguments_typed}
 use Rattle.ds2_elaboration.proofs.Operands.{unclashed, numeric, integer, operand, truth_operand, wide, assigned_typed}

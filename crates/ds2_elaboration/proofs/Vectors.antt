@@ -1,11 +1,8 @@
 -- The types of the variables of a program are in bounds, and its flags are those of its reading statement.
-use Rattle.std.proofs.Common.{◌≡◌, ℕ, bytes_eq, codes, Bool, true, false, ◌&&◌, ◌||◌, List, [], ◌∷◌, ◌++◌, map, if◌then◌else◌, Option, Some, None, refl, sym, ap, ◌∙◌, subst, option_map}
-use Rattle.std.specs.List.{list_all}
+use Rattle.std.proofs.Common.{◌≡◌, ℕ, bytes_eq, codes, Bool, true, false, ◌||◌, List, [], ◌∷◌, map, if◌then◌else◌, Option, Some, None, refl, subst}
 use Rattle.std.proofs.lemmas.Bool.{and_parts}
-use Rattle.ds2_base.specs.declared.place.Place.{Place}
 use Rattle.ds2_token.specs.declared.token.Token.{Token}
 use Rattle.ds2_tree.specs.Globals.{Method}
-use Rattle.ds2_tree.specs.Units.{DataProgram}
 use Rattle.ds2_tree.specs.declared.readings.ByVariable as source_by
 use Rattle.ds2_tree.specs.declared.readings.Input as source_input
 use Rattle.ds2_tree.specs.declared.readings.InputFlag.{InputFlag}
@@ -15,9 +12,8 @@ use Rattle.ds2_value.specs.Row.{Columns}
 use Rattle.ds2_value.specs.Schema.{types_in_bounds, distinct_names, is_schema}
 use Rattle.ds2_value.specs.Types.{in_bounds, join_of, JoinTakesBoth}
 use Rattle.ds2_value.specs.declared.ty.Ty.{Ty}
-use Rattle.ds2_meaning.specs.declared.globals.Variable as typed
 use Rattle.ds2_meaning.specs.declared.readings.MentionedTable.{MentionedTable}
-use Rattle.ds2_meaning.specs.IsTyped.{AreInBounds, is_by, is_flag_of, is_present}
+use Rattle.ds2_meaning.specs.IsTyped.{AreInBounds, is_by, is_present}
 use Rattle.ds2_meaning.specs.ProgramTree.{is_listed}
 use Rattle.ds2_meaning.specs.Reading.{inputs_of, bys_of}
 use Rattle.ds2_names.specs.SourceUnit.{TableColumns, spelled_name, PlacedName, placed_name, names_alone, reading_of_run, tables_of_reading, bys_of_reading, flag_names}

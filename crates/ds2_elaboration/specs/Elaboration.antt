@@ -1,10 +1,10 @@
 -- What becomes of the data programs of a source: typed programs in order, or the first refusal. A program's names come before its
--- types, and an earlier program before a later one. The domain is sources of data programs that declare variables and methods
--- alone and read tables alone: sources with packages, with thread programs, or with instances of them, hash objects or iterators
--- are not in it, and of those nothing is said.
-use Rattle.std.specs.Prelude.{ℕ, bytes_eq, if◌then◌else◌, List, [], ◌∷◌, Option, Some, None, Result, Ok, Err}
+-- types, and an earlier program before a later one. The domain is sources of data programs without instances (`IsDataSource`): of
+-- packages, thread programs and programs with instances nothing is said.
+use Rattle.std.specs.Prelude.{◌≡◌, ℕ, bytes_eq, if◌then◌else◌, List, [], ◌∷◌, Option, Some, None, Result, Ok, Err}
+use Rattle.std.specs.List.{AllByRecursion}
 use Rattle.ds2_base.specs.declared.place.Refusal.{Refusal}
-use Rattle.ds2_tree.specs.Units.{DataProgram, SourcePart, AData}
+use Rattle.ds2_tree.specs.Units.{DataProgram, SourcePart, Proc, Run, Quit, APackage, AThread, AData}
 use Rattle.ds2_value.specs.Row.{Columns}
 use Rattle.ds2_meaning.specs.declared.globals.OutputTable as typed_output
 use Rattle.ds2_meaning.specs.declared.refusals.ScopeKind.{ScopeKind}
@@ -12,8 +12,27 @@ use Rattle.ds2_meaning.specs.declared.refusals.TypeKind.{TypeKind}
 use Rattle.ds2_meaning.specs.ProgramMeaning.{output_columns}
 use Rattle.ds2_meaning.specs.ProgramTree.{UnitTree}
 use Rattle.ds2_names.specs.SourceLimits.{BeforeUnit, before_all, behind_part, scope_refusal}
-use Rattle.ds2_names.specs.SourceUnit.{TableColumns, unit_of_data}
+use Rattle.ds2_names.specs.SourceUnit.{TableColumns, unit_of_data, source_instances}
 use Rattle.ds2_elaboration.specs.ProgramTypes.{type_refusal, typed_program}
+
+-- ---- the domain
+
+-- a data program declares no instance of a package or of a thread program, no hash object and no iterator
+abbrev pub DeclaresNoInstance : DataProgram → Type 0
+DeclaresNoInstance u = source_instances u.globals ≡ []
+
+-- a part of a source is a data program without instances, or stands for nothing
+abbrev pub IsDataPart : SourcePart → Type 0
+IsDataPart (Proc keyword ds2 end) = Unit {0}
+IsDataPart (Run keyword end) = Unit {0}
+IsDataPart (Quit keyword end) = Unit {0}
+IsDataPart (APackage u) = ⊥
+IsDataPart (AThread u) = ⊥
+IsDataPart (AData u) = DeclaresNoInstance u
+
+-- a source of data programs without instances
+abbrev pub IsDataSource : List SourcePart → Type 0
+IsDataSource parts = AllByRecursion IsDataPart parts
 
 -- ---- one program
 
@@ -55,7 +74,7 @@ and_then_others (Ok p) others = before_others p (others p)
 and_then_others (Err refusal) others = Err refusal
 
 -- what becomes of the data programs of these parts behind others, each over the tables of the store and those that earlier programs
--- make; packages and thread programs are not among them yet
+-- make; packages and thread programs, which no source of the domain has, are passed by
 abbrev pub elaborated_parts : TableColumns → BeforeUnit → List SourcePart → Result (List UnitTree) ProgramRefusal
 elaborated_parts tables before [] = Ok []
 elaborated_parts tables before (AData u ∷ parts) =

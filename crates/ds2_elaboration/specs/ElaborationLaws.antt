@@ -12,7 +12,7 @@ use Rattle.ds2_names.specs.SourceUnit.{TableColumns, unit_of_data, names_of_unit
 use Rattle.ds2_names.specs.UnitRules.{broken_name_rules}
 use Rattle.ds2_meaning.specs.declared.refusals.ScopeKind.{ScopeKind}
 use Rattle.ds2_meaning.specs.declared.refusals.TypeKind.{TypeKind}
-use Rattle.ds2_elaboration.specs.Elaboration.{OfNames, OfTypes, elaborated_program}
+use Rattle.ds2_elaboration.specs.Elaboration.{DeclaresNoInstance, OfNames, OfTypes, elaborated_program}
 use Rattle.ds2_elaboration.specs.ExpressionTypes.{TypeScope}
 use Rattle.ds2_elaboration.specs.ProgramTypes.{broken_type_rules, type_refusal, typed_program}
 use Rattle.ds2_elaboration.specs.StatementTypes.{list_surely_returns, statements_node}
@@ -20,14 +20,14 @@ use Rattle.ds2_elaboration.specs.StatementTypes.{list_surely_returns, statements
 -- ---- the first refusal
 
 -- x stands in a list
-abbrev pub IsAmong : {A : Type 0} → List A → A → Type 0
-IsAmong [] x = ⊥
-IsAmong (y ∷ ys) x = (x ≡ y) ⊎ IsAmong ys x
+abbrev pub StandsAmong : {A : Type 0} → List A → A → Type 0
+StandsAmong [] x = ⊥
+StandsAmong (y ∷ ys) x = (x ≡ y) ⊎ StandsAmong ys x
 
 -- of broken rules the one that is given is one of them, and it comes before each of them
 abbrev pub FirstIsGiven : {K : Type 0} → (K → ℕ) → Type 0
 FirstIsGiven {K} rank = (refusals : List (Refusal K)) (given : Refusal K) → least_refusal rank refusals ≡ Some given
-    → IsAmong refusals given × AllByRecursion (λ due. comes_before rank given due ≡ true) refusals
+    → StandsAmong refusals given × AllByRecursion (λ due. comes_before rank given due ≡ true) refusals
 
 -- the first refusal is given, of names and of types
 pub record FirstRefusals : Type 0 where
@@ -42,16 +42,17 @@ pub record BreaksNoRule (tables : TableColumns) (before : BeforeUnit) (u : DataP
   pub limits : beyond_source_limits before (unit_of_data u) ≡ []
   pub types : broken_type_rules tables u ≡ []
 
--- a program has one outcome: it becomes its typed program exactly where it breaks no rule, it is refused for its names exactly
--- where one of their rules is broken, and for its types exactly where none of those is and one of types is
+-- a program has one outcome. One without instances becomes its typed program exactly where it breaks no rule, and is refused for its
+-- types exactly where its names are sound and one of their rules is broken; any program is refused for its names exactly where one of
+-- their rules is broken
 pub record OneOutcome : Type 0 where
-  pub becomes_typed : (tables : TableColumns) (before : BeforeUnit) (u : DataProgram) → BreaksNoRule tables before u
+  pub becomes_typed : (tables : TableColumns) (before : BeforeUnit) (u : DataProgram) → DeclaresNoInstance u → BreaksNoRule tables before u
       → elaborated_program tables before u ≡ Ok (typed_program tables before.made u)
-  pub breaks_no_rule : (tables : TableColumns) (before : BeforeUnit) (u : DataProgram) (p : UnitTree) → elaborated_program tables before u ≡ Ok p
+  pub breaks_no_rule : (tables : TableColumns) (before : BeforeUnit) (u : DataProgram) (p : UnitTree) → DeclaresNoInstance u → elaborated_program tables before u ≡ Ok p
       → BreaksNoRule tables before u × (p ≡ typed_program tables before.made u)
   pub refused_for_names : (tables : TableColumns) (before : BeforeUnit) (u : DataProgram) (r : Refusal ScopeKind)
       → elaborated_program tables before u ≡ Err (OfNames r) → scope_refusal tables before (unit_of_data u) ≡ Some r
-  pub refused_for_types : (tables : TableColumns) (before : BeforeUnit) (u : DataProgram) (r : Refusal TypeKind)
+  pub refused_for_types : (tables : TableColumns) (before : BeforeUnit) (u : DataProgram) (r : Refusal TypeKind) → DeclaresNoInstance u
       → elaborated_program tables before u ≡ Err (OfTypes r) → (scope_refusal tables before (unit_of_data u) ≡ None) × (type_refusal tables u ≡ Some r)
 
 -- ---- surely returning

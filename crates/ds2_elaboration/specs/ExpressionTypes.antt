@@ -18,7 +18,7 @@ use Rattle.ds2_value.specs.declared.ty.Ty.TheVariants.{BigInt, Decimal as Decima
 use Rattle.ds2_value.specs.declared.value.Value.TheVariants.{Null as NullValue, Int, Dec, Txt}
 use Rattle.ds2_meaning.specs.declared.globals.Variable as typed
 use Rattle.ds2_meaning.specs.declared.location.Global.{Global}
-use Rattle.ds2_meaning.specs.declared.location.Global.TheVariants.{Named, First, Last, Present}
+use Rattle.ds2_meaning.specs.declared.location.Global.TheVariants.{Named, First, Last, Present, Parameter as ThreadParameter}
 use Rattle.ds2_meaning.specs.declared.location.Reference.{Reference}
 use Rattle.ds2_meaning.specs.declared.location.Reference.TheVariants.{At, Local}
 use Rattle.ds2_meaning.specs.declared.methods.Parameter.{Parameter}
@@ -170,9 +170,10 @@ abbrev pub value_argument : Ty → ElaboratedArgument → ElaboratedArguments �
 value_argument ty x rest =
     record { refusals = assigned_refusals ty x.place x.value ++ rest.refusals; arguments = tree.ByValue (assigned_node ty x.value) rest.arguments }
 
--- a variable may be set: it is no flag
+-- a variable may be set: it is no flag; a parameter of a thread program may be set like others
 abbrev pub is_settable_reference : Reference → Bool
 is_settable_reference (At (Named name)) = true
+is_settable_reference (At (ThreadParameter name)) = true
 is_settable_reference (Local name) = true
 is_settable_reference _ = false
 

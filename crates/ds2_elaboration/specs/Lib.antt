@@ -6,13 +6,14 @@ pub mod ExpressionTypes
 pub mod StatementTypes
 pub mod ProgramTypes
 pub mod Elaboration
-pub mod Layout
 pub mod SourceWords
 pub mod OperatorExamples
 pub mod CallExamples
 pub mod SourceExamples
 pub mod VariableExamples
+pub mod ListingExamples
 pub mod ElaborationLaws
 pub mod TypedForms
 pub mod TypedScopes
 pub mod TypedPrograms
+pub mod TextPrograms

@@ -1,5 +1,6 @@
 -- Small statements with operators: what they become, or where they are refused.
 use Rattle.std.specs.Prelude.{◌≡◌, ℕ, codes, false, true, List, [], ◌∷◌, None, Result, Ok, Err}
+use Rattle.std.specs.Result.{result_map_both}
 use Rattle.ds2_tree.specs.Expressions.{Expression}
 use Rattle.ds2_tree.specs.Statements.{Statement}
 use Rattle.ds2_tree.specs.Units.{DataProgram}
@@ -40,8 +41,7 @@ program_around body = program_from (
 
 -- the statements of `run` of a program that is not refused
 abbrev pub statements_of_run : Result UnitTree ProgramRefusal → Result TypedStatements ProgramRefusal
-statements_of_run (Ok p) = Ok p.run.statements
-statements_of_run (Err refusal) = Err refusal
+statements_of_run = result_map_both (λ (p : UnitTree). p.run.statements) (λ refusal. refusal)
 
 -- what statements of `run` become in that program
 abbrev pub become : List Statement → Result TypedStatements ProgramRefusal

@@ -1,5 +1,6 @@
 -- Small programs and sources: what they become, or where they are refused, and their layouts.
 use Rattle.std.specs.Prelude.{◌≡◌, ℕ, codes, false, true, bytes_eq, if◌then◌else◌, List, [], ◌∷◌, map, Option, Some, None, Result, Ok, Err}
+use Rattle.std.specs.Result.{result_map_both}
 use Rattle.ds2_tree.specs.Globals.{GlobalItem, Listed}
 use Rattle.ds2_tree.specs.Expressions.{Expression}
 use Rattle.ds2_tree.specs.Statements.{Statement, If}
@@ -30,10 +31,10 @@ use Rattle.ds2_meaning.specs.Reading.{inputs_of}
 use Rattle.ds2_names.specs.SourceUnit.{TableColumns}
 use Rattle.ds2_meaning.specs.TypedExpression.{Constant, Variable as Reads, Widen, Convert}
 use Rattle.ds2_meaning.specs.TypedStatement.{TypedStatements, Finish, Next, ReturnValue}
-use Rattle.ds2_elaboration.specs.declared.layout.SlotRole.TheVariants.{Cleared, Kept, Column, Flag}
+use Rattle.ds2_layout.specs.declared.slot.SlotRole.TheVariants.{Cleared, Kept, Column, Flag}
 use Rattle.ds2_names.specs.SourceLimits.{before_all}
 use Rattle.ds2_elaboration.specs.Elaboration.{ProgramRefusal, OfNames, OfTypes, elaborated_program, elaborated_source}
-use Rattle.ds2_elaboration.specs.Layout.{slot_for, layout_of}
+use Rattle.ds2_layout.specs.Layout.{slot_for, layout_of}
 use Rattle.ds2_elaboration.specs.OperatorExamples.{no_columns_at_all, program_around, statements_of_run, refused_in}
 use Rattle.ds2_elaboration.specs.ProgramTypes.{typed_program}
 use Rattle.ds2_elaboration.specs.SourceWords.{name_at, integer_at, decimal_at, null_at, chained, sets, returns_at, bigint_word, decimal_words, text_words, parameter_at, declares, returning, method_at, program_from}
@@ -64,8 +65,7 @@ reading_program globals inputs = program_from (method_at 80 (codes "run") [] Non
 
 -- the columns of the reading statement of a program that is not refused
 abbrev pub columns_of : Result UnitTree ProgramRefusal → Result (List Variable) ProgramRefusal
-columns_of (Ok p) = Ok p.columns
-columns_of (Err refusal) = Err refusal
+columns_of = result_map_both (λ (p : UnitTree). p.columns) (λ refusal. refusal)
 
 -- what the columns of two tables become beside declared variables
 abbrev pub columns_over : List GlobalItem → List ℕ → List ℕ → Result (List Variable) ProgramRefusal
@@ -102,8 +102,7 @@ bodies_of p = map (λ (m : MethodTree). m.body) p.methods
 
 -- the statements of the methods of a program that is not refused
 abbrev pub bodies_unless_refused : Result UnitTree ProgramRefusal → Result (List TypedStatements) ProgramRefusal
-bodies_unless_refused (Ok p) = Ok (bodies_of p)
-bodies_unless_refused (Err refusal) = Err refusal
+bodies_unless_refused = result_map_both bodies_of (λ refusal. refusal)
 
 -- data out(rename=(k=z)) rest(drop=(k) overwrite=yes); with the declared variables i and k
 abbrev pub program_with_options : DataProgram
@@ -179,8 +178,7 @@ pub record ProgramTypeExamples : Type 0 where
 
 -- for each program of a source that is not refused its columns
 abbrev pub columns_of_each : Result (List UnitTree) ProgramRefusal → Result (List (List Variable)) ProgramRefusal
-columns_of_each (Ok programs) = Ok (map (λ (p : UnitTree). p.columns) programs)
-columns_of_each (Err refusal) = Err refusal
+columns_of_each = result_map_both (map (λ (p : UnitTree). p.columns)) (λ refusal. refusal)
 
 -- a source of two programs that are made of these globals
 abbrev pub two_programs : List GlobalItem → List GlobalItem → Result (List (List Variable)) ProgramRefusal
@@ -188,8 +186,7 @@ two_programs first second = columns_of_each (elaborated_source small_tables (ADa
 
 -- for each program of a source that is not refused the tables of its reading statement
 abbrev pub tables_of_each : Result (List UnitTree) ProgramRefusal → Result (List (List MentionedTable)) ProgramRefusal
-tables_of_each (Ok programs) = Ok (map (λ (p : UnitTree). map (λ (i : typed_input.Input). i.table) (inputs_of p.reading)) programs)
-tables_of_each (Err refusal) = Err refusal
+tables_of_each = result_map_both (map (λ (p : UnitTree). map (λ (i : typed_input.Input). i.table) (inputs_of p.reading))) (λ refusal. refusal)
 
 -- method run(); target = i; end; beside i
 abbrev pub setting_program : List ℕ → List GlobalItem

@@ -1,5 +1,6 @@
 -- The types of what the source of a data program names: declared variables, columns joined over the tables, parameters and locals.
 use Rattle.std.specs.Prelude.{ℕ, Bool, true, false, ◌&&◌, ◌==◌, bytes_eq, codes, if◌then◌else◌, List, [], ◌∷◌, ◌++◌, map, is_some, Option, Some, None}
+use Rattle.std.specs.Option.{option_map}
 use Rattle.ds2_base.specs.declared.place.Place.{Place}
 use Rattle.ds2_token.specs.Words.{is_word}
 use Rattle.ds2_token.specs.declared.token.Token.{Token}
@@ -55,8 +56,7 @@ variables_in_method m = with_parameters_of (elaborated_parameters m) (declared_v
 
 -- the type that a method returns, where it returns a value
 abbrev pub returned_type : Option Returns → Option Ty
-returned_type None = None
-returned_type (Some returns) = Some (spelled_type returns.ty)
+returned_type returns = option_map (λ (r : Returns). spelled_type r.ty) returns
 
 -- ---- columns
 

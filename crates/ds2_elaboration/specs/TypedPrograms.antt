@@ -2,13 +2,13 @@
 use Rattle.std.specs.Prelude.{◌≡◌, ℕ, true, List, [], ◌∷◌, Ok}
 use Rattle.std.specs.List.{AllByRecursion}
 use Rattle.ds2_token.specs.declared.token.Token.{Token}
-use Rattle.ds2_tree.specs.Units.{DataProgram, SourcePart, AData, data_spelling, IsData}
+use Rattle.ds2_tree.specs.Units.{DataProgram, SourcePart, Proc, Run, Quit, APackage, AThread, AData, data_spelling, IsData}
 use Rattle.ds2_value.specs.Schema.{is_schema}
 use Rattle.ds2_meaning.specs.IsTyped.{AreTypedMethods, IsTypedBody, IsTypedInit, IsTypedProgram, globals_of}
 use Rattle.ds2_meaning.specs.ProgramTree.{UnitTree, OverTables, methods_of}
 use Rattle.ds2_names.specs.SourceLimits.{BeforeUnit}
-use Rattle.ds2_names.specs.SourceUnit.{TableColumns, is_earlier, source_instances}
-use Rattle.ds2_elaboration.specs.Elaboration.{elaborated_source}
+use Rattle.ds2_names.specs.SourceUnit.{TableColumns, is_earlier}
+use Rattle.ds2_elaboration.specs.Elaboration.{DeclaresNoInstance, elaborated_source}
 use Rattle.ds2_elaboration.specs.ElaborationLaws.{BreaksNoRule}
 use Rattle.ds2_elaboration.specs.ProgramTypes.{typed_program}
 
@@ -21,7 +21,7 @@ StandInOrder (t ∷ tokens) = AllByRecursion (λ (later : Token). is_earlier t.p
 pub record StandsInSource (u : DataProgram) : Type 0 where
   pub grammar : IsData u
   pub order : StandInOrder (data_spelling u)
-  pub no_instances : source_instances u.globals ≡ []
+  pub no_instances : DeclaresNoInstance u
 
 -- the columns of each table have distinct names, and their types are in bounds
 abbrev pub HaveSchemas : TableColumns → Type 0
@@ -44,10 +44,14 @@ abbrev pub EveryProgramIsTyped : Type 0
 EveryProgramIsTyped = (tables : TableColumns) (before : BeforeUnit) (u : DataProgram) → StandsInSource u → HaveSchemas tables → BreaksNoRule tables before u
     → IsTypedProgram (OverTables (typed_program tables before.made u))
 
--- a data program among the parts of a source stands in it
+-- a data program among the parts of a source stands in it; there is no package and no thread program
 abbrev pub DataStands : SourcePart → Type 0
+DataStands (Proc keyword ds2 end) = Unit {0}
+DataStands (Run keyword end) = Unit {0}
+DataStands (Quit keyword end) = Unit {0}
+DataStands (APackage u) = ⊥
+DataStands (AThread u) = ⊥
 DataStands (AData u) = StandsInSource u
-DataStands _ = Unit {0}
 
 -- what a source of data programs becomes, where it is not refused, is typed programs
 abbrev pub EverySourceIsTyped : Type 0

@@ -1,11 +1,13 @@
 //! Laws of the elaboration, over the definitions alone.
 ghost use Rattle.ds2_elaboration.specs.ElaborationLaws.{FirstRefusals, OneOutcome, ReturningIsKept};
 ghost use Rattle.ds2_elaboration.specs.TypedForms.{EveryFormIsTyped};
+ghost use Rattle.ds2_elaboration.specs.TextPrograms.{EveryTextIsTyped, TokensStandInOrder};
 ghost use Rattle.ds2_elaboration.specs.TypedPrograms.{EveryMethodIsTyped, EveryProgramIsTyped, EverySourceIsTyped};
 ghost use Rattle.ds2_elaboration.specs.TypedScopes.{ExpressionsAreTyped, StatementsAreTyped};
 ghost use Rattle.ds2_elaboration.specs.OperatorExamples.{OperatorExamples, TruthTypeExamples, AssignmentExamples};
 ghost use Rattle.ds2_elaboration.specs.CallExamples.{FunctionExamples, MethodCallExamples, ChoiceTypeExamples};
 ghost use Rattle.ds2_elaboration.specs.SourceExamples.{ProgramTypeExamples, TwoProgramExamples, LayoutExamples};
+ghost use Rattle.ds2_elaboration.specs.ListingExamples.{AssignedSourceExamples, DomainExamples, ListedColumnExamples, ThreadLayoutExamples};
 ghost use Rattle.ds2_elaboration.specs.VariableExamples.{UnjoinedColumnExamples, VariableTypeExamples};
 
 /// Operators between operands, in small statements.
@@ -53,6 +55,26 @@ pub fn variable_type_examples()
     ensures { VariableTypeExamples }
 {}
 
+/// Columns that `keep` and `drop` leave, in a small program.
+pub fn listed_column_examples()
+    ensures { ListedColumnExamples }
+{}
+
+/// A small program that is taken, one that is refused for its names, and one for its types.
+pub fn assigned_source_examples()
+    ensures { AssignedSourceExamples }
+{}
+
+/// Sources inside and outside of the domain, and what may be set.
+pub fn domain_examples()
+    ensures { DomainExamples }
+{}
+
+/// Layouts of programs with parameters, instances and thread programs.
+pub fn thread_layout_examples()
+    ensures { ThreadLayoutExamples }
+{}
+
 /// Sources of several programs.
 pub fn two_program_examples()
     ensures { TwoProgramExamples }
@@ -94,9 +116,23 @@ pub fn every_program_is_typed()
     ds2_value::laws::takes_onward();
 }
 
-/// What a source of data programs becomes, where it is not refused, is typed programs.
+/// What a source of data programs without instances becomes, where it is not refused, is typed programs.
 pub fn every_source_is_typed()
     ensures { EverySourceIsTyped }
+{
+    ds2_value::laws::join_takes_both();
+    ds2_value::laws::takes_itself();
+    ds2_value::laws::takes_onward();
+}
+
+/// The tokens that stand for a text stand in order.
+pub fn tokens_stand_in_order()
+    ensures { TokensStandInOrder }
+{}
+
+/// What a text becomes whose tokens are a source of data programs without instances, where it is not refused, is typed programs.
+pub fn every_text_is_typed()
+    ensures { EveryTextIsTyped }
 {
     ds2_value::laws::join_takes_both();
     ds2_value::laws::takes_itself();
@@ -108,7 +144,8 @@ pub fn first_refusals()
     ensures { FirstRefusals }
 {}
 
-/// A program becomes its typed program, is refused for its names, or for its types, and each exactly where the rules say so.
+/// A program without instances becomes its typed program, is refused for its names, or for its types, and each exactly where the
+/// rules say so.
 pub fn one_outcome()
     ensures { OneOutcome }
 {}

@@ -13,8 +13,9 @@ use Rattle.ds2_code.specs.CodeBound.{falls_through}
 use Rattle.ds2_code.specs.InstructionTable.{kind_of}
 use Rattle.ds2_code.specs.OperandTypes.{OperandTypes, CodeRole, OfUnit, when_in_bounds, types_behind}
 use Rattle.ds2_code.specs.ValidCode.{CodePoint, point, behind_instruction, AlongList, IsValidChain, IsValidProgram, stage_parameters, lists_short, own_lists_short, is_short}
-use Rattle.ds2_machine.specs.AtRest.{IsRunnable}
-use Rattle.ds2_machine.specs.Shapes.{is_executed, has_type_in_bounds, IsExecutable}
+use Rattle.ds2_machine.specs.AtRest.{IsProgramOfValid}
+use Rattle.ds2_operations.specs.OperationKinds.{has_type_in_bounds}
+use Rattle.ds2_machine.specs.Shapes.{is_executed, IsExecutable}
 
 -- each program of a chain is valid beside some thread program or none
 valid_in_chain : (code : ProgramParts) (stages : List ProgramParts) → IsValidChain code stages → (k : ℕ) (c : ProgramParts) → slice_get (code ∷ stages) k ≡ Some c → (s : Option ProgramParts) × IsValidProgram c s
@@ -102,11 +103,11 @@ module _ (code : ProgramParts) (parameters : List (Option Ty)) where
   bounds_along at came before (x ∷ is) (p ∷ ps) h (suc k) i g =
       bounds_along (at + 1) (falls_through (kind_of x)) (behind_instruction (falls_through (kind_of x)) p.role h.1) is ps h.3 k i g
 
-and_first : (a b : Bool) → IsTrue (a && b) → IsTrue a
+pub and_first : (a b : Bool) → IsTrue (a && b) → IsTrue a
 and_first true b h = refl
 and_first false b h = absurd cc
 
-and_second : (a b : Bool) → IsTrue (a && b) → IsTrue b
+pub and_second : (a b : Bool) → IsTrue (a && b) → IsTrue b
 and_second true b h = h
 and_second false b h = absurd cc
 
@@ -127,12 +128,12 @@ all_at (x ∷ is) h zero i g =
     subst P same (and_first (is_executed x) (list_all is_executed is) h)
 all_at (x ∷ is) h (suc k) i g = all_at is (and_second (is_executed x) (list_all is_executed is) h) k i g
 
-pub executable : (code : ProgramParts) → IsRunnable code → IsExecutable code
-executable code runnable =
-    let v = valid_in_chain runnable.valid.parts.program runnable.valid.parts.stages runnable.valid.valid.chain runnable.valid.number code runnable.valid.here in
+pub executable : (code : ProgramParts) → IsProgramOfValid code → IsTrue (list_all is_executed code.instrs) → IsExecutable code
+executable code valid executed =
+    let v = valid_in_chain valid.parts.program valid.parts.stages valid.valid.chain valid.number code valid.here in
     record {
       steps = v.1.steps;
       short = short_instrs code v.1.lists;
-      executed = all_at code.instrs runnable.executed;
+      executed = all_at code.instrs executed;
       bounds = bounds_along code (stage_parameters v.0) 0 false (point OfUnit []) code.instrs v.1.types.0 v.1.types.1.along;
     }

@@ -1,6 +1,7 @@
 pub mod CallLemmas
 pub mod Executable
 pub mod PileLemmas
+pub mod ProgramLemmas
 pub mod Runs
 pub mod SlotLemmas
 pub mod UnitEnds

@@ -58,17 +58,14 @@ kept_by own n (inr h) =
 pub kept_stack : (own : List Value) (n : ℕ) → drop n (reverse own) ≡ reverse (take (length own - n) own)
 kept_stack own n = kept_by own n (two_ways n (length own))
 
-pub replaced_stack : (items : List Value) (base n : ℕ) (v : Value) → base ≤ length items → reverse (drop base (take (base + (length items - base - n)) items ++ v ∷ [])) ≡ v ∷ drop n (reverse (drop base items))
-replaced_stack items base n v h =
-    let k = length items - base - n in
+pub shortened_stack : (items : List Value) (base n : ℕ) → reverse (drop base (take (base + (length items - base - n)) items)) ≡ drop n (reverse (drop base items))
+shortened_stack items base n =
     let own = drop base items in
     let number : length own ≡ length items - base = length-drop base items in
-    let long : base ≤ length (take (base + k) items) = omega (arith, length-take (base + k) items) in
-    ap reverse (drop-append-le base (take (base + k) items) (v ∷ []) long ∙ ap (λ z. z ++ v ∷ []) (drop-take base k items))
-    ∙ reverse-append (take k own) (v ∷ [])
-    ∙ ap (λ z. v ∷ z) (ap (λ m. reverse (take (m - n) own)) (sym number) ∙ sym (kept_stack own n))
+    ap reverse (drop-take base (length items - base - n) items)
+    ∙ ap (λ m. reverse (take (m - n) own)) (sym number) ∙ sym (kept_stack own n)
 
-pub ruleset replaced = (replaced_stack)
+pub ruleset shortened = (shortened_stack)
 
 pub dropped_set : (items : List Value) (base n : ℕ) (v : Value) → drop base (slice_set items (base + n) v) ≡ slice_set (drop base items) n v
 dropped_set items zero n v = ap (λ k. slice_set items k v) (omega arith)

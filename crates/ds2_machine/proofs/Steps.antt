@@ -1,14 +1,15 @@
 -- What one instruction leads to, by its kind.
 use Rattle.std.proofs.Common.{◌≡◌, ℕ, ◌+◌, List, [], ◌∷◌, ◌++◌, Option, Some, None, drop, refl, sym, ap, ◌∙◌, subst, Result, Ok, Err, IfOk}
-use Rattle.std.specs.Prelude.{slice_get}
+use Rattle.std.specs.Prelude.{slice_get, map}
+use Rattle.std.specs.List.{join_with_byte}
 use Rattle.std.proofs.lemmas.List.{append-nil}
 use Rattle.ds2_value.specs.Row.{Row}
 use Rattle.ds2_value.specs.Run.{Event, Did, Failed, Written}
-use Rattle.ds2_value.specs.Progress.{Progress}
+use Rattle.ds2_value.specs.Progress.{Progress, with_line}
 use Rattle.ds2_value.specs.declared.fault.Fault.{Fault}
 use Rattle.ds2_value.specs.declared.value.Value.{Value}
 use Rattle.ds2_code.specs.declared.parts.ProgramParts.{ProgramParts}
-use Rattle.ds2_code.specs.CodeRun.{MachineState, CodeEnd, Stuck, NextState, GoesOn, Stops, perform, on_desk, on_result, on_output, column_slots}
+use Rattle.ds2_code.specs.CodeRun.{MachineState, CodeEnd, Stuck, NextState, GoesOn, Stops, perform, goes_to, on_desk, on_result, on_output, on_texts, operand_text, column_slots}
 use Rattle.ds2_code.specs.Desk.{Taken, take_off, values_of_slots, with_stack, with_value_for, with_result_for, result_above}
 use Rattle.ds2_code.specs.InstructionTable.{Kind, Pure, Partial, Loads, Stores, Drops, CallsHash, CallsIterator, Writes, Puts, Ticks, Jumps, Tests, Enters, GoesBack, Raises, Finishes}
 use Rattle.ds2_machine.specs.MachineView.{UnitTold, desk_of_state, machine_of_state, progress_of_state, end_of_state, next_of_state, way_of_next, waiting_frames, IsQuietStep, IsSunkStep}
@@ -16,7 +17,8 @@ use Rattle.ds2_code.specs.declared.parts.OutputPart.{OutputPart}
 use Rattle.ds2_machine.specs.Sink.{SinkTakes}
 use Rattle.ds2_machine.proofs.Runs.{nothing_taken}
 use Rattle.ds2_machine.specs.PileView.{PileView}
-use Rattle.ds2_machine.specs.Shapes.{HasQuietShape, operation_operands, operation_result}
+use Rattle.ds2_operations.specs.OperationKinds.{operation_operands, operation_result}
+use Rattle.ds2_machine.specs.Shapes.{HasQuietShape}
 use Rattle.ds2_machine.specs.declared.shape.Quiet.{Quiet}
 use Rattle.ds2_machine.specs.declared.state.Halt.{Halt}
 use Rattle.ds2_machine.specs.declared.state.Halt.TheVariants as halt
@@ -161,3 +163,35 @@ module _ {S : Type 0} (has_taken : S → S → List Written → List (List ℕ) 
         e ∙ ap (λ w. GoesOn (machine_of_state (record old { at = old.at + 1 }) (record { way = w; rows = told.rows ++ row_of_output output ∷ []; lines = told.lines }))) (sym (ap way_of_next e))
         ∙ ap (λ l. GoesOn (machine_of_state (record old { at = old.at + 1 }) (record { way = way_of_next (perform code (Writes number) (machine_of_state old told)); rows = told.rows ++ row_of_output output ∷ []; lines = l }))) (sym (append-nil told.lines));
   }
+
+-- ---- lines
+
+module _ {S : Type 0} (has_taken : S → S → List Written → List (List ℕ) → Type 0) (n : ℕ) (old : State) where
+  -- there are fewer operands
+  pub not_put : (sink : S) → take_off n [] old.operands.stack ≡ None → IsSunkStep has_taken sink sink (λ told. on_texts (take_off n [] old.operands.stack) (machine_of_state old told)) old (Some halt.Stuck)
+  not_put sink none = record {
+    rows = [];
+    lines = [];
+    taken = nothing_taken has_taken sink;
+    next = λ told. ap (λ o. on_texts o (machine_of_state old told)) none;
+  }
+
+  module _ (values : Row) (line : List ℕ) (operands : PileView) (taken : take_off n [] old.operands.stack ≡ Some (record { values = values; below = drop n old.operands.stack })) (is : line ≡ join_with_byte 32 (map operand_text values)) (stack : operands.stack ≡ drop n old.operands.stack) (below : operands.below ≡ old.operands.below) where
+    put_next : (told : UnitTold) → on_texts (take_off n [] old.operands.stack) (machine_of_state old told) ≡ GoesOn (machine_of_state (record old { at = old.at + 1; operands = operands }) (record { way = told.way; rows = told.rows; lines = told.lines ++ line ∷ [] }))
+    put_next told =
+        ap (λ o. on_texts o (machine_of_state old told)) taken
+        ∙ ap (λ (l : List ℕ). goes_to (old.at + 1) (with_stack (drop n old.operands.stack) (desk_of_state old)) (with_line l (progress_of_state old told)) (machine_of_state old told)) (sym is)
+        ∙ moved old operands (drop n old.operands.stack) (with_line line (progress_of_state old told)) stack below
+
+    pub put_line : (before after : S) (new : State) → ((told : UnitTold) → machine_of_state (record old { at = old.at + 1; operands = operands }) told ≡ machine_of_state new told) → SinkTakes has_taken before after [] (line ∷ [])
+        → IsSunkStep has_taken before after (λ told. on_texts (take_off n [] old.operands.stack) (machine_of_state old told)) new None
+    put_line before after new same took = record {
+      rows = [];
+      lines = line ∷ [];
+      taken = took;
+      next = λ told.
+          let e = put_next told in
+          e ∙ ap (λ w. GoesOn (machine_of_state (record old { at = old.at + 1; operands = operands }) (record { way = w; rows = told.rows; lines = told.lines ++ line ∷ [] }))) (sym (ap way_of_next e))
+          ∙ ap (λ r. GoesOn (machine_of_state (record old { at = old.at + 1; operands = operands }) (record { way = way_of_next (on_texts (take_off n [] old.operands.stack) (machine_of_state old told)); rows = r; lines = told.lines ++ line ∷ [] }))) (sym (append-nil told.rows))
+          ∙ ap GoesOn (same (record { way = way_of_next (on_texts (take_off n [] old.operands.stack) (machine_of_state old told)); rows = told.rows ++ []; lines = told.lines ++ line ∷ [] }));
+    }

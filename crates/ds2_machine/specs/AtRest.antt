@@ -1,6 +1,5 @@
 -- A machine between two units, and what it tells of one.
-use Rattle.std.specs.Prelude.{◌≡◌, IsTrue, ℕ, Bool, true, false, List, [], ◌∷◌, Some, slice_get, Result, Ok, Err}
-use Rattle.std.specs.List.{list_all}
+use Rattle.std.specs.Prelude.{◌≡◌, zero, suc, ℕ, ◌==◌, ◌&&◌, length, unwrap_or, Bool, true, false, List, [], ◌∷◌, Some, slice_get, Result, Ok, Err}
 use Rattle.ds2_base.specs.declared.place.Place.{Place}
 use Rattle.ds2_base.specs.declared.stop.OutOfMemory.{OutOfMemory}
 use Rattle.ds2_value.specs.Progress.{UnitOutcome, Completed, Interrupted, Strayed}
@@ -11,7 +10,6 @@ use Rattle.ds2_code.specs.declared.parts.ProgramParts.{ProgramParts}
 use Rattle.ds2_code.specs.declared.parts.StagedParts.{StagedParts}
 use Rattle.ds2_code.specs.Desk.{ProgramData}
 use Rattle.ds2_code.specs.ValidCode.{IsValidStaged}
-use Rattle.ds2_machine.specs.Shapes.{is_executed}
 use Rattle.ds2_machine.specs.Sink.{SinkTakes}
 use Rattle.ds2_machine.specs.declared.state.Halt.{Halt}
 use Rattle.ds2_machine.specs.declared.state.Halt.TheVariants as halt
@@ -21,6 +19,8 @@ use Rattle.ds2_machine.specs.declared.unit_end.UnitEnd.{UnitEnd}
 pub record MachineAtRest : Type 0 where
   pub state : ProgramData
   pub spent : Bool
+  -- the number of the program: 0 for the data program, k for the k-th thread program below it
+  pub program : ℕ
 
 -- the code of a program, or of a thread program, in valid code
 pub record IsProgramOfValid (code : ProgramParts) : Type 0 where
@@ -29,15 +29,19 @@ pub record IsProgramOfValid (code : ProgramParts) : Type 0 where
   pub number : ℕ
   pub here : slice_get (parts.program ∷ parts.stages) number ≡ Some code
 
+-- the program of a number: the data program, or the k-th thread program below it; the data program where there is none
+abbrev pub staged_program : StagedParts → ℕ → ProgramParts
+staged_program parts zero = parts.program
+staged_program parts (suc k) = unwrap_or (slice_get parts.stages k) parts.program
+
+-- a program has neither hash objects nor iterators
+abbrev pub has_no_hashes : ProgramParts → Bool
+has_no_hashes code = (length code.hashes == 0) && (length code.iterators == 0)
+
 -- a program without hash objects and iterators
 pub record HasNoHashes (code : ProgramParts) : Type 0 where
   pub hashes : code.hashes ≡ []
   pub iterators : code.iterators ≡ []
-
--- what a machine runs: valid code, each of whose instructions it executes
-pub record IsRunnable (code : ProgramParts) : Type 0 where
-  pub valid : IsProgramOfValid code
-  pub executed : IsTrue (list_all is_executed code.instrs)
 
 -- the ending of a unit that has halted so, in the step at a place
 abbrev pub IsEndingAt : Halt → Place → Ending → Type 0

@@ -1,27 +1,36 @@
 //! The machine between two units.
-ghost use Rattle.std.specs.Prelude.{◌≡◌, ◌+◌, ◌*◌, ◌≤◌, false, [], length, IfOk};
+ghost use Rattle.std.specs.Prelude.{◌≡◌, ◌+◌, ◌*◌, ◌≤◌, IsTrue, false, [], length, IfOk};
+ghost use Rattle.std.specs.List.{list_all};
 ghost use Rattle.ds2_code.specs.CodeUnit.{code_unit, code_init, code_run, code_term, opening_data};
 ghost use Rattle.ds2_code.specs.ValidCode.{EndsInTime};
-ghost use Rattle.ds2_machine.specs.AtRest.{IsRunnable, HasNoHashes, IsEndingAt, IsUnitEnd, leaves_spent};
-ghost use Rattle.ds2_machine.specs.Shapes.{IsExecutable};
+ghost use Rattle.ds2_machine.specs.AtRest.{staged_program, has_no_hashes, HasNoHashes, IsEndingAt, IsUnitEnd, leaves_spent};
+ghost use Rattle.ds2_machine.specs.Shapes.{IsExecutable, is_executed};
+ghost use Rattle.ds2_machine.specs.declared.machine.TheConstants.{MOST_BUDGET};
 
+use crate::program::program_of;
 use crate::slots::{clear, copy_all, nulls, set_values};
 use crate::state::{Halt, State};
 use crate::{UnitEnd, UnitLoad, UnitSink};
 use ds2_base::{OutOfMemory, Place};
 use ds2_code::ProgramParts;
 use ds2_code::laws::{run_has_one_end, units_begin_with_little, valid_code_ends};
+use ds2_valid_code::ProgramCode;
 use ds2_value::{Ending, Value};
 use std::alloc::Global;
 use std::marker::Model;
 
-/// A machine for the code of one program. It holds the program's data from unit to unit.
+/// The most steps and calls of a unit.
+pub const MOST_BUDGET: u64 = 1_000_000_000;
+
+/// A machine for one program of valid code. It holds the program's data from unit to unit.
 ///
 /// A machine whose unit ended by a fault, or for want of memory, is spent: it runs no other unit.
 #[derive(Drop)]
 pub struct Machine {
     state: State,
     spent: bool,
+    // The number of its program: 0 for the data program, k for the k-th thread program below it.
+    program: usize,
 }
 
 impl Model for Machine {
@@ -30,28 +39,25 @@ impl Model for Machine {
 
     ghost Value = { MachineAtRest };
 
-    ghost view = { λ m. record { state = data_of_state m.state; spent = m.spent } };
+    ghost view = { λ m. record { state = data_of_state m.state; spent = m.spent; program = m.program } };
 }
 
 impl Machine {
-    /// A machine for this code before its first unit: all slots are null but for the program's own parameters, which have the given
-    /// values, and so many parameters of the thread program that it reads from are null.
+    /// A machine for a program of this code before its first unit: all slots are null but for the program's own parameters, which have
+    /// the given values, and so many parameters of the thread program that it reads from are null. Program 0 is the data program, and
+    /// k the k-th thread program below it.
     pub fn open(
         alloc: Global,
-        code: &ProgramParts,
+        code: &ProgramCode,
+        program: usize,
         given: &[Value],
         parameters: usize,
     ) -> Result<Machine, OutOfMemory>
-        requires { HasNoHashes code.now }
-        ensures { IfOk result (λ machine. machine ≡ record { state = opening_data code.now given.now [] parameters; spent = false }) }
+        requires program { program ≤ length code.now.stages }
+        requires hashes { IsTrue (has_no_hashes (staged_program code.now program)) }
+        ensures { IfOk result (λ machine. machine ≡ record { state = opening_data (staged_program code.now program) given.now [] parameters; spent = false; program = program }) }
     {
-        let mut slots = nulls(alloc, code.slots.len())?;
-        set_values(alloc, &mut slots, code.parameters.as_slice(), given)?;
-        let stage = nulls(alloc, parameters)?;
-        Ok(Machine {
-            state: State::new(alloc, slots, stage),
-            spent: false,
-        })
+        opened(alloc, program_of(code, program), program, given, parameters)
     }
 
     /// Whether the last unit came to no normal end, so that no other may run.
@@ -77,28 +83,31 @@ impl Machine {
         Ok(Machine {
             state: State::new(alloc, slots, parameters),
             spent: self.spent,
+            program: self.program,
         })
     }
 
-    /// Runs the unit `init` of the code that the machine was opened for, with a budget of at most a thousand million steps and calls.
+    /// Runs the unit `init` of the code that the machine was opened for, with a budget of at most [`MOST_BUDGET`] steps and calls.
     ///
     /// Rows and lines go to the sink as they are written. Want of memory ends the unit wherever it is.
     pub fn call_init<S: UnitSink>(
         &mut self,
         alloc: Global,
-        code: &ProgramParts,
+        code: &ProgramCode,
         budget: u64,
         sink: &mut S,
     ) -> Result<UnitEnd, OutOfMemory>
-        requires runnable { IsRunnable code.now }
-        requires budget { budget ≤ 1000000000 }
+        requires executed { IsTrue (list_all is_executed (staged_program code.now self.old.program).instrs) }
+        requires budget { budget ≤ MOST_BUDGET }
         requires ready { self.old.spent ≡ false }
-        ensures ran { IfOk result (λ end. IsUnitEnd S.has_taken sink.old sink.new (code_init code.now budget self.old.state) end self.new.state) }
-        ensures bound { IfOk result (λ end. end.executed ≤ (budget + 1) * length code.now.instrs) }
+        ensures ran { IfOk result (λ end. IsUnitEnd S.has_taken sink.old sink.new (code_init (staged_program code.now self.old.program) budget self.old.state) end self.new.state) }
+        ensures bound { IfOk result (λ end. end.executed ≤ (budget + 1) * length (staged_program code.now self.old.program).instrs) }
         ensures spent { self.new.spent ≡ leaves_spent result }
+        ensures program { self.new.program ≡ self.old.program }
     {
         valid_code_ends();
-        self.unit(alloc, code, code.init, budget, sink)
+        let program = program_of(code, self.program);
+        self.unit(alloc, program, program.init, budget, sink)
     }
 
     /// Runs the unit `run` on a load, as [`Machine::call_init`] runs `init`: slots that `run` sets to null are null, and those of the
@@ -106,42 +115,65 @@ impl Machine {
     pub fn call_run<L: UnitLoad, S: UnitSink>(
         &mut self,
         alloc: Global,
-        code: &ProgramParts,
+        code: &ProgramCode,
         load: &L,
         budget: u64,
         sink: &mut S,
     ) -> Result<UnitEnd, OutOfMemory>
-        requires runnable { IsRunnable code.now }
-        requires budget { budget ≤ 1000000000 }
+        requires executed { IsTrue (list_all is_executed (staged_program code.now self.old.program).instrs) }
+        requires budget { budget ≤ MOST_BUDGET }
         requires ready { self.old.spent ≡ false }
-        ensures ran { IfOk result (λ end. IsUnitEnd S.has_taken sink.old sink.new (code_run code.now budget (L.settings load.now) self.old.state) end self.new.state) }
-        ensures bound { IfOk result (λ end. end.executed ≤ (budget + 1) * length code.now.instrs) }
+        ensures ran { IfOk result (λ end. IsUnitEnd S.has_taken sink.old sink.new (code_run (staged_program code.now self.old.program) budget (L.settings load.now) self.old.state) end self.new.state) }
+        ensures bound { IfOk result (λ end. end.executed ≤ (budget + 1) * length (staged_program code.now self.old.program).instrs) }
         ensures spent { self.new.spent ≡ leaves_spent result }
+        ensures program { self.new.program ≡ self.old.program }
     {
         valid_code_ends();
-        self.spent = true;
-        clear(&mut self.state.slots, code.slots.as_slice());
-        load.set_into(alloc, &mut self.state.slots)?;
-        self.unit(alloc, code, code.run, budget, sink)
+        let program = program_of(code, self.program);
+        self.run_unit(alloc, program, load, budget, sink)
     }
 
     /// Runs the unit `term`, as [`Machine::call_init`] runs `init`.
     pub fn call_term<S: UnitSink>(
         &mut self,
         alloc: Global,
-        code: &ProgramParts,
+        code: &ProgramCode,
         budget: u64,
         sink: &mut S,
     ) -> Result<UnitEnd, OutOfMemory>
-        requires runnable { IsRunnable code.now }
-        requires budget { budget ≤ 1000000000 }
+        requires executed { IsTrue (list_all is_executed (staged_program code.now self.old.program).instrs) }
+        requires budget { budget ≤ MOST_BUDGET }
         requires ready { self.old.spent ≡ false }
-        ensures ran { IfOk result (λ end. IsUnitEnd S.has_taken sink.old sink.new (code_term code.now budget self.old.state) end self.new.state) }
-        ensures bound { IfOk result (λ end. end.executed ≤ (budget + 1) * length code.now.instrs) }
+        ensures ran { IfOk result (λ end. IsUnitEnd S.has_taken sink.old sink.new (code_term (staged_program code.now self.old.program) budget self.old.state) end self.new.state) }
+        ensures bound { IfOk result (λ end. end.executed ≤ (budget + 1) * length (staged_program code.now self.old.program).instrs) }
         ensures spent { self.new.spent ≡ leaves_spent result }
+        ensures program { self.new.program ≡ self.old.program }
     {
         valid_code_ends();
-        self.unit(alloc, code, code.term, budget, sink)
+        let program = program_of(code, self.program);
+        self.unit(alloc, program, program.term, budget, sink)
+    }
+
+    // Runs the unit `run` of a program on a load.
+    fn run_unit<L: UnitLoad, S: UnitSink>(
+        &mut self,
+        alloc: Global,
+        code: &ProgramParts,
+        load: &L,
+        budget: u64,
+        sink: &mut S,
+    ) -> Result<UnitEnd, OutOfMemory>
+        requires executable { IsExecutable code.now }
+        requires budget { budget ≤ MOST_BUDGET }
+        requires ends { EndsInTime code.now budget (code_run code.now budget (L.settings load.now) self.old.state) }
+        ensures ran { IfOk result (λ end. IsUnitEnd S.has_taken sink.old sink.new (code_run code.now budget (L.settings load.now) self.old.state) end self.new.state) }
+        ensures spent { self.new.spent ≡ leaves_spent result }
+        ensures program { self.new.program ≡ self.old.program }
+    {
+        self.spent = true;
+        clear(&mut self.state.slots, code.slots.as_slice());
+        load.set_into(alloc, &mut self.state.slots)?;
+        self.unit(alloc, code, code.run, budget, sink)
     }
 
     // Runs a unit from its entry.
@@ -154,10 +186,11 @@ impl Machine {
         sink: &mut S,
     ) -> Result<UnitEnd, OutOfMemory>
         requires executable { IsExecutable code.now }
-        requires budget { budget ≤ 1000000000 }
+        requires budget { budget ≤ MOST_BUDGET }
         requires ends { EndsInTime code.now budget (code_unit code.now entry budget self.old.state) }
         ensures ran { IfOk result (λ end. IsUnitEnd S.has_taken sink.old sink.new (code_unit code.now entry budget self.old.state) end self.new.state) }
         ensures spent { self.new.spent ≡ leaves_spent result }
+        ensures program { self.new.program ≡ self.old.program }
     {
         run_has_one_end();
         units_begin_with_little();
@@ -172,6 +205,27 @@ impl Machine {
             executed: ran.executed,
         })
     }
+}
+
+// A machine for a program before its first unit.
+fn opened(
+    alloc: Global,
+    code: &ProgramParts,
+    program: usize,
+    given: &[Value],
+    parameters: usize,
+) -> Result<Machine, OutOfMemory>
+    requires { HasNoHashes code.now }
+    ensures { IfOk result (λ machine. machine ≡ record { state = opening_data code.now given.now [] parameters; spent = false; program = program }) }
+{
+    let mut slots = nulls(alloc, code.slots.len())?;
+    set_values(alloc, &mut slots, code.parameters.as_slice(), given)?;
+    let stage = nulls(alloc, parameters)?;
+    Ok(Machine {
+        state: State::new(alloc, slots, stage),
+        spent: false,
+        program,
+    })
 }
 
 // How the unit ended, where it came to its end; a fault is at the place of the step that is under way.

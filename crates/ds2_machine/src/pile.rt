@@ -125,18 +125,26 @@ impl Pile {
         Some(values.split_at(values.len() - n).1)
     }
 
-    /// Puts a value in the place of the n topmost ones of the method.
+    /// Takes the n topmost values of the method off; all where there are fewer.
     #[inline]
-    #[tactic(auto, using(crate::proofs::PileLemmas::replaced))]
-    pub fn replace_last(&mut self, n: usize, value: Value) -> Result<(), OutOfMemory>
-        ensures stack { OnOk result (self.new.stack ≡ value ∷ drop n self.old.stack) }
-        ensures below { OnOk result (self.new.below ≡ self.old.below) }
+    #[tactic(auto, using(crate::proofs::PileLemmas::shortened))]
+    pub fn drop_last(&mut self, n: usize)
+        ensures stack { self.new.stack ≡ drop n self.old.stack }
+        ensures below { self.new.below ≡ self.old.below }
     {
         let own = self.items.len() - self.base;
         let kept = self.base + own.saturating_sub(n);
         self.items.truncate(kept);
-        self.items.push(value)?;
-        Ok(())
+    }
+
+    /// Puts a value in the place of the n topmost ones of the method.
+    #[inline]
+    pub fn replace_last(&mut self, n: usize, value: Value) -> Result<(), OutOfMemory>
+        ensures stack { OnOk result (self.new.stack ≡ value ∷ drop n self.old.stack) }
+        ensures below { OnOk result (self.new.below ≡ self.old.below) }
+    {
+        self.drop_last(n);
+        self.push(value)
     }
 
     /// Sets the value of a number; nothing where there is none.

@@ -1,7 +1,9 @@
 //! The kinds of instruction, without what an operation computes.
 ghost use Rattle.std.specs.Prelude.{◌≡◌, IsTrue, Some};
+ghost use Rattle.std.specs.Option.{is_some};
 ghost use Rattle.ds2_code.specs.InstructionTable.{kind_of};
-ghost use Rattle.ds2_machine.specs.Shapes.{HasShape, is_executed, is_operation, operation_operands};
+ghost use Rattle.ds2_operations.specs.OperationKinds.{operation_operands};
+ghost use Rattle.ds2_machine.specs.Shapes.{HasShape, is_executed};
 
 use ds2_base::Place;
 use ds2_code::Instr;
@@ -45,6 +47,8 @@ pub enum Quiet {
 pub enum Shape {
     /// It writes a row of an output.
     Write(u32),
+    /// It writes a line of so many texts.
+    Put(usize),
     /// It writes nothing.
     Quiet(Quiet),
 }
@@ -57,6 +61,7 @@ pub fn shape_of(instr: Instr) -> Shape
 {
     match instr {
         Instr::Output(number) => Shape::Write(number),
+        Instr::Put(n) => Shape::Put(n as usize),
         Instr::Const(k) => Shape::Quiet(Quiet::Load(Source::Constant(k))),
         Instr::GLoad(n) => Shape::Quiet(Quiet::Load(Source::Slot(n))),
         Instr::LLoad(n) => Shape::Quiet(Quiet::Load(Source::Local(n))),
@@ -80,13 +85,15 @@ pub fn shape_of(instr: Instr) -> Shape
 // How many operands an operation takes.
 #[inline]
 fn operands_of(instr: Instr) -> usize
-    requires { IsTrue (is_operation instr) }
+    requires { IsTrue (is_some (operation_operands (kind_of instr))) }
     ensures { operation_operands (kind_of instr) ≡ Some result }
 {
     match instr {
         Instr::Null(_) => 0,
         Instr::IToD => 1,
         Instr::Rescale(_, _) => 1,
+        Instr::Pad(_) => 1,
+        Instr::Cut(_) => 1,
         Instr::INeg => 1,
         Instr::IAbs => 1,
         Instr::DNeg => 1,
@@ -97,6 +104,13 @@ fn operands_of(instr: Instr) -> usize
         Instr::ITruth => 1,
         Instr::DTruth => 1,
         Instr::IsNull => 1,
+        Instr::Len => 1,
+        Instr::Trim => 1,
+        Instr::Show => 1,
+        Instr::Substr => 3,
+        Instr::Choose(n) => n as usize,
+        Instr::Least(n) => n as usize,
+        Instr::Greatest(n) => n as usize,
         _ => 2,
     }
 }

@@ -5,23 +5,24 @@ ghost use Rattle.ds2_value.specs.Operations.{is_true};
 ghost use Rattle.ds2_value.specs.Row.{Row};
 ghost use Rattle.ds2_code.specs.CodeBound.{work_left};
 ghost use Rattle.ds2_code.specs.CodeUnit.{unit_begun};
-ghost use Rattle.ds2_code.specs.CodeRun.{perform, goes_to, on_desk, on_step, on_condition, place_tested, on_method, on_return, with_in_outs};
+ghost use Rattle.ds2_code.specs.CodeRun.{perform, goes_to, on_desk, on_texts, on_step, on_condition, place_tested, on_method, on_return, with_in_outs};
 ghost use Rattle.ds2_code.specs.Desk.{IntoSlot, IntoLocal, IntoParameter, top_into, without_top, loaded_value, take_off};
 ghost use Rattle.ds2_code.specs.InstructionTable.{kind_of, Loads, Writes, Enters, GoesBack};
+ghost use Rattle.ds2_operations.specs.OperationKinds.{has_type_in_bounds, operation_operands};
 ghost use Rattle.ds2_machine.specs.MachineView.{UnitTold, nothing_told, machine_of_state, desk_of_state, data_of_state, progress_of_state, HasRunTo, IsQuietStep, IsSunkStep, AreTaken, with_operands};
 ghost use Rattle.ds2_machine.specs.Results.{as_list};
-ghost use Rattle.ds2_machine.specs.Shapes.{IsExecutable, HasQuietShape, is_executed, has_type_in_bounds, operation_operands, load_source_of, store_target_of};
+ghost use Rattle.ds2_machine.specs.Shapes.{IsExecutable, HasQuietShape, is_executed, load_source_of, store_target_of};
 
 use crate::UnitSink;
 use crate::arguments::Arguments;
 use crate::frames::{Frames, Waiting};
-use crate::operation::computed;
 use crate::pile::Pile;
 use crate::shape::{Quiet, Shape, Source, Target, shape_of};
 use crate::slots::{copy_at, set};
 use ds2_base::{List, OutOfMemory, Place, Stop};
 use ds2_code::laws::instructions_leave_less;
 use ds2_code::{Instr, MethodPart, ParameterPart, ProgramParts};
+use ds2_operations::{computed, write_line};
 use ds2_value::{CALL_DEPTH, Fault, Truth, Value};
 use std::alloc::Global;
 
@@ -61,6 +62,8 @@ pub struct State {
     pub place: Place,
     /// How many steps and calls may still begin.
     pub left: u64,
+    /// The line that is being made; its place is kept for the next one.
+    pub line: String,
 }
 
 impl State {
@@ -78,6 +81,7 @@ impl State {
             parameters,
             place: Place { line: 0, column: 0 },
             left: 0,
+            line: String::new(alloc),
         }
     }
 
@@ -137,6 +141,7 @@ impl State {
     {
         match shape_of(instr) {
             Shape::Write(number) => self.write(alloc, code, number, sink),
+            Shape::Put(n) => self.put(alloc, n, sink),
             Shape::Quiet(quiet) => self.act_quietly(alloc, code, instr, quiet),
         }
     }
@@ -475,6 +480,26 @@ impl State {
             return Ok(Some(Halt::Stuck));
         };
         sink.take_row(alloc, number, output, self.slots.as_slice())?;
+        self.at += 1;
+        Ok(None)
+    }
+
+    // Gives a line of the topmost operands to the sink.
+    fn put<S: UnitSink>(
+        &mut self,
+        alloc: Global,
+        n: usize,
+        sink: &mut S,
+    ) -> Result<Option<Halt>, OutOfMemory>
+        requires { self.old.at < 2 ^ 32 }
+        ensures { IfOk result (λ halt. IsSunkStep S.has_taken sink.old sink.new (λ told. on_texts (take_off n [] self.old.operands.stack) (machine_of_state self.old told)) self.new halt) }
+    {
+        let Some(operands) = self.operands.last(n) else {
+            return Ok(Some(Halt::Stuck));
+        };
+        write_line(alloc, operands, &mut self.line)?;
+        sink.take_line(alloc, self.line.as_str())?;
+        self.operands.drop_last(n);
         self.at += 1;
         Ok(None)
     }

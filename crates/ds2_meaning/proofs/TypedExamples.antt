@@ -40,6 +40,26 @@ typed_examples = record {
     refl,
   );
   flag_is_no_target = λ h. absurd (h.0.run.1.0.0);
+  parameter_may_be_set = (
+    record {
+      head = tt;
+      variables = ((refl, tt), refl);
+      parameters = ((refl, tt), refl);
+      names = refl;
+      instances = tt;
+      objects = (tt, tt);
+      threads = tt;
+      reading = (omega arith, omega arith, (refl, ((BigInt, refl, refl), tt), tt, tt));
+      outputs = (omega arith, refl, (refl, tt), tt);
+      output_names = refl;
+      methods = tt;
+      init = ((tt, refl), tt);
+      -- put n; n = n + 1;
+      run = ((tt, refl), ((refl, tt), ((tt, (refl, ((refl, refl), (BigInt, refl, (refl, refl, refl)), tt)), refl), tt)));
+      term = ((tt, refl), tt);
+    },
+    tt,
+  );
   leave_wants_a_loop = λ h. cc (h.0.run.1.0);
   constructors_stand_in_init = λ h. absurd (h.0.run.1.0);
   names_are_known = λ h. cc (h.0.run.1.0.1);

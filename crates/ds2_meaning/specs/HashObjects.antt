@@ -1,6 +1,7 @@
 -- What calls of hash objects and iterators do: their items and positions are kept like variables, their keys and data are
 -- variables of the unit.
 use Rattle.std.specs.Prelude.{ℕ, bytes_eq, if◌then◌else◌, List, [], ◌∷◌, map, Option, Some, None}
+use Rattle.std.specs.List.{find}
 use Rattle.ds2_value.specs.HashList.{HashItems, Shift, shifted, HashAnswer, hash_answer, IteratorAnswer, iterator_answer}
 use Rattle.ds2_value.specs.Row.{Row}
 use Rattle.ds2_value.specs.declared.hash_function.HashFunction.{HashFunction}
@@ -25,13 +26,11 @@ no_objects = record { hashes = []; iterators = [] }
 
 -- the hash object of this name
 abbrev pub hash_named : List DeclaredHash → List ℕ → Option DeclaredHash
-hash_named [] name = None
-hash_named (h ∷ hashes) name = if bytes_eq h.name name then Some h else hash_named hashes name
+hash_named hashes name = find (λ (h : DeclaredHash). bytes_eq h.name name) hashes
 
 -- the iterator of this name
 abbrev pub iterator_named : List DeclaredIterator → List ℕ → Option DeclaredIterator
-iterator_named [] name = None
-iterator_named (i ∷ iterators) name = if bytes_eq i.name name then Some i else iterator_named iterators name
+iterator_named iterators name = find (λ (i : DeclaredIterator). bytes_eq i.name name) iterators
 
 -- where the items of a hash object, or the position of an iterator, are kept
 abbrev pub object_at : Home → List ℕ → Location

@@ -22,7 +22,8 @@ method_state parameters arguments left w =
 abbrev pub back_in : RunState → RunState → RunState
 back_in caller w = record { storage = w.storage; locals = caller.locals; progress = with_place caller.progress.place w.progress }
 
--- how a call ends, by how the statements of the method end; a method that ends without `return` has no result
+-- how a call ends, by how the statements of the method end; a method that ends without `return` has no result. `leave` and `continue`
+-- outside of loops, which no typed method has, end it likewise
 abbrev pub returned : List Parameter → RunState → StatementOutcome → CallEnd
 returned parameters caller (Proceeds w) = Answers Null (last_values parameters w.locals) (back_in caller w)
 returned parameters caller (Leaves w) = Answers Null (last_values parameters w.locals) (back_in caller w)

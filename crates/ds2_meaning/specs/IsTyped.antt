@@ -1,5 +1,6 @@
--- Which programs are typed: by cases over the tree, every name is known, every type fits, and no statement has a flag as its target.
-use Rattle.std.specs.List.{list_all}
+-- Which programs are typed: by cases over the tree, every name is known, every type fits, and nothing sets a flag: no assignment, no
+-- counted loop, no in_out argument and no data variable of a hash object.
+use Rattle.std.specs.List.{list_all, AllByRecursion, position_from}
 use Rattle.std.specs.Prelude.{◌≡◌, ◌≤◌, ◌<◌, ◌+◌, IsTrue, ℕ, min, max, pos, Bool, true, false, bytes_eq, if◌then◌else◌, not, ◌&&◌, List, [], ◌∷◌, ◌++◌, length, map, slice_get, is_some, Option, Some, None}
 use Rattle.ds2_value.specs.HashList.{HashItem, HashItems}
 use Rattle.ds2_value.specs.Row.{Row, Columns}
@@ -151,8 +152,7 @@ IsPrefix prefix.Not a result = IsNumeric a × (result ≡ BigInt)
 
 -- arguments that are all of this type
 abbrev pub AllOfType : Ty → List Ty → Type 0
-AllOfType ty [] = Unit {0}
-AllOfType ty (a ∷ arguments) = (a ≡ ty) × AllOfType ty arguments
+AllOfType ty arguments = AllByRecursion (λ (a : Ty). a ≡ ty) arguments
 
 -- at least so many arguments, and at most 16
 abbrev pub IsManyFrom : ℕ → List Ty → Type 0
@@ -384,13 +384,11 @@ ReturnsWhatItSays method (Some ty) = ListSurelyReturns method.body
 
 -- each type is in bounds
 abbrev pub AreInBounds : List Variable → Type 0
-AreInBounds [] = Unit {0}
-AreInBounds (v ∷ variables) = IsTrue (in_bounds v.ty) × AreInBounds variables
+AreInBounds variables = AllByRecursion (λ (v : Variable). IsTrue (in_bounds v.ty)) variables
 
 -- the number of the first method of this name, counted from a number on
 abbrev pub method_number : ℕ → List MethodTree → List ℕ → Option ℕ
-method_number number [] name = None
-method_number number (m ∷ methods) name = if bytes_eq m.name name then Some number else method_number (number + 1) methods name
+method_number number methods name = position_from (λ (m : MethodTree). bytes_eq m.name name) number methods
 
 -- no name stands twice in a list
 abbrev pub are_distinct : List (List ℕ) → Bool
@@ -508,8 +506,7 @@ AreHashVariables globals (v ∷ variables) = (globals v.global ≡ Some v.ty) ×
 
 -- a call may set the data variables of a hash object
 abbrev pub AreHashTargets : List HashVariable → Type 0
-AreHashTargets [] = Unit {0}
-AreHashTargets (v ∷ variables) = IsTarget (At v.global) × AreHashTargets variables
+AreHashTargets variables = AllByRecursion (λ (v : HashVariable). IsTarget (At v.global)) variables
 
 -- the type of the column of this name
 abbrev pub column_type : Columns → List ℕ → Option Ty
@@ -572,8 +569,7 @@ AreVariables variables (c ∷ columns) =
 
 -- each BY variable is one of these columns
 abbrev pub AreByColumns : List ByVariable → Columns → Type 0
-AreByColumns [] columns = Unit {0}
-AreByColumns (by ∷ bys) columns = IsTrue (has_column by.name columns) × AreByColumns bys columns
+AreByColumns bys columns = AllByRecursion (λ (by : ByVariable). IsTrue (has_column by.name columns)) bys
 
 -- the tables of a reading statement: the columns of each have distinct names and types in bounds and are variables, and every BY
 -- variable is among them
@@ -590,8 +586,7 @@ IsTypedReading variables reading =
 
 -- each column of an output has the type of its variable
 abbrev pub AreOutputColumns : List Variable → List OutputColumn → Type 0
-AreOutputColumns variables [] = Unit {0}
-AreOutputColumns variables (c ∷ columns) = (type_in variables c.source ≡ Some c.ty) × AreOutputColumns variables columns
+AreOutputColumns variables columns = AllByRecursion (λ (c : OutputColumn). type_in variables c.source ≡ Some c.ty) columns
 
 -- the columns of each output are variables, their names are distinct, and there is at least one
 abbrev pub AreTypedOutputs : List Variable → List OutputTable → Type 0

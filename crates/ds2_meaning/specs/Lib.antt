@@ -19,6 +19,7 @@ pub mod ProgramExamples
 pub mod FurtherExamples
 pub mod HashExamples
 pub mod EdgeExamples
+pub mod FormExamples
 pub mod BudgetLaws
 pub mod TableLaws
 pub mod ReadingLaws

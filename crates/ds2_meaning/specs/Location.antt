@@ -1,5 +1,6 @@
 -- Where a program keeps something, and what is kept there.
-use Rattle.std.specs.Prelude.{ℕ, ◌&&◌, Bool, true, false, bytes_eq, if◌then◌else◌, List, [], Option, Some, None}
+use Rattle.std.specs.Prelude.{ℕ, ◌&&◌, Bool, false, bytes_eq, if◌then◌else◌, List, [], Option, None}
+use Rattle.std.specs.Option.{option_eq}
 use Rattle.ds2_value.specs.HashList.{HashItems}
 use Rattle.ds2_value.specs.declared.value.Value.{Value}
 use Rattle.ds2_value.specs.declared.value.Value.TheVariants.{Null}
@@ -21,9 +22,7 @@ Home = Option (List ℕ)
 
 -- whether two homes are one
 abbrev pub is_same_home : Home → Home → Bool
-is_same_home None None = true
-is_same_home (Some a) (Some b) = bytes_eq a b
-is_same_home _ _ = false
+is_same_home = option_eq bytes_eq
 
 -- a global of the program, or of an instance that it declares
 pub record Location : Type 0 where

@@ -51,7 +51,8 @@ carry_out p body budget c = exec_all (program_surroundings p) body.statements (u
 abbrev pub completed_by : (RunState → RunState) → RunState → UnitOutcome Storage
 completed_by at_end w = let u = at_end w in Completed u.storage u.progress 0
 
--- a unit is at its end where its statements are done or return
+-- a unit is at its end where its statements are done or return; `leave` and `continue` outside of loops, which no typed program has,
+-- end it likewise
 abbrev pub unit_end : (RunState → RunState) → StatementOutcome → UnitOutcome Storage
 unit_end at_end (Proceeds w) = completed_by at_end w
 unit_end at_end (Leaves w) = completed_by at_end w

@@ -1,6 +1,6 @@
 -- Reading statements: their loads, and what a load sets.
 use Rattle.std.specs.Prelude.{ℕ, min, nat_eq, nat_le, Bool, false, bytes_eq, not, ◌&&◌, ◌||◌, if◌then◌else◌, List, [], ◌∷◌, ◌++◌, length, map, slice_get, Option, Some, None, pos}
-use Rattle.std.specs.List.{list_any}
+use Rattle.std.specs.List.{list_any, fold}
 use Rattle.ds2_value.specs.Operations.{or_null_at_fault}
 use Rattle.ds2_value.specs.Row.{Row, Columns}
 use Rattle.ds2_value.specs.Schema.{has_column}
@@ -174,8 +174,7 @@ loads_over variables reading tables =
 
 -- the variables of a program behind a load
 abbrev pub with_settings : Settings → Storage → Storage
-with_settings [] before = before
-with_settings (set ∷ more) before = with_settings more (with_content (record { home = None; global = set.0 }) (Holds set.1) before)
+with_settings settings before = fold (λ (kept : Storage) (set : Global × Value). with_content (record { home = None; global = set.0 }) (Holds set.1) kept) before settings
 
 -- ---- columns
 

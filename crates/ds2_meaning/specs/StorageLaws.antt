@@ -1,5 +1,6 @@
 -- What a typed program keeps before its first unit fits, and so does what it gives to the thread program that it reads from.
 use Rattle.std.specs.Prelude.{IsTrue, List, [], ◌∷◌, length, Option, Some, None}
+use Rattle.std.specs.List.{AllByRecursion}
 use Rattle.ds2_value.specs.Types.{fits}
 use Rattle.ds2_value.specs.declared.value.Value.{Value}
 use Rattle.ds2_table.specs.Table.{rows_fit}
@@ -19,13 +20,11 @@ LoadFits tables (Some loaded) = IsTrue (is_countable (length (tables loaded.tabl
 
 -- likewise for each of several hash objects
 abbrev pub LoadsFit : TableRows → List DeclaredHash → Type 0
-LoadsFit tables [] = Unit {0}
-LoadsFit tables (h ∷ hashes) = LoadFits tables h.loaded × LoadsFit tables hashes
+LoadsFit tables hashes = AllByRecursion (λ (h : DeclaredHash). LoadFits tables h.loaded) hashes
 
 -- likewise for the hash objects of instances
 abbrev pub InstanceLoadsFit : TableRows → List InstanceTree → Type 0
-InstanceLoadsFit tables [] = Unit {0}
-InstanceLoadsFit tables (i ∷ instances) = LoadsFit tables i.objects.hashes × InstanceLoadsFit tables instances
+InstanceLoadsFit tables instances = AllByRecursion (λ (i : InstanceTree). LoadsFit tables i.objects.hashes) instances
 
 -- values fit the parameters that they are for
 abbrev pub ParametersFit : List Variable → List Value → Type 0

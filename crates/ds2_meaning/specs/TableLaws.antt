@@ -1,5 +1,6 @@
 -- A program's answer depends on the tables that its reading statements and its hash objects mention alone.
 use Rattle.std.specs.Prelude.{◌≡◌, ℕ, List, [], ◌∷◌, ◌++◌, map, Option, Some, None}
+use Rattle.std.specs.List.{AllByRecursion}
 use Rattle.ds2_base.specs.declared.place.Place.{Place}
 use Rattle.ds2_value.specs.declared.fault.Ending.TheVariants.{Faulted}
 use Rattle.ds2_value.specs.declared.fault.Fault.{Fault}
@@ -43,8 +44,7 @@ tables_mentioned (OverStage p stage) = tables_at_opening p ++ tables_mentioned s
 
 -- two stores have the same rows of each of these tables
 abbrev pub AgreeOn : List MentionedTable → TableRows → TableRows → Type 0
-AgreeOn [] before after = Unit {0}
-AgreeOn (table ∷ tables) before after = (before table ≡ after table) × AgreeOn tables before after
+AgreeOn tables before after = AllByRecursion (λ (table : MentionedTable). before table ≡ after table) tables
 
 -- two stores that agree on the tables that a program mentions give it one answer
 abbrev pub TablesMentionedDecide : Type 0

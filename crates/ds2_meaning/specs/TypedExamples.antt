@@ -7,6 +7,7 @@ use Rattle.ds2_meaning.specs.declared.location.Reference.TheVariants.{At}
 use Rattle.ds2_meaning.specs.declared.readings.Input.{Input}
 use Rattle.ds2_meaning.specs.declared.readings.Reading.TheVariants.{Set, From}
 use Rattle.ds2_meaning.specs.ExampleWords.{col, int, variable_of, assign_at, bigint, output_of, program_with}
+use Rattle.ds2_meaning.specs.FormExamples.{counting_up}
 use Rattle.ds2_meaning.specs.HashExamples.{hashing, on_hash}
 use Rattle.ds2_meaning.specs.IsTyped.{IsTypedProgram, IsTypedDataProgram, location_type, is_countable}
 use Rattle.ds2_meaning.specs.ProgramExamples.{input_of, reader, summing, totals}
@@ -28,6 +29,8 @@ pub record TypedExamples : Type 0 where
   pub recursion_is_typed : IsTypedDataProgram (OverTables (calling 3))
   -- a flag as a target
   pub flag_is_no_target : IsTypedProgram (OverTables (program_with (codes "x" ∷ []) (Assign (col 1) (At (First (codes "x"))) (int 1) ∷ []))) → ⊥
+  -- n = n + 1; where n is a parameter of the thread program
+  pub parameter_may_be_set : IsTypedProgram (OverTables counting_up)
   -- a loop is left outside of loops
   pub leave_wants_a_loop : IsTypedProgram (OverTables (program_with (codes "x" ∷ []) (Leave (col 1) ∷ []))) → ⊥
   -- an instance is constructed in `run`

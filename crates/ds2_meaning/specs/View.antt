@@ -129,8 +129,7 @@ all_statements (s ∷ ss) = statement.Next s (all_statements ss)
 
 -- what a box holds, where there is one
 abbrev pub unboxed : {A : Type 0} → Option (Box A allocator.Global) → Option A
-unboxed None = None
-unboxed (Some s) = Some s.value
+unboxed {A} = option_map (λ (boxed : Box A allocator.Global). boxed.value)
 
 -- a statement, from what its parts are
 abbrev pub statement_part : statement_node.Statement-F statement.TypedStatement Chained (Part statement.TypedWhens) → statement.TypedStatement

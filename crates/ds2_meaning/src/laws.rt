@@ -2,6 +2,7 @@
 ghost use Rattle.ds2_meaning.specs.BudgetLaws.{NoStatementRaisesTheBudget, LoopsAreTheirTurns};
 ghost use Rattle.ds2_meaning.specs.EdgeExamples.{EdgeExamples, TextLimitExamples};
 ghost use Rattle.ds2_meaning.specs.ExpressionExamples.{IntegerExamples, DecimalExamples, TruthExamples, TextExamples};
+ghost use Rattle.ds2_meaning.specs.FormExamples.{OperandExamples, OrderExamples, FaultFormExamples, TableExamples};
 ghost use Rattle.ds2_meaning.specs.FurtherExamples.{NullExamples, ConversionExamples, RoundExamples, CallExamples, ReadingExamples, FaultExamples};
 ghost use Rattle.ds2_meaning.specs.HashExamples.{HashExamples, InstanceExamples, IteratorExamples};
 ghost use Rattle.ds2_meaning.specs.ProgramExamples.{UnitExamples, LoadExamples, StageExamples};
@@ -173,4 +174,24 @@ pub fn edge_examples()
 /// Texts of more than 1,024 characters, in small programs.
 pub fn text_limit_examples()
     ensures { TextLimitExamples }
+{}
+
+/// Null on each side of each operator, and each comparison, in small programs.
+pub fn operand_examples()
+    ensures { OperandExamples }
+{}
+
+/// The order in which operands and arguments are evaluated and converted, in small programs.
+pub fn order_examples()
+    ensures { OrderExamples }
+{}
+
+/// Further faults of operations, and budgets that end in a constructor, in small programs.
+pub fn fault_form_examples()
+    ensures { FaultFormExamples }
+{}
+
+/// Small programs over tables, a thread program that faults, and one that sets its parameter.
+pub fn table_examples()
+    ensures { TableExamples }
 {}

@@ -1,3 +1,4 @@
 pub mod NameExamples
 pub mod InstanceExamples
 pub mod RuleExamples
+pub mod FurtherNameExamples

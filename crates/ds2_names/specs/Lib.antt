@@ -7,3 +7,4 @@ pub mod SourceLimits
 pub mod NameExamples
 pub mod InstanceExamples
 pub mod RuleExamples
+pub mod FurtherNameExamples

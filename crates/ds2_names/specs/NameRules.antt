@@ -1,6 +1,6 @@
 -- The rules of names of a unit of a source: for each rule on what a name means the places at which it is broken.
 use Rattle.std.specs.Prelude.{ℕ, zero, suc, ◌+◌, ◌-◌, ◌*◌, Bool, true, false, not, ◌&&◌, ◌||◌, nat_le, nat_eq, bytes_eq, codes, if◌then◌else◌, List, [], ◌∷◌, ◌++◌, length, map, filter, fold, is_some, is_none, unwrap_or, Option, Some, None}
-use Rattle.std.specs.List.{list_all, list_any}
+use Rattle.std.specs.List.{list_all, list_any, flat_map}
 use Rattle.std.specs.Option.{option_map_or}
 use Rattle.ds2_base.specs.declared.place.Place.{Place}
 use Rattle.ds2_token.specs.Words.{is_word}
@@ -19,6 +19,7 @@ use Rattle.ds2_tree.specs.declared.units.Renaming.{Renaming}
 use Rattle.ds2_value.specs.Row.{Columns}
 use Rattle.ds2_value.specs.Schema.{has_column}
 use Rattle.ds2_meaning.specs.ProgramTree.{is_listed}
+use Rattle.ds2_names.specs.declared.placed.OutputName as placed
 use Rattle.ds2_names.specs.SourceUnit.{TableColumns, spelled_name, spelled_text, PlacedName, placed_name, names_alone, is_earlier, listed_tokens, is_system_name, local_names, UnitSource, is_package, InstanceOf, AnyPackage, HashObject, HashIterator, AnyThread, SourceInstance, instance_named, KnownPackage, KnownThread, KnownUnit, package_named, thread_named, known_names, tables_of_reading, stage_token, stage_read, SourceNames, vector_names, plain_globals, instance_names, all_globals, is_named}
 use Rattle.ds2_names.specs.Uses.{NameUse, Values, Members, HandsOver, CallsOn, Sets, WritesTo, first_place, method_named, in_out_of, statements_uses}
 
@@ -26,8 +27,7 @@ use Rattle.ds2_names.specs.Uses.{NameUse, Values, Members, HandsOver, CallsOn, S
 
 -- what comes of each item, one behind the other
 abbrev pub from_each : {A B : Type 0} → (A → List B) → List A → List B
-from_each f [] = []
-from_each f (x ∷ xs) = f x ++ from_each f xs
+from_each f xs = flat_map f xs
 
 -- a place, where a test does not hold
 abbrev pub place_unless : Bool → Place → List Place
@@ -47,7 +47,8 @@ abbrev pub methods_of_instance : SourceNames → List ℕ → List Method
 methods_of_instance names name =
     option_map_or (λ (i : SourceInstance). methods_of_sort names.known i.sort) (instance_named names.instances name) []
 
--- the declared method that is called, where one is: one of the unit, or one of an instance's package
+-- the declared method that is called, where one is: one of the unit, or one of the package of an instance, also of one that a local
+-- hides, where the call is refused before
 abbrev pub method_called : SourceNames → Callee → Option Method
 method_called names (callee.Function t) = method_named names.methods (spelled_name t)
 method_called names (callee.Null keyword) = None
@@ -118,7 +119,7 @@ abbrev pub is_object : SourceNames → Method → Token → Token → Bool
 is_object names m object member =
     if is_flag_word object then is_flag_member names object member else is_some (visible_instance names m (spelled_name object))
 
--- a use of a name that is not there, as a value, a target or an argument, and before a point
+-- a use of a name that is not there: as a value, a target or an argument, before a point, and as a table of `output`
 abbrev pub unknown_in_use : SourceNames → Method → NameUse → List Place
 unknown_in_use names m (Values t) = place_unless (is_in_scope names m (spelled_name t)) t.place
 unknown_in_use names m (HandsOver t) = place_unless (is_known_name names m (spelled_name t)) t.place
@@ -265,9 +266,8 @@ abbrev pub columns_left : SourceNames → List OutputOption → List (List ℕ)
 columns_left names options = filter (is_output_column names.unit options) (names_alone (vector_names names))
 
 -- a column of an output: its name, and the place of its new name where it is renamed
-pub record OutputName : Type 0 where
-  pub name : List ℕ
-  pub new_place : Option Place
+abbrev pub OutputName : Type 0
+OutputName = placed.OutputName
 
 -- a name, or a new one where it is renamed
 abbrev pub name_if_renamed : List ℕ → Option PlacedName → OutputName
@@ -333,9 +333,14 @@ abbrev pub counts_under : List (List ℕ × (ℕ × ℕ)) → List ℕ → Optio
 counts_under [] name = None
 counts_under (f ∷ functions) name = if bytes_eq f.0 name then Some f.1 else counts_under functions name
 
+-- those of a declared method, where there is one
+abbrev pub method_counts : Option Method → Option (ℕ × ℕ)
+method_counts None = None
+method_counts (Some m) = let n = length m.parameters.list in Some (n, n)
+
 -- those of what a name calls: a method of the unit, else a function
 abbrev pub counts_of : Option Method → List ℕ → Option (ℕ × ℕ)
-counts_of (Some m) name = let n = length m.parameters.list in Some (n, n)
+counts_of (Some m) name = method_counts (Some m)
 counts_of None name = counts_under function_counts name
 
 -- how many arguments there are
@@ -363,11 +368,6 @@ none_where calls name = if is_listed calls name then Some (0, 0) else None
 abbrev pub parameters_where : ℕ → List ℕ → Option (ℕ × ℕ)
 parameters_where count name = if bytes_eq name (codes "setparms") then Some (count, count) else None
 
--- those of a declared method, where there is one
-abbrev pub method_counts : Option Method → Option (ℕ × ℕ)
-method_counts None = None
-method_counts (Some m) = let n = length m.parameters.list in Some (n, n)
-
 -- those of a method of an instance, where it has one; where the package or thread program is not known there is none
 abbrev pub counts_on_instance : List KnownUnit → InstanceOf → List ℕ → Option (ℕ × ℕ)
 counts_on_instance known (AnyPackage package' arguments) name = method_counts (method_named (methods_of_sort known (AnyPackage package' arguments)) name)
@@ -376,7 +376,8 @@ counts_on_instance known (HashIterator hash) name = none_where iterator_calls na
 counts_on_instance known (AnyThread thread) name =
     option_map_or (λ (t : KnownThread). parameters_where (length t.parameters) name) (thread_named known (spelled_name thread)) None
 
--- the package or the thread program that an instance is one of is known; calls on another instance are not refused
+-- what an instance is one of is known: its package or thread program, or it is a hash object or an iterator; calls on another instance
+-- are not refused
 abbrev pub is_known_sort : List KnownUnit → InstanceOf → Bool
 is_known_sort known (AnyPackage package' arguments) = is_some (package_named known (spelled_name package'))
 is_known_sort known (AnyThread thread) = is_some (thread_named known (spelled_name thread))

@@ -1,5 +1,6 @@
 -- What a unit of a source gives names to, each with its place.
 use Rattle.std.specs.Prelude.{ℕ, Bool, ◌||◌, ◌&&◌, ◌==◌, nat_lt, bytes_eq, codes, if◌then◌else◌, List, [], ◌∷◌, ◌++◌, map, filter, true, false, not, Option, Some, None}
+use Rattle.std.specs.List.{find}
 use Rattle.std.specs.Char.{to_ascii_lowercase}
 use Rattle.ds2_base.specs.declared.place.Place.{Place}
 use Rattle.ds2_token.specs.Forms.{between_quotes}
@@ -28,10 +29,16 @@ use Rattle.ds2_tree.specs.declared.units.OutputTable as source_output
 use Rattle.ds2_value.specs.Row.{Columns}
 use Rattle.ds2_meaning.specs.ProgramTree.{is_listed}
 use Rattle.ds2_names.specs.declared.placed.PlacedName as placed
+use Rattle.ds2_names.specs.declared.schemas.NamedSchema.{NamedSchema}
 
--- the columns of each table of the store, by the table's name
+-- the columns of each table that a unit may mention, by the table's name: those of the store, and those that data programs make
 abbrev pub TableColumns : Type 0
 TableColumns = List ℕ → Columns
+
+-- the columns of the first of these tables that has a name; none where no table has it
+abbrev pub columns_stored : List NamedSchema → TableColumns
+columns_stored [] name = []
+columns_stored (t ∷ tables) name = if bytes_eq t.name name then t.schema else columns_stored tables name
 
 -- the name that a token spells, its ASCII letters in lower case
 abbrev pub spelled_name : Token → List ℕ
@@ -180,8 +187,7 @@ source_instances (_ ∷ globals) = source_instances globals
 
 -- the first instance of this name
 abbrev pub instance_named : List SourceInstance → List ℕ → Option SourceInstance
-instance_named [] name = None
-instance_named (i ∷ instances) name = if bytes_eq (spelled_name i.name) name then Some i else instance_named instances name
+instance_named instances name = find (λ (i : SourceInstance). bytes_eq (spelled_name i.name) name) instances
 
 -- the name that the text constant of a table or a hash object spells
 abbrev pub spelled_text : Token → List ℕ

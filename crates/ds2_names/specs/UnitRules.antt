@@ -1,5 +1,6 @@
 -- The rules of a unit of a source that count its names and place its parts, and all rules of names together.
 use Rattle.std.specs.Prelude.{ℕ, ◌+◌, Bool, true, false, not, ◌&&◌, ◌||◌, nat_le, nat_lt, nat_eq, bytes_eq, codes, if◌then◌else◌, List, [], ◌∷◌, ◌++◌, length, map, filter, is_some, is_none, Option, Some, None}
+use Rattle.std.specs.Int.{is_in_range}
 use Rattle.std.specs.Option.{option_map_or}
 use Rattle.ds2_base.specs.declared.place.Place.{Place}
 use Rattle.ds2_base.specs.declared.place.Refusal.{Refusal}
@@ -60,7 +61,7 @@ too_many_names names =
 
 -- a number is at least and at most so much
 abbrev pub is_between : ℕ → ℕ → ℕ → Bool
-is_between least most n = nat_le least n && nat_le n most
+is_between least most n = is_in_range least most n
 
 -- a scale that is greater than its precision
 abbrev pub bad_scale : ℕ → Option Scale → List Place
@@ -129,8 +130,8 @@ misplaced_return returns keyword value = place_unless (if returns then is_some v
 -- what stands where it may not stand, where `may_output` tells which `output` statements may stand here, by the tables that they name
 module _ (may_output : List Token → Bool) (returns : Bool) where
   abbrev mutual
-    -- statements that stand where they may not stand, inside a loop or not: `leave` and `continue` outside loops, `output` outside
-    -- system methods, and `return` with or without a value against what the method returns
+    -- statements that stand where they may not stand, inside a loop or not: `leave` and `continue` outside loops, an `output`
+    -- that may not stand here, and `return` with or without a value against what the method returns
     pub misplaced_in : Bool → s.Statement → List Place
     misplaced_in loop (s.Leave keyword end) = place_unless loop keyword.place
     misplaced_in loop (s.Continue keyword end) = place_unless loop keyword.place

@@ -1,5 +1,6 @@
 -- How the statements of a method use names.
-use Rattle.std.specs.Prelude.{ℕ, Bool, true, bytes_eq, if◌then◌else◌, List, [], ◌∷◌, ◌++◌, map, is_some, Option, Some, None}
+use Rattle.std.specs.Prelude.{ℕ, Bool, true, bytes_eq, List, [], ◌∷◌, ◌++◌, map, is_some, Option, Some, None}
+use Rattle.std.specs.List.{find}
 use Rattle.ds2_base.specs.declared.place.Place.{Place}
 use Rattle.ds2_token.specs.declared.token.Token.{Token}
 use Rattle.ds2_tree.specs.Expressions.{Expression, Constant, Null, Variable, Member, Call, Parenthesis, Sign, Chain, Comparison, Not, Operands, NoOperand, Operand, Arguments, NoArgument, Argument}
@@ -47,8 +48,7 @@ first_place (Not operator operand) = operator.place
 
 -- the first method of this name
 abbrev pub method_named : List Method → List ℕ → Option Method
-method_named [] name = None
-method_named (m ∷ methods) name = if bytes_eq (spelled_name m.name) name then Some m else method_named methods name
+method_named methods name = find (λ (m : Method). bytes_eq (spelled_name m.name) name) methods
 
 -- for each parameter of a method whether it is in_out
 abbrev pub in_out_of : Option Method → List Bool

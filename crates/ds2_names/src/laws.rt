@@ -1,4 +1,5 @@
 //! Small sources and the refusals of their names.
+ghost use Rattle.ds2_names.specs.FurtherNameExamples.{FurtherNameExamples};
 ghost use Rattle.ds2_names.specs.InstanceExamples.{InstanceNameExamples, LimitExamples, UnitNameExamples};
 ghost use Rattle.ds2_names.specs.NameExamples.{NameExamples};
 ghost use Rattle.ds2_names.specs.RuleExamples.{OutputNameExamples, RuleNameExamples, UnknownThreadExamples};
@@ -36,4 +37,9 @@ pub fn rule_name_examples()
 /// What an unknown thread program leaves open.
 pub fn unknown_thread_examples()
     ensures { UnknownThreadExamples }
+{}
+
+/// Lists, in_out arguments, reading statements, calls and places of statements, in further small data programs.
+pub fn further_name_examples()
+    ensures { FurtherNameExamples }
 {}

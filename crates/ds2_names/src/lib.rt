@@ -9,5 +9,7 @@
 
 pub mod laws;
 mod placed;
+mod schemas;
 
-pub use placed::PlacedName;
+pub use placed::{OutputName, PlacedName};
+pub use schemas::{NamedSchema, Schemas};

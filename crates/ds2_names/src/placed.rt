@@ -9,3 +9,12 @@ pub struct PlacedName {
     pub name: Bytes,
     pub place: Place,
 }
+
+/// A column of an output.
+#[derive(Drop)]
+pub struct OutputName {
+    /// Its name, the new one where it is renamed.
+    pub name: Bytes,
+    /// The place of its new name, where it is renamed.
+    pub new_place: Option<Place>,
+}

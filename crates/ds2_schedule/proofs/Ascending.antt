@@ -1,12 +1,12 @@
--- Ascending lists: two with the same numbers_from are one.
+-- Ascending lists: two with the same range_with_len are one.
 use Rattle.std.proofs.Common.{◌≡◌, ℕ, zero, suc, ◌+◌, ◌-◌, ◌*◌, ◌<◌, ◌≤◌, List, [], ◌∷◌, ◌++◌, Bool, true, false, refl, sym, ap, ◌∙◌, arith, inl, inr, subst}
 use Rattle.std.specs.Prelude.{min, if◌then◌else◌, ◌==◌, nat_le}
-use Rattle.std.specs.List.{filter}
+use Rattle.std.specs.List.{filter, range_with_len}
 use Rattle.std.proofs.lemmas.Bool.Decides.{nat_tests}
 use Rattle.std.proofs.lemmas.Bool.{cases_lt, eq-eqb, eqb-true}
 use Rattle.std.proofs.lemmas.List.{append-nil}
 use Rattle.std.proofs.Math.Nat.{mul-le-mul_right}
-use Rattle.ds2_dealer.specs.Runs.{numbers_from, times}
+use Rattle.ds2_dealer.specs.Runs.{times}
 use Rattle.ds2_dealer.specs.Stage.{inserted, ascending}
 use Rattle.ds2_schedule.specs.Bags.{AreFrom, IsAscending, groups_of_runs}
 
@@ -61,11 +61,11 @@ pub ascending_is : (xs : List ℕ) → IsAscending (ascending xs)
 ascending_is [] = tt
 ascending_is (x ∷ xs) = ascending_placed x (ascending xs) (ascending_is xs)
 
-pub numbers_are_from : (b a n : ℕ) → b ≤ a → AreFrom b (numbers_from a n)
+pub numbers_are_from : (b a n : ℕ) → b ≤ a → AreFrom b (range_with_len a n)
 numbers_are_from b a zero h = tt
 numbers_are_from b a (suc n) h = (h, numbers_are_from b (a + 1) n (omega (arith, h)))
 
-pub numbers_ascend : (a n : ℕ) → IsAscending (numbers_from a n)
+pub numbers_ascend : (a n : ℕ) → IsAscending (range_with_len a n)
 numbers_ascend a zero = tt
 numbers_ascend a (suc n) = (numbers_are_from a (a + 1) n (omega arith), numbers_ascend (a + 1) n)
 
@@ -92,34 +92,34 @@ append_ascends z (x ∷ xs) ys h k low high =
     let below : x ≤ z = elim (cases_lt x z) [ inl t ↦ omega (arith, t) | inr t ↦ absurd (let n = low x t in omega (arith, n, times_head x xs)) ] in
     (append_from x xs ys h.0 (from_lower z x ys below high), append_ascends z xs ys h.1 k (λ y t. omega (arith, low y t)) high)
 
-pub numbers-append : (a n k : ℕ) → numbers_from a n ++ numbers_from (a + n) k ≡ numbers_from a (n + k)
+pub numbers-append : (a n k : ℕ) → range_with_len a n ++ range_with_len (a + n) k ≡ range_with_len a (n + k)
 numbers-append a zero k =
     let e : a + 0 ≡ a = omega arith in let f : 0 + k ≡ k = omega arith in
-    ap (λ (b : ℕ). numbers_from b k) e ∙ ap (numbers_from a) (sym f)
+    ap (λ (b : ℕ). range_with_len b k) e ∙ ap (range_with_len a) (sym f)
 numbers-append a (suc n) k =
     let e : a + suc n ≡ a + 1 + n = omega arith in let f : suc (n + k) ≡ suc n + k = omega arith in
-    ap (λ (b : ℕ). a ∷ (numbers_from (a + 1) n ++ numbers_from b k)) e ∙ ap (λ (t : List ℕ). a ∷ t) (numbers-append (a + 1) n k) ∙ ap (numbers_from a) f
+    ap (λ (b : ℕ). a ∷ (range_with_len (a + 1) n ++ range_with_len b k)) e ∙ ap (λ (t : List ℕ). a ∷ t) (numbers-append (a + 1) n k) ∙ ap (range_with_len a) f
 
 -- the groups of successive run_count are successive
-pub runs_numbers : (m l a n : ℕ) → groups_of_runs m l (numbers_from a n) ≡ numbers_from (a * l) (min m ((a + n) * l) - a * l)
+pub runs_numbers : (m l a n : ℕ) → groups_of_runs m l (range_with_len a n) ≡ range_with_len (a * l) (min m ((a + n) * l) - a * l)
 runs_numbers m l a zero =
     let e : min m ((a + 0) * l) - a * l ≡ 0 = omega arith in
-    sym (ap (numbers_from (a * l)) e)
+    sym (ap (range_with_len (a * l)) e)
 runs_numbers m l a (suc n) =
     let first = min m ((a + 1) * l) - a * l in
     let e : (a + 1) * l ≡ a * l + l = omega arith in
     let g : (a + 1 + n) * l ≡ (a + suc n) * l = ap (λ (k : ℕ). k * l) (omega arith) in
     let big : a * l + l ≤ (a + suc n) * l = omega (arith, mul-le-mul_right {m = a + 1} {n = a + suc n} l (omega arith), e) in
-    ap (λ (t : List ℕ). numbers_from (a * l) first ++ t) (runs_numbers m l (a + 1) n ∙ ap (λ (k : ℕ). numbers_from ((a + 1) * l) (min m k - (a + 1) * l)) g) ∙
+    ap (λ (t : List ℕ). range_with_len (a * l) first ++ t) (runs_numbers m l (a + 1) n ∙ ap (λ (k : ℕ). range_with_len ((a + 1) * l) (min m k - (a + 1) * l)) g) ∙
     elim (cases_lt m (a * l + l)) [
       | inl past ↦ (
           let no : min m ((a + suc n) * l) - (a + 1) * l ≡ 0 = omega (arith, past, e, big) in
           let f : first ≡ min m ((a + suc n) * l) - a * l = omega (arith, past, e, big) in
-          ap (λ (k : ℕ). numbers_from (a * l) first ++ numbers_from ((a + 1) * l) k) no ∙ append-nil (numbers_from (a * l) first) ∙ ap (numbers_from (a * l)) f)
+          ap (λ (k : ℕ). range_with_len (a * l) first ++ range_with_len ((a + 1) * l) k) no ∙ append-nil (range_with_len (a * l) first) ∙ ap (range_with_len (a * l)) f)
       | inr low ↦ (
           let f : (a + 1) * l ≡ a * l + first = omega (arith, low, e) in
           let s : first + (min m ((a + suc n) * l) - (a + 1) * l) ≡ min m ((a + suc n) * l) - a * l = omega (arith, low, e, big) in
-          ap (λ (k : ℕ). numbers_from (a * l) first ++ numbers_from k (min m ((a + suc n) * l) - (a + 1) * l)) f ∙ numbers-append (a * l) first (min m ((a + suc n) * l) - (a + 1) * l) ∙ ap (numbers_from (a * l)) s)
+          ap (λ (k : ℕ). range_with_len (a * l) first ++ range_with_len k (min m ((a + suc n) * l) - (a + 1) * l)) f ∙ numbers-append (a * l) first (min m ((a + suc n) * l) - (a + 1) * l) ∙ ap (range_with_len (a * l)) s)
     ]
 
 kept_head : (b c : Bool) (x y : ℕ) (kept ys : List ℕ) → b ≡ b → (y == x) ≡ c → times x kept ≡ times x ys → ((y == x) ≡ true → b ≡ true) → times x (if b then y ∷ kept else kept) ≡ times x (y ∷ ys)

@@ -1,13 +1,14 @@
 -- The history that bags stand for is legal and complete.
 use Rattle.std.proofs.Common.{◌≡◌, ℕ, zero, suc, ◌+◌, ◌-◌, ◌*◌, ◌<◌, ◌≤◌, List, [], ◌∷◌, ◌++◌, Bool, true, false, refl, sym, ap, ◌∙◌, subst, arith, inl, inr, length}
+use Rattle.std.specs.List.{range_with_len, concat}
 use Rattle.std.specs.Prelude.{Some, ◌⊎◌, ◌&&◌, ◌||◌, not, min, map, replicate, slice_get, if◌then◌else◌, ◌==◌, nat_lt}
 use Rattle.std.proofs.lemmas.List.Folds.{list_any-append}
 use Rattle.std.proofs.lemmas.List.{map-append, append-nil, append_assoc, length-append, length-replicate, replicate-append-replicate}
 use Rattle.std.proofs.lemmas.Bool.{cases_eq, cases_lt, eqb-true}
 use Rattle.std.proofs.lemmas.Bool.Decides.{nat_tests}
 use Rattle.std.proofs.Math.Nat.{mul-le-mul_right}
-use Rattle.ds2_dealer.specs.Runs.{numbers_from, run_length, run_count, run_groups, times, once_below}
-use Rattle.ds2_dealer.specs.Stage.{HandIn, Stage, StageStep, Draws, HandsIn, Retakes, changed_at, without_next, in_one_list, ascending, has_faulted, some_fault, fault_below, after_step, opening_stage, after_steps, group_of}
+use Rattle.ds2_dealer.specs.Runs.{run_length, run_count, run_groups, times, once_below}
+use Rattle.ds2_dealer.specs.Stage.{HandIn, Stage, StageStep, Draws, HandsIn, Retakes, changed_at, without_next, ascending, has_faulted, some_fault, fault_below, after_step, opening_stage, after_steps, group_of}
 use Rattle.ds2_dealer.specs.Sums.{has_fault_at}
 use Rattle.ds2_dealer.proofs.Legal.{IsLegalStep, AreLegal, IsCompleteStage, left_of, are_legal_of, is_complete_of, and_true, or_true, or_left, or_right}
 use Rattle.ds2_schedule.specs.Bags.{GroupRun, Bag, group_in, numbers_in, groups_in, groups_of_runs, is_among, AreFrom, IsAscending, OnlyLastFaults, IsBag, AreBags, owner, worker_draws, caller_draws, run_hand_ins, all_hand_ins, history, handed_by, all_handed, missing, StageHasEnded, AreWhole, EndedIsComplete, WholeBagsHaveAll}
@@ -38,7 +39,7 @@ goes_append m l workers s t u (x ∷ xs) ys h k =
 goes_sound : (m l workers : ℕ) (s t : Stage) (xs : List StageStep) → Sound m l workers s → Goes m l workers s xs t → Sound m l workers t
 goes_sound m l workers s t xs h g = subst (Sound m l workers) g.ends (sound_all m l workers s xs h g.legal)
 
--- the numbers_from below k
+-- the range_with_len below k
 abbrev below : ℕ → List ℕ → List ℕ
 below k [] = []
 below k (x ∷ xs) = if nat_lt x k then x ∷ below k xs else below k xs
@@ -131,14 +132,14 @@ lefts m l k (b ∷ bs) = groups_of_runs m l (below k b.drawn) ∷ lefts m l k bs
 two_lists : (xs ys : List ℕ) (ls rs : List (List ℕ)) → xs ≡ ys → ls ≡ rs → xs ∷ ls ≡ ys ∷ rs
 two_lists xs ys ls rs e f = λ i. e i ∷ f i
 
-lefts_same : (m l k : ℕ) (bags : List Bag) → times k (in_one_list (map numbers_in bags)) ≡ 0 → lefts m l (k + 1) bags ≡ lefts m l k bags
+lefts_same : (m l k : ℕ) (bags : List Bag) → times k (concat (map numbers_in bags)) ≡ 0 → lefts m l (k + 1) bags ≡ lefts m l k bags
 lefts_same m l k [] h = refl
 lefts_same m l k (b ∷ bs) h =
-    let t = times-append k b.drawn (in_one_list (map numbers_in bs)) in
+    let t = times-append k b.drawn (concat (map numbers_in bs)) in
     two_lists _ _ _ _ (ap (groups_of_runs m l) (below_same k b.drawn (omega (arith, t, h)))) (lefts_same m l k bs (omega (arith, t, h)))
 
-owned : (m l k : ℕ) (b : Bag) (bs : List Bag) (post : List (List ℕ)) (c : Bool) → is_among k b.drawn ≡ c → IsBag m l b → times k b.drawn + times k (in_one_list (map numbers_in bs)) ≡ 1
-    → (times k (in_one_list (map numbers_in bs)) ≡ 1 → (changed_at (λ gs. gs ++ run_groups m l k) (lefts m l k bs ++ post) (owner k bs) ≡ lefts m l (k + 1) bs ++ post) × (owner k bs < length bs))
+owned : (m l k : ℕ) (b : Bag) (bs : List Bag) (post : List (List ℕ)) (c : Bool) → is_among k b.drawn ≡ c → IsBag m l b → times k b.drawn + times k (concat (map numbers_in bs)) ≡ 1
+    → (times k (concat (map numbers_in bs)) ≡ 1 → (changed_at (λ gs. gs ++ run_groups m l k) (lefts m l k bs ++ post) (owner k bs) ≡ lefts m l (k + 1) bs ++ post) × (owner k bs < length bs))
     → (changed_at (λ gs. gs ++ run_groups m l k) (lefts m l k (b ∷ bs) ++ post) (if c then 0 else suc (owner k bs)) ≡ lefts m l (k + 1) (b ∷ bs) ++ post) × ((if c then 0 else suc (owner k bs)) < suc (length bs))
 owned m l k b bs post true e bag one rest =
     let some = among k b.drawn e in (
@@ -152,11 +153,11 @@ owned m l k b bs post false e bag one rest =
       omega (arith, r.1),
     )
 
-drawn_step : (m l k : ℕ) (bags : List Bag) (post : List (List ℕ)) → AreBags m l bags → times k (in_one_list (map numbers_in bags)) ≡ 1
+drawn_step : (m l k : ℕ) (bags : List Bag) (post : List (List ℕ)) → AreBags m l bags → times k (concat (map numbers_in bags)) ≡ 1
     → (changed_at (λ gs. gs ++ run_groups m l k) (lefts m l k bags ++ post) (owner k bags) ≡ lefts m l (k + 1) bags ++ post) × (owner k bags < length bags)
 drawn_step m l k [] post h one = absurd (omega (arith, one))
 drawn_step m l k (b ∷ bs) post h one =
-    owned m l k b bs post (is_among k b.drawn) refl h.0 (omega (arith, one, times-append k b.drawn (in_one_list (map numbers_in bs)))) (λ t. drawn_step m l k bs post h.1 t)
+    owned m l k b bs post (is_among k b.drawn) refl h.0 (omega (arith, one, times-append k b.drawn (concat (map numbers_in bs)))) (λ t. drawn_step m l k bs post h.1 t)
 
 abbrev state : ℕ → List (List ℕ) → List HandIn → Stage
 state d left handed = record { drawn = d; left = left; handed = handed }
@@ -164,11 +165,11 @@ state d left handed = record { drawn = d; left = left; handed = handed }
 same_state : (d : ℕ) (ls rs : List (List ℕ)) (handed : List HandIn) → ls ≡ rs → state d ls handed ≡ state d rs handed
 same_state d ls rs handed e = ap (λ (t : List (List ℕ)). state d t handed) e
 
-draws_go : (m l workers k n word : ℕ) (bags : List Bag) → length bags ≡ workers → AreBags m l bags → ((x : ℕ) → times x (in_one_list (map numbers_in bags)) ≡ once_below x word) → k + n ≡ word
+draws_go : (m l workers k n word : ℕ) (bags : List Bag) → length bags ≡ workers → AreBags m l bags → ((x : ℕ) → times x (concat (map numbers_in bags)) ≡ once_below x word) → k + n ≡ word
     → Goes m l workers (state k (lefts m l k bags ++ [] ∷ []) []) (worker_draws bags k n) (state word (lefts m l word bags ++ [] ∷ []) [])
 draws_go m l workers k zero word bags many h once is = goes_nil m l workers _ _ (let e : k ≡ word = omega (arith, is) in ap (λ (j : ℕ). state j (lefts m l j bags ++ [] ∷ []) []) e)
 draws_go m l workers k (suc n) word bags many h once is =
-    let one : times k (in_one_list (map numbers_in bags)) ≡ 1 = (let o = once k in grind (arith, nat_tests, o, is)) in
+    let one : times k (concat (map numbers_in bags)) ≡ 1 = (let o = once k in grind (arith, nat_tests, o, is)) in
     let d = drawn_step m l k bags ([] ∷ []) h one in
     goes_step m l workers _ (state (k + 1) (lefts m l (k + 1) bags ++ [] ∷ []) []) _ (Draws (owner k bags) k) (worker_draws bags (k + 1) n)
     (omega (arith, d.1, many), refl)
@@ -189,11 +190,11 @@ abbrev wholes : ℕ → ℕ → List Bag → List (List ℕ)
 wholes m l [] = []
 wholes m l (b ∷ bs) = groups_of_runs m l b.drawn ∷ wholes m l bs
 
-lefts_all : (m l word : ℕ) (bags : List Bag) → ((x : ℕ) → word ≤ x → times x (in_one_list (map numbers_in bags)) ≡ 0) → lefts m l word bags ≡ wholes m l bags
+lefts_all : (m l word : ℕ) (bags : List Bag) → ((x : ℕ) → word ≤ x → times x (concat (map numbers_in bags)) ≡ 0) → lefts m l word bags ≡ wholes m l bags
 lefts_all m l word [] h = refl
 lefts_all m l word (b ∷ bs) h = two_lists _ _ _ _
-    (ap (groups_of_runs m l) (below_all word b.drawn (λ x t. omega (arith, h x t, times-append x b.drawn (in_one_list (map numbers_in bs))))))
-    (lefts_all m l word bs (λ x t. omega (arith, h x t, times-append x b.drawn (in_one_list (map numbers_in bs)))))
+    (ap (groups_of_runs m l) (below_all word b.drawn (λ x t. omega (arith, h x t, times-append x b.drawn (concat (map numbers_in bs))))))
+    (lefts_all m l word bs (λ x t. omega (arith, h x t, times-append x b.drawn (concat (map numbers_in bs)))))
 
 module _ {A : Type 0} where
   get_at : (pre post : List A) (a : A) → slice_get (pre ++ a ∷ post) (length pre) ≡ Some a
@@ -271,7 +272,7 @@ workers_go m l workers w d (b ∷ bs) h pre post handed at calm =
 
 -- one party worker_draws
 own_go : (m l workers w a n : ℕ) (pre : List (List ℕ)) (gs : List ℕ) (handed : List HandIn) → length pre ≡ w → w ≤ workers
-    → Goes m l workers (state a (pre ++ gs ∷ []) handed) (caller_draws w a n) (state (a + n) (pre ++ (gs ++ groups_of_runs m l (numbers_from a n)) ∷ []) handed)
+    → Goes m l workers (state a (pre ++ gs ∷ []) handed) (caller_draws w a n) (state (a + n) (pre ++ (gs ++ groups_of_runs m l (range_with_len a n)) ∷ []) handed)
 own_go m l workers w a zero pre gs handed at low = goes_nil m l workers _ _ (let e : a ≡ a + 0 = omega arith in λ i. state (e i) (pre ++ sym (append-nil gs) i ∷ []) handed)
 own_go m l workers w a (suc n) pre gs handed at low =
     let e : a + 1 + n ≡ a + suc n = omega arith in
@@ -279,14 +280,14 @@ own_go m l workers w a (suc n) pre gs handed at low =
     (low, refl)
     (same_state (a + 1) _ _ handed (ap (changed_at (λ hs. hs ++ run_groups m l a) (pre ++ gs ∷ [])) (sym at) ∙ change_at (λ hs. hs ++ run_groups m l a) pre [] gs))
     (subst (λ (t : Stage). Goes m l workers (state (a + 1) (pre ++ (gs ++ run_groups m l a) ∷ []) handed) (caller_draws w (a + 1) n) t)
-    (λ i. state (e i) (pre ++ append_assoc gs (run_groups m l a) (groups_of_runs m l (numbers_from (a + 1) n)) i ∷ []) handed)
+    (λ i. state (e i) (pre ++ append_assoc gs (run_groups m l a) (groups_of_runs m l (range_with_len (a + 1) n)) i ∷ []) handed)
     (own_go m l workers w (a + 1) n pre (gs ++ run_groups m l a) handed at low))
 
 entries_groups : (w : ℕ) (dones : List GroupRun) → map group_of (handed_by w dones) ≡ map group_in dones
 entries_groups w [] = refl
 entries_groups w (x ∷ xs) = ap (λ (t : List ℕ). x.group ∷ t) (entries_groups w xs)
 
-all_groups : (w : ℕ) (bags : List Bag) → map group_of (all_handed w bags) ≡ in_one_list (map groups_in bags)
+all_groups : (w : ℕ) (bags : List Bag) → map group_of (all_handed w bags) ≡ concat (map groups_in bags)
 all_groups w [] = refl
 all_groups w (b ∷ bs) = map-append group_of (handed_by w b.runs) (all_handed (w + 1) bs) ∙ (λ i. entries_groups w b.runs i ++ all_groups (w + 1) bs i)
 
@@ -310,41 +311,41 @@ once_zero x = grind (arith, nat_tests)
 none_past : (x n : ℕ) → n ≤ x → once_below x n ≡ 0
 none_past x n h = grind (arith, nat_tests)
 
-missing_zero : (x z : ℕ) (bags : List Bag) (c : Bool) → is_among x (in_one_list (map groups_in bags)) ≡ c → 1 ≤ times x (in_one_list (map groups_in bags)) → times x (missing bags z) ≡ 0
-missing_zero x z bags true e h = times_dropped (λ g. not (is_among g (in_one_list (map groups_in bags)))) x (numbers_from 0 z) (ap not e)
-missing_zero x z bags false e h = absurd (omega (arith, h, not_among x (in_one_list (map groups_in bags)) e))
+missing_zero : (x z : ℕ) (bags : List Bag) (c : Bool) → is_among x (concat (map groups_in bags)) ≡ c → 1 ≤ times x (concat (map groups_in bags)) → times x (missing bags z) ≡ 0
+missing_zero x z bags true e h = times_dropped (λ g. not (is_among g (concat (map groups_in bags)))) x (range_with_len 0 z) (ap not e)
+missing_zero x z bags false e h = absurd (omega (arith, h, not_among x (concat (map groups_in bags)) e))
 
-missing_le : (x z : ℕ) (bags : List Bag) (c : Bool) → is_among x (in_one_list (map groups_in bags)) ≡ c → times x (missing bags z) ≤ 1
-missing_le x z bags true e = let none = times_dropped (λ g. not (is_among g (in_one_list (map groups_in bags)))) x (numbers_from 0 z) (ap not e) in omega (arith, none)
+missing_le : (x z : ℕ) (bags : List Bag) (c : Bool) → is_among x (concat (map groups_in bags)) ≡ c → times x (missing bags z) ≤ 1
+missing_le x z bags true e = let none = times_dropped (λ g. not (is_among g (concat (map groups_in bags)))) x (range_with_len 0 z) (ap not e) in omega (arith, none)
 missing_le x z bags false e =
-    let kept = times_kept (λ g. not (is_among g (in_one_list (map groups_in bags)))) x (numbers_from 0 z) (ap not e) in
+    let kept = times_kept (λ g. not (is_among g (concat (map groups_in bags)))) x (range_with_len 0 z) (ap not e) in
     omega (arith, kept, times_numbers x 0 z, once_le x (0 + z))
 
-missing_none : (x z : ℕ) (bags : List Bag) → 1 ≤ times x (in_one_list (map groups_in bags)) → times x (missing bags z) ≡ 0
-missing_none x z bags h = missing_zero x z bags (is_among x (in_one_list (map groups_in bags))) refl h
+missing_none : (x z : ℕ) (bags : List Bag) → 1 ≤ times x (concat (map groups_in bags)) → times x (missing bags z) ≡ 0
+missing_none x z bags h = missing_zero x z bags (is_among x (concat (map groups_in bags))) refl h
 
-missing_times : (x z left : ℕ) (bags : List Bag) (c : Bool) → is_among x (in_one_list (map groups_in bags)) ≡ c → left + times x (in_one_list (map groups_in bags)) ≡ once_below x z → left ≡ times x (missing bags z)
+missing_times : (x z left : ℕ) (bags : List Bag) (c : Bool) → is_among x (concat (map groups_in bags)) ≡ c → left + times x (concat (map groups_in bags)) ≡ once_below x z → left ≡ times x (missing bags z)
 missing_times x z left bags true e o =
-    let none = times_dropped (λ g. not (is_among g (in_one_list (map groups_in bags)))) x (numbers_from 0 z) (ap not e) in
-    omega (arith, none, among x (in_one_list (map groups_in bags)) e, o, once_le x z)
+    let none = times_dropped (λ g. not (is_among g (concat (map groups_in bags)))) x (range_with_len 0 z) (ap not e) in
+    omega (arith, none, among x (concat (map groups_in bags)) e, o, once_le x z)
 missing_times x z left bags false e o =
-    let kept = times_kept (λ g. not (is_among g (in_one_list (map groups_in bags)))) x (numbers_from 0 z) (ap not e) in
+    let kept = times_kept (λ g. not (is_among g (concat (map groups_in bags)))) x (range_with_len 0 z) (ap not e) in
     let f : 0 + z ≡ z = omega arith in
-    omega (arith, kept, times_numbers x 0 z, once_zero x, ap (once_below x) f, not_among x (in_one_list (map groups_in bags)) e, o)
+    omega (arith, kept, times_numbers x 0 z, once_zero x, ap (once_below x) f, not_among x (concat (map groups_in bags)) e, o)
 
 -- what stands in the caller's list are the missing groups
 left_is_missing : (m l workers word n : ℕ) (bags : List Bag) (gs : List ℕ) (handed : List HandIn) → Sound m l workers (state word (replicate workers [] ++ gs ∷ []) handed)
-    → Sound m l workers (state (word + n) (replicate workers [] ++ (gs ++ groups_of_runs m l (numbers_from word n)) ∷ []) handed) → IsAscending gs → map group_of handed ≡ in_one_list (map groups_in bags)
-    → gs ++ groups_of_runs m l (numbers_from word n) ≡ missing bags (min m ((word + n) * l))
+    → Sound m l workers (state (word + n) (replicate workers [] ++ (gs ++ groups_of_runs m l (range_with_len word n)) ∷ []) handed) → IsAscending gs → map group_of handed ≡ concat (map groups_in bags)
+    → gs ++ groups_of_runs m l (range_with_len word n) ≡ missing bags (min m ((word + n) * l))
 left_is_missing m l workers word n bags gs handed before now ascends groups =
-    let own = groups_of_runs m l (numbers_from word n) in
+    let own = groups_of_runs m l (range_with_len word n) in
     let z = min m ((word + n) * l) in
     let count = min m ((word + n) * l) - word * l in
     let low : (x : ℕ) → word * l ≤ x → times x gs ≡ 0 = λ x high. omega (arith, before.once x, left_last x workers gs, none_past x (min m (word * l)) (omega (arith, high))) in
     let whole = append_ascends (word * l) gs own ascends (subst IsAscending (sym (runs_numbers m l word n)) (numbers_ascend (word * l) count)) low
     (subst (AreFrom (word * l)) (sym (runs_numbers m l word n)) (numbers_are_from (word * l) (word * l) count (omega arith))) in
-    same_list (gs ++ own) (missing bags z) whole (filter_ascends (λ g. not (is_among g (in_one_list (map groups_in bags)))) (numbers_from 0 z) (numbers_ascend 0 z))
-    (λ x. missing_times x z (times x (gs ++ own)) bags (is_among x (in_one_list (map groups_in bags))) refl
+    same_list (gs ++ own) (missing bags z) whole (filter_ascends (λ g. not (is_among g (concat (map groups_in bags)))) (range_with_len 0 z) (numbers_ascend 0 z))
+    (λ x. missing_times x z (times x (gs ++ own)) bags (is_among x (concat (map groups_in bags))) refl
     (omega (arith, now.once x, left_last x workers (gs ++ own), ap (times x) groups)))
 
 pub ended_goes : (m workers : ℕ) (bags : List Bag) (word n : ℕ) (more : List GroupRun) (h : StageHasEnded m workers bags word n more)
@@ -355,10 +356,10 @@ ended_goes m workers bags word n more h =
     let back = none ∷ [] in
     let left = rests m l bags h.bags_are ++ back in
     let handed = all_handed 0 bags in
-    let gs = ascending (in_one_list left) in
-    let own = groups_of_runs m l (numbers_from word n) in
+    let gs = ascending (concat left) in
+    let own = groups_of_runs m l (range_with_len word n) in
     let empty = replicate workers none in
-    let drawn : (x : ℕ) → word ≤ x → times x (in_one_list (map numbers_in bags)) ≡ 0 = λ x high. h.numbers_once x ∙ none_past x word high in
+    let drawn : (x : ℕ) → word ≤ x → times x (concat (map numbers_in bags)) ≡ 0 = λ x high. h.numbers_once x ∙ none_past x word high in
     let one = subst (λ (s : Stage). Goes m l workers s (worker_draws bags 0 word) (state word (lefts m l word bags ++ back) [])) (sym (start_is m l workers bags h.number))
     (draws_go m l workers 0 word word bags h.number h.bags_are h.numbers_once (omega arith)) in
     let one_whole = subst (λ (t : List (List ℕ)). Goes m l workers (opening_stage workers) (worker_draws bags 0 word) (state word (t ++ back) [])) (lefts_all m l word bags drawn) one in
@@ -371,7 +372,7 @@ ended_goes m workers bags word n more h =
     let taken = goes_append m l workers _ _ _ (worker_draws bags 0 word ++ all_hand_ins 0 bags) (Retakes ∷ []) first three in
     let before = goes_sound m l workers _ _ _ (sound_start m l workers) taken in
     let now = goes_sound m l workers _ _ _ before four in
-    let is = left_is_missing m l workers word n bags gs handed before now (ascending_is (in_one_list left)) (all_groups 0 bags) ∙ sym h.begins in
+    let is = left_is_missing m l workers word n bags gs handed before now (ascending_is (concat left)) (all_groups 0 bags) ∙ sym h.begins in
     let five = party_goes m l workers workers (word + n) more h.rest empty [] handed (length-replicate workers none) h.faults
     (λ e es eq. all_calm workers 0 bags [] (omega (arith, h.number)) refl) in
     let last = goes_append m l workers _ _ _ (caller_draws workers word n) (run_hand_ins workers more)
@@ -381,7 +382,7 @@ ended_goes m workers bags word n more h =
     (goes_append m l workers _ _ _ (all_hand_ins 0 bags) (Retakes ∷ (caller_draws workers word n ++ run_hand_ins workers more)) two from_taking)
 
 missing_once : (x z : ℕ) (bags : List Bag) → times x (missing bags z) ≤ 1
-missing_once x z bags = missing_le x z bags (is_among x (in_one_list (map groups_in bags))) refl
+missing_once x z bags = missing_le x z bags (is_among x (concat (map groups_in bags))) refl
 
 -- a fault among the first groups is below those that follow
 lower_fault : (w g : ℕ) (dones : List GroupRun) (rest : List ℕ) → IsAscending (map group_in dones ++ rest) → ((x : ℕ) → times x (map group_in dones ++ rest) ≤ 1) → 1 ≤ times g rest
@@ -431,7 +432,7 @@ above m workers bags word n more h g there =
       | inl t ↦ absurd (omega (arith, there, ap (times g) t.0))
       | inr t ↦ elim t [
         | inl own_fault ↦ fault_below_more g bagged own (or_right (fault_below g bagged) (fault_below g own) (lower_fault workers g more h.rest
-            (subst IsAscending (sym h.begins) (filter_ascends (λ k. not (is_among k (in_one_list (map groups_in bags)))) (numbers_from 0 z) (numbers_ascend 0 z)))
+            (subst IsAscending (sym h.begins) (filter_ascends (λ k. not (is_among k (concat (map groups_in bags)))) (range_with_len 0 z) (numbers_ascend 0 z)))
             (λ x. omega (arith, ap (times x) h.begins, missing_once x z bags)) there own_fault))
         | inr f ↦ fault_below_more g bagged own (or_left (fault_below g bagged) (fault_below g own) (
             let low : f.0 < g = elim (cases_lt f.0 g) [
@@ -439,7 +440,7 @@ above m workers bags word n more h g there =
               | inr high ↦ absurd (elim (cases_eq f.0 g) [
                 | inl same ↦ (
                     let b = bag_fault f.0 (f.0 + 1) bagged (omega arith) f.1 in
-                    let o = missing_none g z bags (omega (arith, b.2, ap (times f.0) (all_groups 0 bags), ap (λ (k : ℕ). times k (in_one_list (map groups_in bags))) same)) in
+                    let o = missing_none g z bags (omega (arith, b.2, ap (times f.0) (all_groups 0 bags), ap (λ (k : ℕ). times k (concat (map groups_in bags))) same)) in
                     omega (arith, there, o, ap (times g) h.begins, times-append g (map group_in more) h.rest))
                 | inr apart ↦ (let none = none_lower f.0 g h.rest f.2 (omega (arith, high, apart)) in omega (arith, none, there))
               ])
@@ -473,13 +474,13 @@ ended_is_complete m workers bags word n more h =
     let xs = history workers bags word n more in
     (are_legal_of m l workers (opening_stage workers) xs f.0, is_complete_of m l (after_steps m l workers (opening_stage workers) xs) f.1)
 
-wholes_are : (m l : ℕ) (bags : List Bag) → AreWhole m l bags → in_one_list (wholes m l bags) ≡ in_one_list (map groups_in bags)
+wholes_are : (m l : ℕ) (bags : List Bag) → AreWhole m l bags → concat (wholes m l bags) ≡ concat (map groups_in bags)
 wholes_are m l [] h = refl
 wholes_are m l (b ∷ bs) h = λ i. sym h.0 i ++ wholes_are m l bs h.1 i
 
-joined_back : (xss : List (List ℕ)) (x : ℕ) → times x (in_one_list (xss ++ [] ∷ [])) ≡ times x (in_one_list xss)
+joined_back : (xss : List (List ℕ)) (x : ℕ) → times x (concat (xss ++ [] ∷ [])) ≡ times x (concat xss)
 joined_back [] x = refl
-joined_back (xs ∷ xss) x = omega (arith, joined_back xss x, times-append x xs (in_one_list (xss ++ [] ∷ [])), times-append x xs (in_one_list xss))
+joined_back (xs ∷ xss) x = omega (arith, joined_back xss x, times-append x xs (concat (xss ++ [] ∷ [])), times-append x xs (concat xss))
 
 pub whole_bags : WholeBagsHaveAll
 whole_bags m workers bags word d number once bags_are whole drew past g =

@@ -1,8 +1,9 @@
 -- A stage on many workers gives what its loads in turn give on one thread.
 use Rattle.std.proofs.Common.{◌≡◌, ℕ, suc, ◌+◌, List, [], ◌∷◌, ◌++◌, Bool, true, false, refl, sym, ap, ◌∙◌, subst, arith, length}
+use Rattle.std.specs.List.{flat_map}
 use Rattle.std.specs.Prelude.{Option, Some, None, slice_get}
 use Rattle.ds2_schedule.specs.Schedule.{FixedPart, Agree, AreIndependent, up_to_fault, one_thread}
-use Rattle.ds2_schedule.specs.Groups.{UnitRun, Normally, ByFault, StageUnits, IsJoining, with_before, then_from, run_loads, stage_run, all_loads, IsSameRun, IsSameEnd, SameButEarly, AreSameButEarly, IsGroupIndependent, IsAmongGroups, Given, given_by, state_left, loads_of, stage_program, in_front_of, put_together, EveryStage}
+use Rattle.ds2_schedule.specs.Groups.{UnitRun, Normally, ByFault, StageUnits, IsJoining, with_before, then_from, run_loads, stage_run, IsSameRun, IsSameEnd, SameButEarly, AreSameButEarly, IsGroupIndependent, IsAmongGroups, Given, given_by, state_left, loads_of, stage_program, in_front_of, put_together, EveryStage}
 use Rattle.ds2_schedule.proofs.Schedule.{every_schedule_is}
 
 same_load : {K V : Type 0} (early : K → Bool) (l : List (K × V)) → SameButEarly early l l
@@ -89,7 +90,7 @@ module _ {S K C V O : Type 0} (u : StageUnits S (List (K × V)) O) (rows : O →
   }
 
   in_turn : (first s : S) (rest : List (List (List (K × V)))) (g : ℕ) → ((k : ℕ) → slice_get groups (g + k) ≡ slice_get rest k) → Agree fixed s first
-      → put_together u (one_thread (stage_program u rows budget groups) s g (length rest)) (given_by (u.term budget first)) ≡ given_by (stage_run u budget (all_loads rest) s)
+      → put_together u (one_thread (stage_program u rows budget groups) s g (length rest)) (given_by (u.term budget first)) ≡ given_by (stage_run u budget (flat_map (λ g. g) rest) s)
   in_turn first s [] g at same =
       same_end (Agree fixed) (u.term budget first) (u.term budget s) (free.terms budget first s (λ k is. sym (same k is)))
       ∙ ap given_by (sym (nothing_before u joins (u.term budget s)))
@@ -99,13 +100,13 @@ module _ {S K C V O : Type 0} (u : StageUnits S (List (K × V)) O) (rows : O →
       let last = given_by (u.term budget first) in
       let x = run_loads u budget loads s in
       let here : slice_get groups g ≡ Some loads = subst (λ (k : ℕ). slice_get groups k ≡ Some loads) (omega arith) (at 0) in
-      let go : S → UnitRun S O = λ t. stage_run u budget (all_loads rest) t in
+      let go : S → UnitRun S O = λ t. stage_run u budget (flat_map (λ g. g) rest) t in
       let kept = result_kept g (Some loads) s here in
       ap (λ (o : Option (List (List (K × V)))). put_together u (up_to_fault (given_by (run_loads u budget (loads_of o) s)).faulted (given_by (run_loads u budget (loads_of o) s)) (one_thread p (state_left s (run_loads u budget (loads_of o) s)) (g + 1) n)) last) here
       ∙ group_first u joins s x (λ t. one_thread p t (g + 1) n) last go (λ t o is.
       in_turn first t rest (g + 1) (λ k. subst (λ (j : ℕ). slice_get groups j ≡ slice_get rest k) (omega arith) (at (suc k)))
       (λ k fix. ap (λ (y : UnitRun S O). fixed.content (state_left s y) k) (sym is) ∙ kept k fix ∙ same k fix))
-      ∙ ap given_by (sym (ap (λ (y : UnitRun S O). then_from u y (u.term budget)) (run_append u joins budget loads (all_loads rest) s) ∙ then_then u joins x (run_loads u budget (all_loads rest)) (u.term budget)))
+      ∙ ap given_by (sym (ap (λ (y : UnitRun S O). then_from u y (u.term budget)) (run_append u joins budget loads (flat_map (λ g. g) rest) s) ∙ then_then u joins x (run_loads u budget (flat_map (λ g. g) rest)) (u.term budget)))
 
 pub every_stage : (S K C V O : Type 0) → EveryStage S K C V O
 every_stage S K C V O u rows fixed early budget groups workers first xs joins free legal carried_so complete =

@@ -1,14 +1,14 @@
 -- Whatever the order of the steps, each result is the one from the first state, and no group below the least fault is lost.
 use Rattle.std.proofs.Common.{◌≡◌, ℕ, zero, suc, ◌+◌, ◌*◌, ◌<◌, ◌≤◌, List, [], ◌∷◌, ◌++◌, Bool, true, false, refl, sym, ap, ◌∙◌, subst, arith, inl, inr}
 use Rattle.std.specs.Prelude.{Option, Some, ◌⊎◌, ◌&&◌, ◌||◌, map, replicate, slice_get, if◌then◌else◌, ◌==◌, nat_lt}
-use Rattle.std.specs.List.{list_any}
+use Rattle.std.specs.List.{list_any, concat}
 use Rattle.std.proofs.lemmas.List.Folds.{list_any-append}
 use Rattle.std.proofs.lemmas.List.{map-append, append-nil, append_assoc}
 use Rattle.std.proofs.lemmas.Bool.{cases_eq, cases_lt, eq-eqb, eqb-true}
 use Rattle.std.proofs.lemmas.Bool.Decides.{nat_tests}
 use Rattle.std.proofs.Math.Nat.{mul-le-mul_right}
 use Rattle.ds2_dealer.specs.Runs.{run_length, times}
-use Rattle.ds2_dealer.specs.Stage.{HandIn, Stage, StageStep, Draws, HandsIn, Retakes, changed_at, in_one_list, has_faulted, some_fault, fault_below, after_step, opening_stage, after_steps, replay, group_of}
+use Rattle.ds2_dealer.specs.Stage.{HandIn, Stage, StageStep, Draws, HandsIn, Retakes, changed_at, has_faulted, some_fault, fault_below, after_step, opening_stage, after_steps, replay, group_of}
 use Rattle.ds2_dealer.proofs.Legal.{IsLegalStep, AreLegal, IsCompleteStage, legal_steps, complete_stage, or_true, and_true}
 use Rattle.ds2_dealer.proofs.Steps.{sound_all, sound_start}
 use Rattle.ds2_dealer.proofs.Runs.{enough, one_at_least}
@@ -178,7 +178,7 @@ module _ {S O : Type 0} (agrees : S → S → Type 0) (p : GroupProgram S O) (fr
         | inr e ↦ (let f = fault_at first s.handed all.0 e in let o = sound.once f.0 in let n : (f.0 < k → ⊥) = (λ less. quiet f.0 less f.2) in grind (arith, nat_tests, f.1, o, n))
       ] in
       let o = sound.once k in
-      let here : 1 ≤ times k (map group_of s.handed) = elim (cases_lt 0 (times k (in_one_list s.left))) [
+      let here : 1 ≤ times k (map group_of s.handed) = elim (cases_lt 0 (times k (concat s.left))) [
         | inr none ↦ grind (arith, nat_tests, o, none, reached, low)
         | inl some ↦ absurd (let f = lower_fault first k s.handed all.0 (complete.1 k (omega (arith, some))) in quiet f.0 f.1 f.2)
       ] in

@@ -1,8 +1,8 @@
 -- What workers and the caller have when a stage has ended, and the history that it stands for.
 use Rattle.std.specs.Prelude.{◌≡◌, ℕ, zero, suc, ◌+◌, ◌*◌, ◌<◌, ◌≤◌, List, [], ◌∷◌, ◌++◌, Bool, true, not, ◌⊎◌, length, map, min, if◌then◌else◌, ◌==◌}
-use Rattle.std.specs.List.{list_any, filter}
-use Rattle.ds2_dealer.specs.Runs.{numbers_from, run_length, run_count, run_groups, times, once_below}
-use Rattle.ds2_dealer.specs.Stage.{HandIn, StageStep, Draws, HandsIn, Retakes, in_one_list, some_fault, is_legal, is_complete}
+use Rattle.std.specs.List.{AllByRecursion, list_any, filter, flat_map, range_with_len, concat}
+use Rattle.ds2_dealer.specs.Runs.{run_length, run_count, run_groups, times, once_below}
+use Rattle.ds2_dealer.specs.Stage.{HandIn, StageStep, Draws, HandsIn, Retakes, some_fault, is_legal, is_complete}
 use Rattle.ds2_dealer.specs.Sums.{has_fault_at}
 use Rattle.ds2_schedule.specs.Schedule.{GroupProgram, FixedPart, Agree, AreIndependent, IsCarried, in_order, one_thread}
 
@@ -31,8 +31,7 @@ groups_in b = map group_in b.runs
 
 -- The groups of several runs, where runs have l of the m groups.
 abbrev pub groups_of_runs : ℕ → ℕ → List ℕ → List ℕ
-groups_of_runs m l [] = []
-groups_of_runs m l (d ∷ ds) = run_groups m l d ++ groups_of_runs m l ds
+groups_of_runs m l ds = flat_map (run_groups m l) ds
 
 -- Whether x is in a list.
 abbrev pub is_among : ℕ → List ℕ → Bool
@@ -40,8 +39,7 @@ is_among x xs = list_any (λ y. y == x) xs
 
 -- No number of a list is below a; each number is at least the one before it.
 abbrev pub AreFrom : ℕ → List ℕ → Type 0
-AreFrom a [] = Unit {0}
-AreFrom a (x ∷ xs) = (a ≤ x) × AreFrom a xs
+AreFrom a xs = AllByRecursion (λ x. a ≤ x) xs
 
 -- Each number of a list is above those before it.
 abbrev pub IsAscending : List ℕ → Type 0
@@ -61,8 +59,7 @@ pub record IsBag (m l : ℕ) (b : Bag) : Type 0 where
 
 -- Each of several bags is one of a worker.
 abbrev pub AreBags : ℕ → ℕ → List Bag → Type 0
-AreBags m l [] = Unit {0}
-AreBags m l (b ∷ bs) = IsBag m l b × AreBags m l bs
+AreBags m l bs = AllByRecursion (IsBag m l) bs
 
 -- The first worker whose seat drew number d.
 abbrev pub owner : ℕ → List Bag → ℕ
@@ -105,7 +102,7 @@ all_handed w (b ∷ bs) = handed_by w b.runs ++ all_handed (w + 1) bs
 
 -- The groups below n that no bag has, in ascending order.
 abbrev pub missing : List Bag → ℕ → List ℕ
-missing bags n = filter (λ g. not (is_among g (in_one_list (map groups_in bags)))) (numbers_from 0 n)
+missing bags n = filter (λ g. not (is_among g (concat (map groups_in bags)))) (range_with_len 0 n)
 
 -- How the caller came to stop before the groups of `rest`: none are left and all runs were drawn; or it ran a group that faulted; or they are not below a group that faulted in a bag.
 abbrev pub CallerHasStopped : ℕ → ℕ → ℕ → List Bag → ℕ → List GroupRun → List ℕ → Type 0
@@ -115,7 +112,7 @@ CallerHasStopped m l workers bags drawn more rest =
 -- What a stage shows when it has ended: the workers' seats show the numbers below `word`, each once; each worker has a bag; the caller drew n more numbers, and ran the first ones of the groups of the drawn runs that no bag has, in ascending order, and nothing behind a fault.
 pub record StageHasEnded (m workers : ℕ) (bags : List Bag) (word n : ℕ) (more : List GroupRun) : Type 0 where
   pub number : length bags ≡ workers
-  pub numbers_once : (x : ℕ) → times x (in_one_list (map numbers_in bags)) ≡ once_below x word
+  pub numbers_once : (x : ℕ) → times x (concat (map numbers_in bags)) ≡ once_below x word
   pub bags_are : AreBags m (run_length m workers) bags
   pub faults : OnlyLastFaults more
   pub rest : List ℕ
@@ -124,24 +121,21 @@ pub record StageHasEnded (m workers : ℕ) (bags : List Bag) (word n : ℕ) (mor
 
 -- Every bag has all groups of its runs.
 abbrev pub AreWhole : ℕ → ℕ → List Bag → Type 0
-AreWhole m l [] = Unit {0}
-AreWhole m l (b ∷ bs) = (groups_in b ≡ groups_of_runs m l b.drawn) × AreWhole m l bs
+AreWhole m l bs = AllByRecursion (λ b. groups_in b ≡ groups_of_runs m l b.drawn) bs
 
 -- Where every bag has all groups of its runs, and a number past the last run was drawn, the bags have every group, each once.
 abbrev pub WholeBagsHaveAll : Type 0
-WholeBagsHaveAll = (m workers : ℕ) (bags : List Bag) (word d : ℕ) → length bags ≡ workers → ((x : ℕ) → times x (in_one_list (map numbers_in bags)) ≡ once_below x word)
+WholeBagsHaveAll = (m workers : ℕ) (bags : List Bag) (word d : ℕ) → length bags ≡ workers → ((x : ℕ) → times x (concat (map numbers_in bags)) ≡ once_below x word)
     → AreBags m (run_length m workers) bags → AreWhole m (run_length m workers) bags → d < word → run_count m (run_length m workers) ≤ d
-    → (g : ℕ) → times g (in_one_list (map groups_in bags)) ≡ once_below g m
+    → (g : ℕ) → times g (concat (map groups_in bags)) ≡ once_below g m
 
 -- Each group has the rows and the fault of its result from the first state.
 abbrev pub AreAnswers : {S O : Type 0} → GroupProgram S O → S → List GroupRun → Type 0
-AreAnswers p first [] = Unit {0}
-AreAnswers p first (d ∷ ds) = ((d.rows ≡ p.rows (p.result first d.group)) × (d.faulted ≡ p.faults (p.result first d.group))) × AreAnswers p first ds
+AreAnswers p first ds = AllByRecursion (λ (d : GroupRun). (d.rows ≡ p.rows (p.result first d.group)) × (d.faulted ≡ p.faults (p.result first d.group))) ds
 
 -- Each run in several bags has the rows and the fault of the program's result from the first state.
 abbrev pub BagsAnswer : {S O : Type 0} → GroupProgram S O → S → List Bag → Type 0
-BagsAnswer p first [] = Unit {0}
-BagsAnswer p first (b ∷ bs) = AreAnswers p first b.runs × BagsAnswer p first bs
+BagsAnswer p first bs = AllByRecursion (λ (b : Bag). AreAnswers p first b.runs) bs
 
 -- A hand-in's group, with what the first state gives of it.
 abbrev pub answer_from : {S O : Type 0} → GroupProgram S O → S → HandIn → ℕ × O

@@ -1,5 +1,6 @@
 -- Units over groups of loads: what a group gives, when groups are independent at a grain, and what a stage gives on one thread and on many.
 use Rattle.std.specs.Prelude.{◌≡◌, ℕ, List, [], ◌∷◌, ◌++◌, Bool, true, false, Option, Some, None, length, slice_get}
+use Rattle.std.specs.List.{flat_map}
 use Rattle.ds2_dealer.specs.Stage.{StageStep, is_legal, is_complete}
 use Rattle.ds2_schedule.specs.Schedule.{GroupProgram, FixedPart, Agree, IsCarried, results, in_order}
 
@@ -39,11 +40,6 @@ run_loads u budget (l ∷ loads) s = then_from u (u.run budget l s) (run_loads u
 -- What one thread gives: the loads of all groups in turn, and then `term`.
 abbrev pub stage_run : {S L O : Type 0} → StageUnits S L O → ℕ → List L → S → UnitRun S O
 stage_run u budget loads s = then_from u (run_loads u budget loads s) (u.term budget)
-
--- The groups' loads in one list.
-abbrev pub all_loads : {L : Type 0} → List (List L) → List L
-all_loads [] = []
-all_loads (loads ∷ groups) = loads ++ all_loads groups
 
 -- Two runs give the same, and end alike: after a normal ending each in a state that agrees with the one it began with.
 abbrev pub IsSameRun : {S O : Type 0} → (S → S → Type 0) → S → S → UnitRun S O → UnitRun S O → Type 0
@@ -128,4 +124,4 @@ EveryStage S K C V O = (u : StageUnits S (List (K × V)) O) (rows : O → ℕ) (
     → IsJoining u → IsGroupIndependent u (IsAmongGroups groups) early (Agree fixed)
     → is_legal (length groups) workers xs ≡ true → IsCarried (stage_program u rows budget groups) workers first xs → is_complete (length groups) workers xs ≡ true
     → let p = stage_program u rows budget groups in
-    put_together u (in_order p.faults (results p workers first xs) 0 (length groups)) (given_by (u.term budget first)) ≡ given_by (stage_run u budget (all_loads groups) first)
+    put_together u (in_order p.faults (results p workers first xs) 0 (length groups)) (given_by (u.term budget first)) ≡ given_by (stage_run u budget (flat_map (λ g. g) groups) first)

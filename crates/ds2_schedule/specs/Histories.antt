@@ -1,7 +1,7 @@
 -- Histories of stages, and what their replays are.
 use Rattle.std.specs.Prelude.{◌≡◌, ℕ, List, [], ◌∷◌, ◌++◌, Bool, true, false, map}
-use Rattle.ds2_dealer.specs.Runs.{numbers_from}
-use Rattle.ds2_dealer.specs.Stage.{StageStep, Draws, HandsIn, Retakes, in_one_list, replay, is_legal, is_complete, group_of}
+use Rattle.std.specs.List.{range_with_len, concat}
+use Rattle.ds2_dealer.specs.Stage.{StageStep, Draws, HandsIn, Retakes, replay, is_legal, is_complete, group_of}
 use Rattle.ds2_schedule.specs.Bags.{caller_draws}
 
 -- What a replay shows: whether the history is legal and complete, how many runs were drawn, the groups left party by party, and the groups handed in.
@@ -23,7 +23,7 @@ pub record HistoryCase : Type 0 where
 abbrev pub replayed : HistoryCase → Replayed
 replayed c =
     let s = replay c.groups c.workers c.steps in
-    record { legal = is_legal c.groups c.workers c.steps; complete = is_complete c.groups c.workers c.steps; drawn = s.drawn; left = in_one_list s.left; handed = map group_of s.handed }
+    record { legal = is_legal c.groups c.workers c.steps; complete = is_complete c.groups c.workers c.steps; drawn = s.drawn; left = concat s.left; handed = map group_of s.handed }
 
 -- What is said of it.
 abbrev pub shown_by : HistoryCase → Replayed
@@ -88,20 +88,20 @@ two_workers =
     case 10 2 (draw 0 0 ∷ draw 1 1 ∷ ill 1 1 ∷ []) true false 2 (0 ∷ []) (1 ∷ []) ∷
     case 10 2 (draw 0 0 ∷ draw 1 1 ∷ ill 1 1 ∷ Retakes ∷ []) true false 2 (0 ∷ []) (1 ∷ []) ∷
     case 10 2 (draw 0 0 ∷ well 0 0 ∷ []) true false 1 [] (0 ∷ []) ∷
-    case 1000 2 (caller_draws 0 0 17) true false 17 (numbers_from 0 1000) [] ∷
+    case 1000 2 (caller_draws 0 0 17) true false 17 (range_with_len 0 1000) [] ∷
     []
 
 -- Four workers, with runs of six groups and a last run of four.
 abbrev pub four_workers : List HistoryCase
 four_workers =
-    case 100 4 (caller_draws 4 0 16) true false 16 (numbers_from 0 96) [] ∷
-    case 100 4 (caller_draws 4 0 17) true false 17 (numbers_from 0 100) [] ∷
+    case 100 4 (caller_draws 4 0 16) true false 16 (range_with_len 0 96) [] ∷
+    case 100 4 (caller_draws 4 0 17) true false 17 (range_with_len 0 100) [] ∷
     case 100 4 (draw 3 0 ∷ draw 2 1 ∷ draw 1 2 ∷ draw 0 3 ∷ well 0 18 ∷ well 1 12 ∷ well 2 6 ∷ well 3 0 ∷ []) true false 4
-    (numbers_from 19 5 ++ (numbers_from 13 5 ++ (numbers_from 7 5 ++ numbers_from 1 5))) (18 ∷ 12 ∷ 6 ∷ 0 ∷ []) ∷
+    (range_with_len 19 5 ++ (range_with_len 13 5 ++ (range_with_len 7 5 ++ range_with_len 1 5))) (18 ∷ 12 ∷ 6 ∷ 0 ∷ []) ∷
     case 100 4 (draw 3 0 ∷ draw 2 1 ∷ draw 1 2 ∷ draw 0 3 ∷ well 0 18 ∷ well 1 12 ∷ well 2 6 ∷ well 3 0 ∷ Retakes ∷ []) true false 4
-    (numbers_from 1 5 ++ (numbers_from 7 5 ++ (numbers_from 13 5 ++ numbers_from 19 5))) (18 ∷ 12 ∷ 6 ∷ 0 ∷ []) ∷
+    (range_with_len 1 5 ++ (range_with_len 7 5 ++ (range_with_len 13 5 ++ range_with_len 19 5))) (18 ∷ 12 ∷ 6 ∷ 0 ∷ []) ∷
     case 100 4 (draw 0 0 ∷ draw 1 1 ∷ well 0 0 ∷ ill 1 6 ∷ Retakes ∷ well 4 1 ∷ well 4 2 ∷ well 4 3 ∷ well 4 4 ∷ well 4 5 ∷ []) true true 2
-    (numbers_from 7 5) (0 ∷ 6 ∷ 1 ∷ 2 ∷ 3 ∷ 4 ∷ 5 ∷ []) ∷
+    (range_with_len 7 5) (0 ∷ 6 ∷ 1 ∷ 2 ∷ 3 ∷ 4 ∷ 5 ∷ []) ∷
     []
 
 -- More workers than groups, and 64 of them.
@@ -120,12 +120,12 @@ not_legal =
     case 10 2 (draw 0 0 ∷ draw 1 0 ∷ []) false false 2 (0 ∷ 0 ∷ []) [] ∷
     case 10 2 (draw 0 1 ∷ []) false false 1 (1 ∷ []) [] ∷
     case 10 2 (draw 3 0 ∷ []) false false 1 [] [] ∷
-    case 100 4 (draw 0 0 ∷ well 0 1 ∷ []) false false 1 (numbers_from 1 5) (1 ∷ []) ∷
-    case 100 4 (draw 0 0 ∷ ill 0 0 ∷ well 0 1 ∷ []) false true 1 (numbers_from 2 4) (0 ∷ 1 ∷ []) ∷
+    case 100 4 (draw 0 0 ∷ well 0 1 ∷ []) false false 1 (range_with_len 1 5) (1 ∷ []) ∷
+    case 100 4 (draw 0 0 ∷ ill 0 0 ∷ well 0 1 ∷ []) false true 1 (range_with_len 2 4) (0 ∷ 1 ∷ []) ∷
     case 10 2 (draw 0 0 ∷ well 1 0 ∷ []) false false 1 (0 ∷ []) (0 ∷ []) ∷
     case 10 2 (draw 0 0 ∷ well 0 0 ∷ well 0 0 ∷ []) false false 1 [] (0 ∷ 0 ∷ []) ∷
     case 0 8 (well 0 0 ∷ []) false true 0 [] (0 ∷ []) ∷
-    case 100 4 (draw 4 0 ∷ Retakes ∷ []) false false 1 (numbers_from 0 6) [] ∷
+    case 100 4 (draw 4 0 ∷ Retakes ∷ []) false false 1 (range_with_len 0 6) [] ∷
     []
 
 -- Every one of these histories replays to what is said of it.

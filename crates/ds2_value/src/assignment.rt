@@ -32,8 +32,8 @@ pub fn assign(alloc: Global, v: &Value, to: Ty) -> Result<Value, Stop<Fault>>
     }
 }
 
-/// [`assign`] of a value that is given away: a text is cut where it stands, and memory is wanted only where it is filled with
-/// blanks.
+/// [`assign`] of a value that is given away: for VARCHAR a text is cut where it stands and takes no memory; a CHAR of more than
+/// 22 bytes is made anew.
 pub fn assign_owned(alloc: Global, v: Value, to: Ty) -> Result<Value, Stop<Fault>>
     requires { IsTrue (in_bounds to) }
     ensures value { Says result (assign_of v to) }

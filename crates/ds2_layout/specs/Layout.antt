@@ -1,5 +1,5 @@
 -- The layout of a program: a number, a slot, for each variable and flag, and for each output the slots of its columns.
-use Rattle.std.specs.Prelude.{ℕ, if◌then◌else◌, List, [], ◌∷◌, ◌++◌, map, position, unwrap_or, Option, Some, None}
+use Rattle.std.specs.Prelude.{ℕ, if◌then◌else◌, List, [], ◌∷◌, ◌++◌, map, flat_map, position, unwrap_or, Option, Some, None}
 use Rattle.ds2_value.specs.declared.ty.Ty.{Ty}
 use Rattle.ds2_value.specs.declared.ty.Ty.TheVariants.{BigInt}
 use Rattle.ds2_value.specs.declared.value.Value.{Value}
@@ -10,13 +10,12 @@ use Rattle.ds2_meaning.specs.declared.location.Global.TheVariants.{Named, First,
 use Rattle.ds2_meaning.specs.declared.readings.ByVariable.{ByVariable}
 use Rattle.ds2_meaning.specs.declared.readings.Input.{Input}
 use Rattle.ds2_meaning.specs.Location.{Home, Location, is_same_location, Storage, held}
-use Rattle.ds2_names.specs.NameRules.{from_each}
 use Rattle.ds2_meaning.specs.ProgramTree.{InstanceTree, UnitTree, data_vector, is_listed, sources}
 use Rattle.ds2_meaning.specs.Reading.{inputs_of, bys_of, is_column}
-use Rattle.ds2_elaboration.specs.declared.layout.Layout.{Layout}
-use Rattle.ds2_elaboration.specs.declared.layout.LayoutSlot.{LayoutSlot}
-use Rattle.ds2_elaboration.specs.declared.layout.SlotRole.{SlotRole}
-use Rattle.ds2_elaboration.specs.declared.layout.SlotRole.TheVariants.{Cleared, Kept, Column, Flag}
+use Rattle.ds2_layout.specs.declared.slot.Layout.{Layout}
+use Rattle.ds2_layout.specs.declared.slot.LayoutSlot.{LayoutSlot}
+use Rattle.ds2_layout.specs.declared.slot.SlotRole.{SlotRole}
+use Rattle.ds2_layout.specs.declared.slot.SlotRole.TheVariants.{Cleared, Kept, Column, Flag}
 
 -- ---- roles
 
@@ -64,9 +63,9 @@ abbrev pub program_slots : UnitTree → List LayoutSlot
 program_slots p =
     vector_slots p
     ++ parameter_slots p
-    ++ from_each input_flag_slots (inputs_of p.reading)
-    ++ from_each by_flag_slots (bys_of p.reading)
-    ++ from_each instance_slots p.instances
+    ++ flat_map input_flag_slots (inputs_of p.reading)
+    ++ flat_map by_flag_slots (bys_of p.reading)
+    ++ flat_map instance_slots p.instances
 
 -- ---- projections
 

@@ -1,0 +1,10 @@
+pub mod FittingLists
+pub mod FittingTexts
+pub mod FittingNumbers
+pub mod FittingOperands
+pub mod FittingHashes
+pub mod FittingInstructions
+pub mod FittingPlaces
+pub mod FittingMachine
+pub mod FittingUnits
+pub mod FittingOpening

@@ -1,0 +1,13 @@
+pub mod CodeCells
+pub mod CodePieces
+pub mod ExpressionCode
+pub mod CallPieces
+pub mod StatementCode
+pub mod CoveredObjects
+pub mod CoveredForms
+pub mod UnitCode
+pub mod MethodCode
+pub mod BodyCode
+pub mod UnitTheorem
+pub mod GenLaws
+pub mod UnitExample

@@ -1,0 +1,141 @@
+//! What stands in the place of operands.
+ghost use Rattle.std.specs.Prelude.{◌≡◌, ◌∷◌, [], IsTrue, length, Some, Ok, false};
+ghost use Rattle.ds2_base.specs.Says.{Says};
+ghost use Rattle.ds2_value.specs.Operations.{truth_value, or_null_at_fault};
+ghost use Rattle.ds2_value.specs.Types.{in_bounds, assign_of};
+ghost use Rattle.ds2_value.specs.declared.ty.Ty.TheVariants.{Char, Varchar};
+ghost use Rattle.ds2_code.specs.InstructionTable.{kind_of};
+ghost use Rattle.ds2_operations.specs.OperationKinds.{goes_by_list, is_computed, has_type_in_bounds, operation_operands, operation_result};
+
+use crate::choices::{first, greatest, least};
+use crate::decimals::{
+    decimal_difference, decimal_remainder, decimal_sum, floored, negated, quotient, raised,
+    widened, without_sign,
+};
+use crate::lines::shown;
+use ds2_base::{Stop, refusing};
+use ds2_code::Instr;
+use ds2_value::{
+    Fault, Truth, Ty, Value, absolute, and, assign, compared, concat, difference, is_null, length,
+    negative, not, or, product, remainder, substr, sum, trim,
+};
+use std::alloc::Global;
+
+/// What an operation gives for its operands, the last one on top.
+#[inline]
+pub fn computed(alloc: Global, instr: Instr, operands: &[Value]) -> Result<Value, Stop<Fault>>
+    requires computed { IsTrue (is_computed instr) }
+    requires bounds { IsTrue (has_type_in_bounds instr) }
+    requires operands { operation_operands (kind_of instr) ≡ Some (length operands.now) }
+    ensures { Says result (operation_result (kind_of instr) operands.now) }
+{
+    match instr {
+        Instr::IsNull => Ok(is_null(operands)),
+        Instr::Choose(_) => Ok(first(alloc, operands)?),
+        Instr::Least(_) => Ok(least(alloc, operands)?),
+        Instr::Greatest(_) => Ok(greatest(alloc, operands)?),
+        Instr::Cat => concat(alloc, operands),
+        Instr::Len => Ok(length(operands)),
+        Instr::Substr => substr(alloc, operands),
+        Instr::SubFrom => substr(alloc, operands),
+        Instr::Trim => trim(alloc, operands),
+        Instr::Show => shown(alloc, operands),
+        _ => computed_from_few(alloc, instr, operands),
+    }
+}
+
+// What an operation on none, one or two values gives.
+#[inline]
+fn computed_from_few(alloc: Global, instr: Instr, operands: &[Value]) -> Result<Value, Stop<Fault>>
+    requires few { goes_by_list instr ≡ false }
+    requires computed { IsTrue (is_computed instr) }
+    requires bounds { IsTrue (has_type_in_bounds instr) }
+    requires operands { operation_operands (kind_of instr) ≡ Some (length operands.now) }
+    ensures { Says result (operation_result (kind_of instr) operands.now) }
+{
+    match operands {
+        [a] => computed_from_one(alloc, instr, a),
+        [a, b] => refusing(computed_from_two(instr, a, b)),
+        _ => Ok(Value::Null),
+    }
+}
+
+// What an operation on one value gives.
+#[inline]
+fn computed_from_one(alloc: Global, instr: Instr, a: &Value) -> Result<Value, Stop<Fault>>
+    requires few { goes_by_list instr ≡ false }
+    requires bounds { IsTrue (has_type_in_bounds instr) }
+    requires operands { operation_operands (kind_of instr) ≡ Some 1 }
+    ensures { Says result (operation_result (kind_of instr) (a.now ∷ [])) }
+{
+    match instr {
+        Instr::IToD => Ok(widened(a)),
+        Instr::Rescale(p, s) => assign(alloc, a, Ty::Decimal { p, s }),
+        Instr::Pad(n) => padded(alloc, a, n),
+        Instr::Cut(n) => cut(alloc, a, n),
+        Instr::INeg => refusing(negative(a)),
+        Instr::IAbs => refusing(absolute(a)),
+        Instr::DNeg => Ok(negated(a)),
+        Instr::DAbs => Ok(without_sign(a)),
+        Instr::DFloor => Ok(floored(a)),
+        Instr::DCeil => Ok(raised(a)),
+        Instr::Not => Ok(truth_value(not(a.truth()))),
+        Instr::ITruth => Ok(truth_value(a.truth())),
+        Instr::DTruth => Ok(truth_value(a.truth())),
+        _ => Ok(Value::Null),
+    }
+}
+
+// What an operation on two values gives.
+#[inline]
+fn computed_from_two(instr: Instr, a: &Value, b: &Value) -> Result<Value, Fault>
+    requires few { goes_by_list instr ≡ false }
+    requires computed { IsTrue (is_computed instr) }
+    requires operands { operation_operands (kind_of instr) ≡ Some 2 }
+    ensures { result ≡ operation_result (kind_of instr) (a.now ∷ b.now ∷ []) }
+{
+    match instr {
+        Instr::IAdd => sum(a, b),
+        Instr::ISub => difference(a, b),
+        Instr::IMul => product(a, b),
+        Instr::IMod => remainder(a, b),
+        Instr::ICmp(comparison) => Ok(compared(comparison, a, b)),
+        Instr::DCmp(comparison) => Ok(compared(comparison, a, b)),
+        Instr::TCmp(comparison) => Ok(compared(comparison, a, b)),
+        Instr::And => Ok(truth_value(and(a.truth(), b.truth()))),
+        Instr::Or => Ok(truth_value(or(a.truth(), b.truth()))),
+        Instr::DAdd => decimal_sum(a, b),
+        Instr::DSub => decimal_difference(a, b),
+        Instr::DDiv => quotient(a, b),
+        Instr::DMod => decimal_remainder(a, b),
+        _ => Ok(Value::Null),
+    }
+}
+
+// A text in CHAR(n).
+fn padded(alloc: Global, v: &Value, n: u16) -> Result<Value, Stop<Fault>>
+    requires { IsTrue (in_bounds (Char n)) }
+    ensures { Says result (Ok (or_null_at_fault (assign_of v.now (Char n)))) }
+{
+    assign(alloc, v, Ty::Char { n })
+}
+
+// A text in VARCHAR(n).
+fn cut(alloc: Global, v: &Value, n: u16) -> Result<Value, Stop<Fault>>
+    requires { IsTrue (in_bounds (Varchar n)) }
+    ensures { Says result (Ok (or_null_at_fault (assign_of v.now (Varchar n)))) }
+{
+    assign(alloc, v, Ty::Varchar { n })
+}
+
+// A truth as a value.
+#[inline]
+fn truth_value(truth: Truth) -> Value
+    ensures { result ≡ truth_value truth }
+{
+    match truth {
+        Truth::Yes => Value::Int(1),
+        Truth::No => Value::Int(0),
+        Truth::Unknown => Value::Null,
+    }
+}

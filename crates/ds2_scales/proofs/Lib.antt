@@ -1,0 +1,7 @@
+pub mod ScaledLists
+pub mod PlainResults
+pub mod ScaledResults
+pub mod OperandScales
+pub mod InstructionScales
+pub mod CodePlaces
+pub mod MachineScales

@@ -1,0 +1,3 @@
+pub mod RefusalOrder
+pub mod Outcomes
+pub mod Forms
