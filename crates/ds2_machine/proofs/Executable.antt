@@ -9,16 +9,18 @@ use Rattle.ds2_value.specs.declared.ty.Ty.TheVariants.{Decimal as DecimalOf, Cha
 use Rattle.ds2_code.specs.declared.instr.Instr.{Instr}
 use Rattle.ds2_code.specs.declared.instr.Instr.TheVariants as instr
 use Rattle.ds2_code.specs.declared.parts.ProgramParts.{ProgramParts}
+use Rattle.ds2_code.specs.declared.parts.Slot.{Slot}
 use Rattle.ds2_code.specs.CodeBound.{falls_through}
 use Rattle.ds2_code.specs.InstructionTable.{kind_of}
 use Rattle.ds2_code.specs.OperandTypes.{OperandTypes, CodeRole, OfUnit, when_in_bounds, types_behind}
-use Rattle.ds2_code.specs.ValidCode.{CodePoint, point, behind_instruction, AlongList, IsValidChain, IsValidProgram, stage_parameters, lists_short, own_lists_short, is_short}
+use Rattle.ds2_code.specs.ValidCode.{CodePoint, point, behind_instruction, AlongList, IsValidChain, IsValidProgram, stage_parameters, lists_short, own_lists_short, is_short, constant_allowed}
+use Rattle.ds2_slots.specs.LoadedHashes.{AreSlotTypesInBounds}
 use Rattle.ds2_machine.specs.AtRest.{IsProgramOfValid}
 use Rattle.ds2_operations.specs.OperationKinds.{has_type_in_bounds}
-use Rattle.ds2_machine.specs.Shapes.{is_executed, IsExecutable}
+use Rattle.ds2_machine.specs.Shapes.{IsExecutable}
 
 -- each program of a chain is valid beside some thread program or none
-valid_in_chain : (code : ProgramParts) (stages : List ProgramParts) → IsValidChain code stages → (k : ℕ) (c : ProgramParts) → slice_get (code ∷ stages) k ≡ Some c → (s : Option ProgramParts) × IsValidProgram c s
+pub valid_in_chain : (code : ProgramParts) (stages : List ProgramParts) → IsValidChain code stages → (k : ℕ) (c : ProgramParts) → slice_get (code ∷ stages) k ≡ Some c → (s : Option ProgramParts) × IsValidProgram c s
 valid_in_chain code [] v zero c g = (None, (let w : code ≡ c = cc in subst (λ z. IsValidProgram z None) w v))
 valid_in_chain code [] v (suc k) c g = absurd cc
 valid_in_chain code (s ∷ ss) v zero c g = (Some s, (let w : code ≡ c = cc in subst (λ z. IsValidProgram z (Some s)) w v.0))
@@ -120,20 +122,19 @@ short_instrs code h =
     let last : IsTrue (is_short code.instrs) = and_second (is_short code.outputs) _ three in
     ltb-true (length code.instrs) (2 ^ 32) last
 
-all_at : (is : List Instr) → IsTrue (list_all is_executed is) → (k : ℕ) (i : Instr) → slice_get is k ≡ Some i → IsTrue (is_executed i)
-all_at [] h k i g = absurd cc
-all_at (x ∷ is) h zero i g =
-    let same : x ≡ i = cc in
-    let P : Instr → Type 0 = λ z. IsTrue (is_executed z) in
-    subst P same (and_first (is_executed x) (list_all is_executed is) h)
-all_at (x ∷ is) h (suc k) i g = all_at is (and_second (is_executed x) (list_all is_executed is) h) k i g
-
-pub executable : (code : ProgramParts) → IsProgramOfValid code → IsTrue (list_all is_executed code.instrs) → IsExecutable code
-executable code valid executed =
+pub executable : (code : ProgramParts) → IsProgramOfValid code → IsExecutable code
+executable code valid =
     let v = valid_in_chain valid.parts.program valid.parts.stages valid.valid.chain valid.number code valid.here in
     record {
       steps = v.1.steps;
       short = short_instrs code v.1.lists;
-      executed = all_at code.instrs executed;
       bounds = bounds_along code (stage_parameters v.0) 0 false (point OfUnit []) code.instrs v.1.types.0 v.1.types.1.along;
     }
+
+-- the types of a program's slots are in bounds
+pub slot_types : (code : ProgramParts) → IsProgramOfValid code → AreSlotTypesInBounds code.slots
+slot_types code valid =
+    let v = valid_in_chain valid.parts.program valid.parts.stages valid.valid.chain valid.number code valid.here in
+    let slots = list_all (λ (s : Slot). in_bounds s.ty) code.slots in
+    let constants = list_all constant_allowed code.constants in
+    and_first slots constants (and_first (slots && constants) _ v.1.values)

@@ -3,7 +3,8 @@ pub mod Executable
 pub mod PileLemmas
 pub mod ProgramLemmas
 pub mod Runs
-pub mod SlotLemmas
+pub mod RunScales
 pub mod UnitEnds
 pub mod Steps
+pub mod HashSteps
 pub mod KeptLemmas

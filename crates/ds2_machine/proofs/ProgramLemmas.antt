@@ -1,12 +1,10 @@
 -- The programs of valid code.
 use Rattle.std.proofs.Common.{◌≡◌, ℕ, zero, suc, ◌-◌, ◌<◌, Bool, true, false, List, [], ◌∷◌, Option, Some, None, refl, sym, ap, ◌∙◌, subst, arith}
-use Rattle.std.specs.Prelude.{IsTrue, slice_get, unwrap_or, length, ◌==◌, ◌&&◌}
-use Rattle.std.proofs.lemmas.Bool.{eqb-true}
+use Rattle.std.specs.Prelude.{slice_get, unwrap_or}
 use Rattle.ds2_code.specs.declared.parts.ProgramParts.{ProgramParts}
 use Rattle.ds2_code.specs.declared.parts.StagedParts.{StagedParts}
 use Rattle.ds2_code.specs.ValidCode.{IsValidStaged}
-use Rattle.ds2_machine.specs.AtRest.{staged_program, IsProgramOfValid, has_no_hashes, HasNoHashes}
-use Rattle.ds2_machine.proofs.Executable.{and_first, and_second}
+use Rattle.ds2_machine.specs.AtRest.{staged_program, IsProgramOfValid}
 
 pub data_program : (parts : StagedParts) → IsValidStaged parts → IsProgramOfValid parts.program
 data_program parts valid = record { parts = parts; valid = valid; number = 0; here = refl }
@@ -21,13 +19,3 @@ below parts (suc k) o h here =
     ap (λ j. unwrap_or (slice_get parts.stages j) parts.program) (sym same) ∙ ap (λ z. unwrap_or z parts.program) (sym here)
 
 pub ruleset programs = (data_program, thread_program, below)
-
-nothing : {A : Type 0} (items : List A) → IsTrue (length items == 0) → items ≡ []
-nothing [] h = refl
-nothing (x ∷ xs) h = let none : suc (length xs) ≡ 0 = eqb-true (suc (length xs)) 0 h in absurd (omega (arith, none))
-
-pub no_hashes : (code : ProgramParts) → IsTrue (has_no_hashes code) → HasNoHashes code
-no_hashes code h = record {
-  hashes = nothing code.hashes (and_first (length code.hashes == 0) (length code.iterators == 0) h);
-  iterators = nothing code.iterators (and_second (length code.hashes == 0) (length code.iterators == 0) h);
-}

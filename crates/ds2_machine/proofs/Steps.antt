@@ -45,7 +45,7 @@ shape_at q now kind is h = let P : Quiet → Type 0 = λ z. HasQuietShape z kind
 
 -- ---- operations
 
-quiet_goes : (x : NextState) (told : UnitTold) (new : State) (way : List Event) → x ≡ GoesOn (machine_of_state new (record { way = way; rows = told.rows; lines = told.lines })) → IsQuietStep x told new None
+pub quiet_goes : (x : NextState) (told : UnitTold) (new : State) (way : List Event) → x ≡ GoesOn (machine_of_state new (record { way = way; rows = told.rows; lines = told.lines })) → IsQuietStep x told new None
 quiet_goes x told new way e = e ∙ ap (λ w. GoesOn (machine_of_state new (record { way = w; rows = told.rows; lines = told.lines }))) (sym (ap way_of_next e))
 
 quiet_breaks : (x : NextState) (told : UnitTold) (new : State) (way : List Event) (fault : Fault) → x ≡ Stops (end_of_state (halt.Faulted fault) new (record { way = way; rows = told.rows; lines = told.lines })) → IsQuietStep x told new (Some (halt.Faulted fault))

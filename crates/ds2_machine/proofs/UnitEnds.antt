@@ -80,7 +80,7 @@ bound has_taken before after code budget outcome (Err e) now ends h = tt
 -- the data behind a load
 pub loaded_state : (now : MachineAtRest) (inside : State) (was_spent : Bool) (number : ℕ) (parts : List Slot) (load : SlotSettings) (cleared set : Row) → record { state = data_of_state inside; spent = was_spent; program = number } ≡ now
     → cleared ≡ without_cleared parts inside.slots → set ≡ with_slot_settings load cleared
-    → with_slots (with_slot_settings load (without_cleared parts now.state.slots)) now.state ≡ record { slots = set; hashes = []; iterators = []; parameters = inside.parameters }
+    → with_slots (with_slot_settings load (without_cleared parts now.state.slots)) now.state ≡ record { slots = set; hashes = inside.objects.hashes; iterators = inside.objects.iterators; parameters = inside.parameters }
 loaded_state now inside was_spent number parts load cleared set view is_cleared is_set =
     sym (ap (λ (z : MachineAtRest). with_slots (with_slot_settings load (without_cleared parts z.state.slots)) z.state) view)
-    ∙ ap (λ (s : Row). record { slots = s; hashes = []; iterators = []; parameters = inside.parameters }) (ap (with_slot_settings load) (sym is_cleared) ∙ sym is_set)
+    ∙ ap (λ (s : Row). record { slots = s; hashes = inside.objects.hashes; iterators = inside.objects.iterators; parameters = inside.parameters }) (ap (with_slot_settings load) (sym is_cleared) ∙ sym is_set)

@@ -1,5 +1,5 @@
 -- A machine between two units, and what it tells of one.
-use Rattle.std.specs.Prelude.{◌≡◌, zero, suc, ℕ, ◌==◌, ◌&&◌, length, unwrap_or, Bool, true, false, List, [], ◌∷◌, Some, slice_get, Result, Ok, Err}
+use Rattle.std.specs.Prelude.{◌≡◌, zero, suc, ℕ, unwrap_or, Bool, true, false, List, ◌∷◌, Some, slice_get, Result, Ok, Err}
 use Rattle.ds2_base.specs.declared.place.Place.{Place}
 use Rattle.ds2_base.specs.declared.stop.OutOfMemory.{OutOfMemory}
 use Rattle.ds2_value.specs.Progress.{UnitOutcome, Completed, Interrupted, Strayed}
@@ -33,15 +33,6 @@ pub record IsProgramOfValid (code : ProgramParts) : Type 0 where
 abbrev pub staged_program : StagedParts → ℕ → ProgramParts
 staged_program parts zero = parts.program
 staged_program parts (suc k) = unwrap_or (slice_get parts.stages k) parts.program
-
--- a program has neither hash objects nor iterators
-abbrev pub has_no_hashes : ProgramParts → Bool
-has_no_hashes code = (length code.hashes == 0) && (length code.iterators == 0)
-
--- a program without hash objects and iterators
-pub record HasNoHashes (code : ProgramParts) : Type 0 where
-  pub hashes : code.hashes ≡ []
-  pub iterators : code.iterators ≡ []
 
 -- the ending of a unit that has halted so, in the step at a place
 abbrev pub IsEndingAt : Halt → Place → Ending → Type 0

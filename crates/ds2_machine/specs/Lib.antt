@@ -4,5 +4,4 @@ pub mod PileView
 pub mod Results
 pub mod Shapes
 pub mod Sink
-pub mod SlotSteps
 pub mod Kept

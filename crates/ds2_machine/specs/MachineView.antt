@@ -7,6 +7,7 @@ use Rattle.ds2_code.specs.declared.parts.ProgramParts.{ProgramParts}
 use Rattle.ds2_code.specs.CodeLaws.{way_of_end}
 use Rattle.ds2_code.specs.CodeRun.{CallFrame, MachineState, CodeEnd, EndReached, Broken, Stuck, NextState, GoesOn, Stops, UnderWay, Over, run_code}
 use Rattle.ds2_code.specs.Desk.{ProgramData, Desk, Taken, with_stack}
+use Rattle.ds2_scales.specs.Scales.{IsScaled}
 use Rattle.ds2_machine.specs.Sink.{SinkTakes}
 use Rattle.ds2_machine.specs.declared.frames.Waiting.{Waiting}
 use Rattle.ds2_machine.specs.declared.state.Halt.{Halt}
@@ -26,9 +27,9 @@ waiting_frames operands locals (w ∷ ws) =
     record { stack = reverse (drop w.operands operands); locals = drop w.locals locals; place = w.place; to = w.to; callee = w.callee }
     ∷ waiting_frames (take w.operands operands) (take w.locals locals) ws
 
--- the program's data; a program without hash objects has none of them, and no iterators
+-- the program's data
 abbrev pub data_of_state : State → ProgramData
-data_of_state s = record { slots = s.slots; hashes = []; iterators = []; parameters = s.parameters }
+data_of_state s = record { slots = s.slots; hashes = s.objects.hashes; iterators = s.objects.iterators; parameters = s.parameters }
 
 -- what the instructions work on
 abbrev pub desk_of_state : State → Desk
@@ -46,6 +47,10 @@ machine_of_state s told = record {
   frames = waiting_frames s.operands.below s.locals.below s.frames;
   progress = progress_of_state s told;
 }
+
+-- the decimals that the state holds have the scales of their types
+abbrev pub IsStateScaled : ProgramParts → State → Type 0
+IsStateScaled code s = IsScaled code s.at (desk_of_state s) (waiting_frames s.operands.below s.locals.below s.frames)
 
 -- how the unit ends
 abbrev pub end_of_state : Halt → State → UnitTold → CodeEnd

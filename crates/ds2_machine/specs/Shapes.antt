@@ -1,12 +1,12 @@
 -- What the machine asks of an instruction before it executes it: its kind, without what an operation computes.
-use Rattle.std.specs.Prelude.{◌≡◌, ◌<◌, ◌^◌, IsTrue, ℕ, length, Bool, false, Some, slice_get}
+use Rattle.std.specs.Prelude.{◌≡◌, ◌<◌, ◌^◌, IsTrue, ℕ, length, [], Some, slice_get}
+use Rattle.ds2_value.specs.Row.{Row}
 use Rattle.ds2_code.specs.declared.instr.Instr.{Instr}
-use Rattle.ds2_code.specs.declared.instr.Instr.TheVariants as instr
 use Rattle.ds2_code.specs.declared.parts.ProgramParts.{ProgramParts}
 use Rattle.ds2_code.specs.CodeBound.{HasBoundedJumps}
-use Rattle.ds2_code.specs.Desk.{LoadSource, OfConstant, OfSlot, OfLocal, StoreTarget, IntoSlot, IntoLocal, IntoParameter}
-use Rattle.ds2_code.specs.InstructionTable.{Kind, Loads, Stores, Drops, Writes, Puts, Ticks, Jumps, Tests, Enters, GoesBack, Raises, Finishes}
-use Rattle.ds2_operations.specs.OperationKinds.{operation_operands, is_computed, has_type_in_bounds}
+use Rattle.ds2_code.specs.Desk.{Taken, take_off, LoadSource, OfConstant, OfSlot, OfLocal, StoreTarget, IntoSlot, IntoLocal, IntoParameter}
+use Rattle.ds2_code.specs.InstructionTable.{Kind, kind_of, Loads, Stores, Drops, CallsHash, CallsIterator, Writes, Puts, Ticks, Jumps, Tests, Enters, GoesBack, Raises, Finishes}
+use Rattle.ds2_operations.specs.OperationKinds.{operation_operands, has_scales_for, has_type_in_bounds}
 use Rattle.ds2_machine.specs.declared.shape.Source.{Source}
 use Rattle.ds2_machine.specs.declared.shape.Source.TheVariants as source
 use Rattle.ds2_machine.specs.declared.shape.Target.{Target}
@@ -39,6 +39,8 @@ HasQuietShape (quiet.Jump to) kind = kind ≡ Jumps to
 HasQuietShape (quiet.Test wanted to) kind = kind ≡ Tests wanted to
 HasQuietShape (quiet.Enter method) kind = kind ≡ Enters method
 HasQuietShape (quiet.GoBack has_result) kind = kind ≡ GoesBack has_result
+HasQuietShape (quiet.CallHash f number) kind = kind ≡ CallsHash f number
+HasQuietShape (quiet.CallIterator f number) kind = kind ≡ CallsIterator f number
 HasQuietShape (quiet.Raise fault) kind = kind ≡ Raises fault
 HasQuietShape quiet.Finish kind = kind ≡ Finishes
 
@@ -48,15 +50,12 @@ HasShape (shape.Write output) kind = kind ≡ Writes output
 HasShape (shape.Put n) kind = kind ≡ Puts n
 HasShape (shape.Quiet q) kind = HasQuietShape q kind
 
--- an instruction that the machine executes: each but for calls of hash objects and iterators, and for what isn't computed
-abbrev pub is_executed : Instr → Bool
-is_executed (instr.HCall hash f) = false
-is_executed (instr.ICall iterator f) = false
-is_executed i = is_computed i
+-- the operands that an operation takes off have the scales that it asks for
+abbrev pub HasScalesFor : Instr → Row → Type 0
+HasScalesFor i stack = (n : ℕ) (t : Taken) → operation_operands (kind_of i) ≡ Some n → take_off n [] stack ≡ Some t → IsTrue (has_scales_for i t.values)
 
--- what the machine asks of code: each jump goes forward or to a step of the budget, and each instruction is executed here
+-- what the machine asks of code: each jump goes forward or to a step of the budget, and types that values are assigned to are in bounds
 pub record IsExecutable (code : ProgramParts) : Type 0 where
   pub steps : HasBoundedJumps code.instrs
   pub short : length code.instrs < 2 ^ 32
-  pub executed : (at : ℕ) (i : Instr) → slice_get code.instrs at ≡ Some i → IsTrue (is_executed i)
   pub bounds : (at : ℕ) (i : Instr) → slice_get code.instrs at ≡ Some i → IsTrue (has_type_in_bounds i)

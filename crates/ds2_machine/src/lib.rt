@@ -4,7 +4,7 @@
 //! to a [`UnitSink`] as it is written, and a [`UnitEnd`] says how it has ended.
 //!
 //! ```text
-//! let mut machine = Machine::open(alloc, &code, 0, &given, 0)?;
+//! let mut machine = Machine::open(alloc, &code, 0, &given, &tables, 0)?;
 //! let end = machine.call_init(alloc, &code, budget, &mut sink)?;
 //! ```
 #![tactic(auto)]
@@ -18,13 +18,11 @@ mod program;
 mod record;
 mod shape;
 mod sink;
-mod slots;
 mod state;
 mod unit_end;
 
 pub use load::UnitLoad;
 pub use machine::{MOST_BUDGET, Machine};
-pub use program::executes;
 pub use record::{OutRow, UnitRecord};
 pub use sink::UnitSink;
 pub use unit_end::UnitEnd;

@@ -2,8 +2,8 @@
 ghost use Rattle.std.specs.Prelude.{◌≡◌, OnOk};
 ghost use Rattle.ds2_code.specs.Desk.{SlotSettings, with_slot_settings};
 
-use crate::slots::set;
 use ds2_base::{List, OutOfMemory};
+use ds2_slots::set;
 use ds2_value::Value;
 use std::alloc::Global;
 

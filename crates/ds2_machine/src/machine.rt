@@ -1,19 +1,23 @@
 //! The machine between two units.
-ghost use Rattle.std.specs.Prelude.{◌≡◌, ◌+◌, ◌*◌, ◌≤◌, IsTrue, false, [], length, IfOk};
-ghost use Rattle.std.specs.List.{list_all};
+ghost use Rattle.std.specs.Prelude.{◌≡◌, ◌+◌, ◌*◌, ◌≤◌, false, length, slice_get, Some, ℕ, IfOk};
 ghost use Rattle.ds2_code.specs.CodeUnit.{code_unit, code_init, code_run, code_term, opening_data};
-ghost use Rattle.ds2_code.specs.ValidCode.{EndsInTime};
-ghost use Rattle.ds2_machine.specs.AtRest.{staged_program, has_no_hashes, HasNoHashes, IsEndingAt, IsUnitEnd, leaves_spent};
-ghost use Rattle.ds2_machine.specs.Shapes.{IsExecutable, is_executed};
+ghost use Rattle.ds2_code.specs.ValidCode.{EndsInTime, unit_entries};
+ghost use Rattle.ds2_scales.specs.Scales.{AreGivenScaled, AreSettingsScaled, IsDataScaled};
+ghost use Rattle.ds2_slots.specs.LoadedHashes.{AreSlotTypesInBounds};
+ghost use Rattle.ds2_machine.specs.AtRest.{staged_program, IsProgramOfValid, IsEndingAt, IsUnitEnd, is_early, leaves_spent};
+ghost use Rattle.ds2_machine.specs.Shapes.{IsExecutable};
 ghost use Rattle.ds2_machine.specs.declared.machine.TheConstants.{MOST_BUDGET};
 
 use crate::program::program_of;
-use crate::slots::{clear, copy_all, nulls, set_values};
 use crate::state::{Halt, State};
 use crate::{UnitEnd, UnitLoad, UnitSink};
 use ds2_base::{OutOfMemory, Place};
 use ds2_code::ProgramParts;
 use ds2_code::laws::{run_has_one_end, units_begin_with_little, valid_code_ends};
+use ds2_scales::laws::{
+    clearing_keeps_scales, loaded_hashes_are_scaled, settings_keep_scales, units_begin_scaled,
+};
+use ds2_slots::{HashObjects, HashTables, clear, copy_all, nulls, set_values};
 use ds2_valid_code::ProgramCode;
 use ds2_value::{Ending, Value};
 use std::alloc::Global;
@@ -44,20 +48,31 @@ impl Model for Machine {
 
 impl Machine {
     /// A machine for a program of this code before its first unit: all slots are null but for the program's own parameters, which have
-    /// the given values, and so many parameters of the thread program that it reads from are null. Program 0 is the data program, and
-    /// k the k-th thread program below it.
-    pub fn open(
+    /// the given values; hash objects have the rows of their tables; and so many parameters of the thread program that it reads from
+    /// are null. Program 0 is the data program, and k the k-th thread program below it.
+    pub fn open<T: HashTables>(
         alloc: Global,
         code: &ProgramCode,
         program: usize,
         given: &[Value],
+        tables: &T,
         parameters: usize,
     ) -> Result<Machine, OutOfMemory>
         requires program { program ≤ length code.now.stages }
-        requires hashes { IsTrue (has_no_hashes (staged_program code.now program)) }
-        ensures { IfOk result (λ machine. machine ≡ record { state = opening_data (staged_program code.now program) given.now [] parameters; spent = false; program = program }) }
+        requires given { AreGivenScaled (staged_program code.now program).slots (staged_program code.now program).parameters given.now }
+        ensures scaled { IfOk result (λ machine. IsDataScaled (staged_program code.now machine.program) machine.state) }
+        ensures opened { IfOk result (λ machine. machine ≡ record { state = opening_data (staged_program code.now program) given.now (T.tables tables.now) parameters; spent = false; program = program }) }
     {
-        opened(alloc, program_of(code, program), program, given, parameters)
+        settings_keep_scales();
+        loaded_hashes_are_scaled();
+        opened(
+            alloc,
+            program_of(code, program),
+            program,
+            given,
+            tables,
+            parameters,
+        )
     }
 
     /// Whether the last unit came to no normal end, so that no other may run.
@@ -79,9 +94,10 @@ impl Machine {
         ensures { IfOk result (λ machine. machine ≡ self.now) }
     {
         let slots = copy_all(alloc, self.state.slots.as_slice())?;
+        let objects = self.state.objects.copy(alloc)?;
         let parameters = copy_all(alloc, self.state.parameters.as_slice())?;
         Ok(Machine {
-            state: State::new(alloc, slots, parameters),
+            state: State::new(alloc, slots, objects, parameters),
             spent: self.spent,
             program: self.program,
         })
@@ -97,12 +113,13 @@ impl Machine {
         budget: u64,
         sink: &mut S,
     ) -> Result<UnitEnd, OutOfMemory>
-        requires executed { IsTrue (list_all is_executed (staged_program code.now self.old.program).instrs) }
+        requires scaled { IsDataScaled (staged_program code.now self.old.program) self.old.state }
         requires budget { budget ≤ MOST_BUDGET }
         requires ready { self.old.spent ≡ false }
         ensures ran { IfOk result (λ end. IsUnitEnd S.has_taken sink.old sink.new (code_init (staged_program code.now self.old.program) budget self.old.state) end self.new.state) }
         ensures bound { IfOk result (λ end. end.executed ≤ (budget + 1) * length (staged_program code.now self.old.program).instrs) }
         ensures spent { self.new.spent ≡ leaves_spent result }
+        ensures scaled { self.new.spent ≡ false → IsDataScaled (staged_program code.now self.new.program) self.new.state }
         ensures program { self.new.program ≡ self.old.program }
     {
         valid_code_ends();
@@ -120,12 +137,14 @@ impl Machine {
         budget: u64,
         sink: &mut S,
     ) -> Result<UnitEnd, OutOfMemory>
-        requires executed { IsTrue (list_all is_executed (staged_program code.now self.old.program).instrs) }
+        requires scaled { IsDataScaled (staged_program code.now self.old.program) self.old.state }
+        requires load { AreSettingsScaled (staged_program code.now self.old.program).slots (L.settings load.now) }
         requires budget { budget ≤ MOST_BUDGET }
         requires ready { self.old.spent ≡ false }
         ensures ran { IfOk result (λ end. IsUnitEnd S.has_taken sink.old sink.new (code_run (staged_program code.now self.old.program) budget (L.settings load.now) self.old.state) end self.new.state) }
         ensures bound { IfOk result (λ end. end.executed ≤ (budget + 1) * length (staged_program code.now self.old.program).instrs) }
         ensures spent { self.new.spent ≡ leaves_spent result }
+        ensures scaled { self.new.spent ≡ false → IsDataScaled (staged_program code.now self.new.program) self.new.state }
         ensures program { self.new.program ≡ self.old.program }
     {
         valid_code_ends();
@@ -141,12 +160,13 @@ impl Machine {
         budget: u64,
         sink: &mut S,
     ) -> Result<UnitEnd, OutOfMemory>
-        requires executed { IsTrue (list_all is_executed (staged_program code.now self.old.program).instrs) }
+        requires scaled { IsDataScaled (staged_program code.now self.old.program) self.old.state }
         requires budget { budget ≤ MOST_BUDGET }
         requires ready { self.old.spent ≡ false }
         ensures ran { IfOk result (λ end. IsUnitEnd S.has_taken sink.old sink.new (code_term (staged_program code.now self.old.program) budget self.old.state) end self.new.state) }
         ensures bound { IfOk result (λ end. end.executed ≤ (budget + 1) * length (staged_program code.now self.old.program).instrs) }
         ensures spent { self.new.spent ≡ leaves_spent result }
+        ensures scaled { self.new.spent ≡ false → IsDataScaled (staged_program code.now self.new.program) self.new.state }
         ensures program { self.new.program ≡ self.old.program }
     {
         valid_code_ends();
@@ -163,13 +183,18 @@ impl Machine {
         budget: u64,
         sink: &mut S,
     ) -> Result<UnitEnd, OutOfMemory>
-        requires executable { IsExecutable code.now }
+        requires valid { IsProgramOfValid code.now }
+        requires scaled { IsDataScaled code.now self.old.state }
+        requires load { AreSettingsScaled code.now.slots (L.settings load.now) }
         requires budget { budget ≤ MOST_BUDGET }
         requires ends { EndsInTime code.now budget (code_run code.now budget (L.settings load.now) self.old.state) }
         ensures ran { IfOk result (λ end. IsUnitEnd S.has_taken sink.old sink.new (code_run code.now budget (L.settings load.now) self.old.state) end self.new.state) }
         ensures spent { self.new.spent ≡ leaves_spent result }
+        ensures scaled { self.new.spent ≡ false → IsDataScaled code.now self.new.state }
         ensures program { self.new.program ≡ self.old.program }
     {
+        settings_keep_scales();
+        clearing_keeps_scales();
         self.spent = true;
         clear(&mut self.state.slots, code.slots.as_slice());
         load.set_into(alloc, &mut self.state.slots)?;
@@ -186,19 +211,24 @@ impl Machine {
         sink: &mut S,
     ) -> Result<UnitEnd, OutOfMemory>
         requires executable { IsExecutable code.now }
+        requires valid { IsProgramOfValid code.now }
+        requires entry { (k : ℕ) × (slice_get (unit_entries code.now) k ≡ Some entry) }
+        requires scaled { IsDataScaled code.now self.old.state }
         requires budget { budget ≤ MOST_BUDGET }
         requires ends { EndsInTime code.now budget (code_unit code.now entry budget self.old.state) }
         ensures ran { IfOk result (λ end. IsUnitEnd S.has_taken sink.old sink.new (code_unit code.now entry budget self.old.state) end self.new.state) }
         ensures spent { self.new.spent ≡ leaves_spent result }
+        ensures scaled { self.new.spent ≡ false → IsDataScaled code.now self.new.state }
         ensures program { self.new.program ≡ self.old.program }
     {
         run_has_one_end();
         units_begin_with_little();
+        units_begin_scaled();
         self.spent = true;
         self.state.begin(entry, budget);
         let ran = self.state.run(alloc, code, sink)?;
         let ending = ending_of(ran.halt, self.state.place);
-        self.spent = ending != Ending::Normal;
+        self.spent = is_early(ending);
         Ok(UnitEnd {
             ending,
             left: self.state.left,
@@ -208,24 +238,42 @@ impl Machine {
 }
 
 // A machine for a program before its first unit.
-fn opened(
+fn opened<T: HashTables>(
     alloc: Global,
     code: &ProgramParts,
     program: usize,
     given: &[Value],
+    tables: &T,
     parameters: usize,
 ) -> Result<Machine, OutOfMemory>
-    requires { HasNoHashes code.now }
-    ensures { IfOk result (λ machine. machine ≡ record { state = opening_data code.now given.now [] parameters; spent = false; program = program }) }
+    requires { AreSlotTypesInBounds code.now.slots }
+    ensures { IfOk result (λ machine. machine ≡ record { state = opening_data code.now given.now (T.tables tables.now) parameters; spent = false; program = program }) }
 {
     let mut slots = nulls(alloc, code.slots.len())?;
     set_values(alloc, &mut slots, code.parameters.as_slice(), given)?;
+    let objects = HashObjects::load(
+        alloc,
+        code.slots.as_slice(),
+        code.hashes.as_slice(),
+        code.iterators.as_slice(),
+        tables,
+    )?;
     let stage = nulls(alloc, parameters)?;
     Ok(Machine {
-        state: State::new(alloc, slots, stage),
+        state: State::new(alloc, slots, objects, stage),
         spent: false,
         program,
     })
+}
+
+// Whether a unit that ended so came to no normal end.
+fn is_early(ending: Ending) -> bool
+    ensures { result ≡ is_early ending }
+{
+    match ending {
+        Ending::Normal => false,
+        Ending::Faulted { .. } => true,
+    }
 }
 
 // How the unit ended, where it came to its end; a fault is at the place of the step that is under way.

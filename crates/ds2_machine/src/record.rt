@@ -4,9 +4,9 @@ ghost use Rattle.ds2_code.specs.Desk.{values_of_slots};
 ghost use Rattle.ds2_machine.specs.Kept.{slots_of_columns};
 
 use crate::UnitSink;
-use crate::slots::copy_at;
 use ds2_base::{List, Name, OutOfMemory, Text};
 use ds2_code::OutputPart;
+use ds2_slots::copy_at;
 use ds2_value::{Row, Value};
 use std::alloc::Global;
 

@@ -3,11 +3,11 @@ ghost use Rattle.std.specs.Prelude.{◌≡◌, IsTrue, Some};
 ghost use Rattle.std.specs.Option.{is_some};
 ghost use Rattle.ds2_code.specs.InstructionTable.{kind_of};
 ghost use Rattle.ds2_operations.specs.OperationKinds.{operation_operands};
-ghost use Rattle.ds2_machine.specs.Shapes.{HasShape, is_executed};
+ghost use Rattle.ds2_machine.specs.Shapes.{HasShape};
 
 use ds2_base::Place;
 use ds2_code::Instr;
-use ds2_value::Fault;
+use ds2_value::{Fault, HashFunction, IteratorFunction};
 
 /// Where a value is loaded from.
 #[derive(Clone, Copy)]
@@ -38,6 +38,10 @@ pub enum Quiet {
     Test(bool, u32),
     Enter(u32),
     GoBack(bool),
+    /// It calls a hash object.
+    CallHash(HashFunction, u32),
+    /// It calls an iterator.
+    CallIterator(IteratorFunction, u32),
     Raise(Fault),
     Finish,
 }
@@ -56,7 +60,6 @@ pub enum Shape {
 /// What an instruction does.
 #[inline]
 pub fn shape_of(instr: Instr) -> Shape
-    requires { IsTrue (is_executed instr) }
     ensures { HasShape result (kind_of instr) }
 {
     match instr {
@@ -76,6 +79,10 @@ pub fn shape_of(instr: Instr) -> Shape
         Instr::Call(method) => Shape::Quiet(Quiet::Enter(method)),
         Instr::Ret => Shape::Quiet(Quiet::GoBack(false)),
         Instr::RetV => Shape::Quiet(Quiet::GoBack(true)),
+        Instr::HCall(hash, function) => Shape::Quiet(Quiet::CallHash(function, hash)),
+        Instr::ICall(iterator, function) => {
+            Shape::Quiet(Quiet::CallIterator(function, iterator))
+        }
         Instr::NoWhen => Shape::Quiet(Quiet::Raise(Fault::NoWhen)),
         Instr::End => Shape::Quiet(Quiet::Finish),
         _ => Shape::Quiet(Quiet::Operation(operands_of(instr))),

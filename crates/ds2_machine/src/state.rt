@@ -1,29 +1,33 @@
 //! The machine between two instructions.
 ghost use Rattle.ds2_base.specs.Says.{Says};
-ghost use Rattle.std.specs.Prelude.{Result as CallResult, ◌≡◌, ◌<◌, ◌^◌, [], IsTrue, Some, IfOk, OnOk};
+ghost use Rattle.std.specs.Prelude.{Result as CallResult, ◌≡◌, ◌<◌, ◌^◌, [], IsTrue, Some, IfOk, OnOk, slice_get};
+ghost use Rattle.ds2_scales.specs.Scales.{IsDataScaled};
+ghost use Rattle.ds2_machine.specs.declared.state.Halt.TheVariants.{Normal as HaltNormal};
 ghost use Rattle.ds2_value.specs.Operations.{is_true};
 ghost use Rattle.ds2_value.specs.Row.{Row};
 ghost use Rattle.ds2_code.specs.CodeBound.{work_left};
 ghost use Rattle.ds2_code.specs.CodeUnit.{unit_begun};
 ghost use Rattle.ds2_code.specs.CodeRun.{perform, goes_to, on_desk, on_texts, on_step, on_condition, place_tested, on_method, on_return, with_in_outs};
 ghost use Rattle.ds2_code.specs.Desk.{IntoSlot, IntoLocal, IntoParameter, top_into, without_top, loaded_value, take_off};
-ghost use Rattle.ds2_code.specs.InstructionTable.{kind_of, Loads, Writes, Enters, GoesBack};
+ghost use Rattle.ds2_code.specs.HashCalls.{hash_called, iterator_moved};
+ghost use Rattle.ds2_code.specs.InstructionTable.{kind_of, Loads, Writes, Enters, GoesBack, CallsHash, CallsIterator};
 ghost use Rattle.ds2_operations.specs.OperationKinds.{has_type_in_bounds, operation_operands};
-ghost use Rattle.ds2_machine.specs.MachineView.{UnitTold, nothing_told, machine_of_state, desk_of_state, data_of_state, progress_of_state, HasRunTo, IsQuietStep, IsSunkStep, AreTaken, with_operands};
+ghost use Rattle.ds2_machine.specs.MachineView.{UnitTold, nothing_told, machine_of_state, desk_of_state, data_of_state, progress_of_state, IsStateScaled, HasRunTo, IsQuietStep, IsSunkStep, AreTaken, with_operands};
 ghost use Rattle.ds2_machine.specs.Results.{as_list};
-ghost use Rattle.ds2_machine.specs.Shapes.{IsExecutable, HasQuietShape, is_executed, load_source_of, store_target_of};
+ghost use Rattle.ds2_machine.specs.Shapes.{IsExecutable, HasScalesFor, HasQuietShape, load_source_of, store_target_of};
 
 use crate::UnitSink;
 use crate::arguments::Arguments;
 use crate::frames::{Frames, Waiting};
 use crate::pile::Pile;
 use crate::shape::{Quiet, Shape, Source, Target, shape_of};
-use crate::slots::{copy_at, set};
 use ds2_base::{List, OutOfMemory, Place, Stop};
 use ds2_code::laws::instructions_leave_less;
-use ds2_code::{Instr, MethodPart, ParameterPart, ProgramParts};
+use ds2_code::{HashPart, Instr, MethodPart, ParameterPart, ProgramParts};
 use ds2_operations::{computed, write_line};
-use ds2_value::{CALL_DEPTH, Fault, Truth, Value};
+use ds2_scales::laws::{instructions_keep_scales, products_have_scales, units_end_scaled};
+use ds2_slots::{HashObjects, copy_at, set};
+use ds2_value::{CALL_DEPTH, Fault, HashFunction, IteratorFunction, Truth, Value};
 use std::alloc::Global;
 
 /// How a run ends. A run of valid code is never stuck.
@@ -56,6 +60,8 @@ pub struct State {
     pub arguments: Arguments,
     /// The global slots.
     pub slots: List<Value>,
+    /// The hash objects and their iterators.
+    pub objects: HashObjects,
     /// The parameters of the thread program that the program reads from.
     pub parameters: List<Value>,
     /// Where the step that is under way stands.
@@ -68,8 +74,13 @@ pub struct State {
 
 impl State {
     /// A machine with this data that has executed nothing.
-    pub fn new(alloc: Global, slots: List<Value>, parameters: List<Value>) -> State
-        ensures { data_of_state result ≡ record { slots = slots; hashes = []; iterators = []; parameters = parameters } }
+    pub fn new(
+        alloc: Global,
+        slots: List<Value>,
+        objects: HashObjects,
+        parameters: List<Value>,
+    ) -> State
+        ensures { data_of_state result ≡ record { slots = slots; hashes = objects.hashes; iterators = objects.iterators; parameters = parameters } }
     {
         State {
             at: 0,
@@ -78,6 +89,7 @@ impl State {
             frames: Frames::new(alloc),
             arguments: Arguments::new(alloc),
             slots,
+            objects,
             parameters,
             place: Place { line: 0, column: 0 },
             left: 0,
@@ -106,9 +118,14 @@ impl State {
     ) -> Result<Ran, OutOfMemory>
         requires executable { IsExecutable code.now }
         requires small { work_left code.now.instrs (machine_of_state self.old nothing_told) < 2 ^ 63 }
-        ensures { IfOk result (λ ran. HasRunTo S.has_taken sink.old sink.new code.now (machine_of_state self.old nothing_told) ran.executed ran.halt self.new) }
+        requires scaled { IsStateScaled code.now self.old }
+        ensures scaled { IfOk result (λ ran. ran.halt ≡ HaltNormal → IsDataScaled code.now (data_of_state self.new)) }
+        ensures ran { IfOk result (λ ran. HasRunTo S.has_taken sink.old sink.new code.now (machine_of_state self.old nothing_told) ran.executed ran.halt self.new) }
     {
         instructions_leave_less();
+        instructions_keep_scales();
+        products_have_scales();
+        units_end_scaled();
         let mut executed: u64 = 0;
         'steps: loop {
             let next = code.instrs.get(self.at);
@@ -135,8 +152,8 @@ impl State {
         sink: &mut S,
     ) -> Result<Option<Halt>, OutOfMemory>
         requires at { self.old.at < 2 ^ 32 }
-        requires executed { IsTrue (is_executed instr) }
         requires bounds { IsTrue (has_type_in_bounds instr) }
+        requires scales { HasScalesFor instr self.old.operands.stack }
         ensures { IfOk result (λ halt. IsSunkStep S.has_taken sink.old sink.new (λ told. perform code.now (kind_of instr) (machine_of_state self.old told)) self.new halt) }
     {
         match shape_of(instr) {
@@ -156,8 +173,8 @@ impl State {
         quiet: Quiet,
     ) -> Result<Option<Halt>, OutOfMemory>
         requires at { self.old.at < 2 ^ 32 }
-        requires executed { IsTrue (is_executed instr) }
         requires bounds { IsTrue (has_type_in_bounds instr) }
+        requires scales { HasScalesFor instr self.old.operands.stack }
         requires shape { HasQuietShape quiet (kind_of instr) }
         ensures { IfOk result (λ halt. (told : UnitTold) → IsQuietStep (perform code.now (kind_of instr) (machine_of_state self.old told)) told self.new halt) }
     {
@@ -171,6 +188,10 @@ impl State {
             Quiet::Test(wanted, to) => Ok(self.test(wanted, to)),
             Quiet::Enter(number) => self.call(code, number),
             Quiet::GoBack(has_result) => self.go_back(alloc, code, has_result),
+            Quiet::CallHash(function, number) => self.call_hash(alloc, code, function, number),
+            Quiet::CallIterator(function, number) => {
+                self.call_iterator(alloc, code, function, number)
+            }
             Quiet::Raise(fault) => Ok(Some(Halt::Faulted(fault))),
             Quiet::Finish => Ok(Some(Halt::Normal)),
         }
@@ -186,8 +207,8 @@ impl State {
         n: usize,
     ) -> Result<Option<Halt>, OutOfMemory>
         requires at { self.old.at < 2 ^ 32 }
-        requires executed { IsTrue (is_executed instr) }
         requires bounds { IsTrue (has_type_in_bounds instr) }
+        requires scales { HasScalesFor instr self.old.operands.stack }
         requires operands { operation_operands (kind_of instr) ≡ Some n }
         ensures { IfOk result (λ halt. (told : UnitTold) → IsQuietStep (perform code.now (kind_of instr) (machine_of_state self.old told)) told self.new halt) }
     {
@@ -462,6 +483,108 @@ impl State {
             self.operands.push_where(alloc, parameter.is_in_out, value)?;
         }
         Ok(())
+    }
+
+    // Calls a hash object.
+    fn call_hash(
+        &mut self,
+        alloc: Global,
+        code: &ProgramParts,
+        function: HashFunction,
+        number: u32,
+    ) -> Result<Option<Halt>, OutOfMemory>
+        requires { self.old.at < 2 ^ 32 }
+        ensures { IfOk result (λ halt. (told : UnitTold) → IsQuietStep (perform code.now (CallsHash function number) (machine_of_state self.old told)) told self.new halt) }
+    {
+        let Some(part) = code.hashes.get(number as usize) else {
+            return Ok(Some(Halt::Stuck));
+        };
+        self.call_object(alloc, code, function, number, part)
+    }
+
+    // Calls this hash object.
+    fn call_object(
+        &mut self,
+        alloc: Global,
+        code: &ProgramParts,
+        function: HashFunction,
+        number: u32,
+        part: &HashPart,
+    ) -> Result<Option<Halt>, OutOfMemory>
+        requires { self.old.at < 2 ^ 32 }
+        ensures { IfOk result (λ halt. (told : UnitTold) → IsQuietStep (on_desk (hash_called code.now function number (Some part.now) (desk_of_state self.old)) (machine_of_state self.old told)) told self.new halt) }
+    {
+        let given = self.objects.call(
+            alloc,
+            function,
+            number as usize,
+            part,
+            code.iterators.as_slice(),
+            &mut self.slots,
+        )?;
+        self.operands.push(given)?;
+        self.at += 1;
+        Ok(None)
+    }
+
+    // Calls an iterator.
+    fn call_iterator(
+        &mut self,
+        alloc: Global,
+        code: &ProgramParts,
+        function: IteratorFunction,
+        number: u32,
+    ) -> Result<Option<Halt>, OutOfMemory>
+        requires { self.old.at < 2 ^ 32 }
+        ensures { IfOk result (λ halt. (told : UnitTold) → IsQuietStep (perform code.now (CallsIterator function number) (machine_of_state self.old told)) told self.new halt) }
+    {
+        let Some(object) = code.iterators.get(number as usize) else {
+            return Ok(Some(Halt::Stuck));
+        };
+        self.move_iterator(alloc, code, function, number, *object)
+    }
+
+    // Calls an iterator of this hash object.
+    fn move_iterator(
+        &mut self,
+        alloc: Global,
+        code: &ProgramParts,
+        function: IteratorFunction,
+        number: u32,
+        object: u32,
+    ) -> Result<Option<Halt>, OutOfMemory>
+        requires { self.old.at < 2 ^ 32 }
+        ensures { IfOk result (λ halt. (told : UnitTold) → IsQuietStep (on_desk (iterator_moved function number object (slice_get code.now.hashes object) (desk_of_state self.old)) (machine_of_state self.old told)) told self.new halt) }
+    {
+        let Some(part) = code.hashes.get(object as usize) else {
+            return Ok(Some(Halt::Stuck));
+        };
+        self.walk(alloc, function, number, object, part)
+    }
+
+    // Calls an iterator of a hash object that has this part.
+    fn walk(
+        &mut self,
+        alloc: Global,
+        function: IteratorFunction,
+        number: u32,
+        object: u32,
+        part: &HashPart,
+    ) -> Result<Option<Halt>, OutOfMemory>
+        requires { self.old.at < 2 ^ 32 }
+        ensures { IfOk result (λ halt. (told : UnitTold) → IsQuietStep (on_desk (iterator_moved function number object (Some part.now) (desk_of_state self.old)) (machine_of_state self.old told)) told self.new halt) }
+    {
+        let given = self.objects.iterate(
+            alloc,
+            function,
+            number as usize,
+            object as usize,
+            part,
+            &mut self.slots,
+        )?;
+        self.operands.push(given)?;
+        self.at += 1;
+        Ok(None)
     }
 
     // Gives a row of an output to the sink.

@@ -9,6 +9,7 @@ use Rattle.ds2_value.specs.declared.value.Value.TheVariants.{Null}
 use Rattle.ds2_code.specs.declared.instr.Instr.{Instr}
 use Rattle.ds2_code.specs.declared.instr.Instr.TheVariants as instr
 use Rattle.ds2_code.specs.InstructionTable.{Kind, Pure, Partial}
+use Rattle.ds2_scales.specs.Scales.{is_scale_of_product}
 
 -- how many operands an operation takes; None for an instruction that is none
 abbrev pub operation_operands : Kind → Option ℕ
@@ -36,10 +37,10 @@ goes_by_list instr.Trim = true
 goes_by_list instr.Show = true
 goes_by_list _ = false
 
--- an operation that is computed: each but for products of decimals
-abbrev pub is_computed : Instr → Bool
-is_computed instr.DMul = false
-is_computed _ = true
+-- the operands have the scales that an operation asks for: those of a product of decimals sum to at most 38
+abbrev pub has_scales_for : Instr → Row → Bool
+has_scales_for instr.DMul operands = is_scale_of_product operands
+has_scales_for _ operands = true
 
 -- the type that a value is assigned to is in bounds
 abbrev pub has_type_in_bounds : Instr → Bool

@@ -1,7 +1,8 @@
 //! Operations on decimals; null where an operand is null.
-ghost use Rattle.std.specs.Prelude.{◌≡◌};
+ghost use Rattle.std.specs.Prelude.{◌≡◌, ◌∷◌, [], IsTrue};
 ghost use Rattle.ds2_value.specs.Operations.{widened, of_decimal, of_decimals};
 ghost use Rattle.ds2_decimal.specs.Arithmetic as decimal;
+ghost use Rattle.ds2_scales.specs.Scales.{is_scale_of_product};
 
 use ds2_value::{Fault, Value, decimal_value, whole_decimal};
 
@@ -75,6 +76,20 @@ pub(crate) fn decimal_difference(a: &Value, b: &Value) -> Result<Value, Fault>
     match a {
         Value::Dec(x) => match b {
             Value::Dec(y) => decimal_value(x.sub(*y)),
+            Value::Null | Value::Int(_) | Value::Txt(_) => Ok(Value::Null),
+        },
+        Value::Null | Value::Int(_) | Value::Txt(_) => Ok(Value::Null),
+    }
+}
+
+/// The product of two decimals, whose scales sum to at most 38.
+pub(crate) fn decimal_product(a: &Value, b: &Value) -> Result<Value, Fault>
+    requires { IsTrue (is_scale_of_product (a.now ∷ b.now ∷ [])) }
+    ensures { result ≡ of_decimals decimal.mul a.now b.now }
+{
+    match a {
+        Value::Dec(x) => match b {
+            Value::Dec(y) => decimal_value(x.mul(*y)),
             Value::Null | Value::Int(_) | Value::Txt(_) => Ok(Value::Null),
         },
         Value::Null | Value::Int(_) | Value::Txt(_) => Ok(Value::Null),

@@ -5,12 +5,12 @@ ghost use Rattle.ds2_value.specs.Operations.{truth_value, or_null_at_fault};
 ghost use Rattle.ds2_value.specs.Types.{in_bounds, assign_of};
 ghost use Rattle.ds2_value.specs.declared.ty.Ty.TheVariants.{Char, Varchar};
 ghost use Rattle.ds2_code.specs.InstructionTable.{kind_of};
-ghost use Rattle.ds2_operations.specs.OperationKinds.{goes_by_list, is_computed, has_type_in_bounds, operation_operands, operation_result};
+ghost use Rattle.ds2_operations.specs.OperationKinds.{goes_by_list, has_scales_for, has_type_in_bounds, operation_operands, operation_result};
 
 use crate::choices::{first, greatest, least};
 use crate::decimals::{
-    decimal_difference, decimal_remainder, decimal_sum, floored, negated, quotient, raised,
-    widened, without_sign,
+    decimal_difference, decimal_product, decimal_remainder, decimal_sum, floored, negated,
+    quotient, raised, widened, without_sign,
 };
 use crate::lines::shown;
 use ds2_base::{Stop, refusing};
@@ -24,7 +24,7 @@ use std::alloc::Global;
 /// What an operation gives for its operands, the last one on top.
 #[inline]
 pub fn computed(alloc: Global, instr: Instr, operands: &[Value]) -> Result<Value, Stop<Fault>>
-    requires computed { IsTrue (is_computed instr) }
+    requires scales { IsTrue (has_scales_for instr operands.now) }
     requires bounds { IsTrue (has_type_in_bounds instr) }
     requires operands { operation_operands (kind_of instr) ≡ Some (length operands.now) }
     ensures { Says result (operation_result (kind_of instr) operands.now) }
@@ -48,7 +48,7 @@ pub fn computed(alloc: Global, instr: Instr, operands: &[Value]) -> Result<Value
 #[inline]
 fn computed_from_few(alloc: Global, instr: Instr, operands: &[Value]) -> Result<Value, Stop<Fault>>
     requires few { goes_by_list instr ≡ false }
-    requires computed { IsTrue (is_computed instr) }
+    requires scales { IsTrue (has_scales_for instr operands.now) }
     requires bounds { IsTrue (has_type_in_bounds instr) }
     requires operands { operation_operands (kind_of instr) ≡ Some (length operands.now) }
     ensures { Says result (operation_result (kind_of instr) operands.now) }
@@ -90,7 +90,7 @@ fn computed_from_one(alloc: Global, instr: Instr, a: &Value) -> Result<Value, St
 #[inline]
 fn computed_from_two(instr: Instr, a: &Value, b: &Value) -> Result<Value, Fault>
     requires few { goes_by_list instr ≡ false }
-    requires computed { IsTrue (is_computed instr) }
+    requires scales { IsTrue (has_scales_for instr (a.now ∷ b.now ∷ [])) }
     requires operands { operation_operands (kind_of instr) ≡ Some 2 }
     ensures { result ≡ operation_result (kind_of instr) (a.now ∷ b.now ∷ []) }
 {
@@ -106,6 +106,7 @@ fn computed_from_two(instr: Instr, a: &Value, b: &Value) -> Result<Value, Fault>
         Instr::Or => Ok(truth_value(or(a.truth(), b.truth()))),
         Instr::DAdd => decimal_sum(a, b),
         Instr::DSub => decimal_difference(a, b),
+        Instr::DMul => decimal_product(a, b),
         Instr::DDiv => quotient(a, b),
         Instr::DMod => decimal_remainder(a, b),
         _ => Ok(Value::Null),

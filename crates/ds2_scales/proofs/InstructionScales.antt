@@ -1,5 +1,5 @@
 -- What an instruction leaves where it finds operands, locals and slots of their scales.
-use Rattle.std.proofs.Common.{◌≡◌, ℕ, zero, suc, ◌+◌, max, Bool, true, false, ◌&&◌, List, [], ◌∷◌, ◌++◌, map, reverse, length, replicate, Option, Some, None, Result, Ok, Err, refl, sym, ap, ◌∙◌, subst, fold, IsTrue, if◌then◌else◌, nat_le, not, slice_get, slice_set}
+use Rattle.std.proofs.Common.{◌≡◌, ℕ, zero, suc, ◌+◌, max, Bool, true, false, ◌&&◌, List, [], ◌∷◌, map, reverse, length, replicate, Option, Some, None, Result, Ok, refl, sym, ap, ◌∙◌, subst, IsTrue, nat_le, not, slice_get}
 use Rattle.std.specs.Option.{option_map}
 use Rattle.std.specs.List.{list_all}
 use Rattle.std.proofs.lemmas.List.{length-replicate}
@@ -7,11 +7,10 @@ use Rattle.ds2_decimal.specs.Arithmetic as decimal
 use Rattle.ds2_decimal.specs.Decimal.{Decimal}
 use Rattle.ds2_decimal.specs.declared.dec.DecFault.{DecFault}
 use Rattle.ds2_value.specs.Functions.{length_of, trim_of, concat_of, substr_of, is_null_of, first_of, lesser_of, greater_of}
-use Rattle.ds2_value.specs.Operations.{of_decimals, of_decimal, widened, line_value, truth_value, or_null_at_fault}
+use Rattle.ds2_value.specs.Operations.{of_decimals, of_decimal, widened}
 use Rattle.ds2_value.specs.Row.{Row}
-use Rattle.ds2_value.specs.Types.{in_bounds, assign_of, fits}
-use Rattle.ds2_value.specs.Value.{is_null, or_null, sum_of, difference_of, product_of, negative_of, absolute_of, remainder_of, compared_of, truth_of, and_of, or_of, not_of}
-use Rattle.ds2_value.specs.declared.comparison.Comparison.{Comparison}
+use Rattle.ds2_value.specs.Types.{in_bounds, fits}
+use Rattle.ds2_value.specs.Value.{is_null, or_null}
 use Rattle.ds2_value.specs.declared.fault.Fault.{Fault}
 use Rattle.ds2_value.specs.declared.ty.TheConstants.{TEXT_CHARACTERS}
 use Rattle.ds2_value.specs.declared.ty.Ty.{Ty}
@@ -21,15 +20,13 @@ use Rattle.ds2_value.specs.declared.value.Value.TheVariants.{Null}
 use Rattle.ds2_code.specs.declared.instr.Instr.{Instr}
 use Rattle.ds2_code.specs.declared.instr.Instr.TheVariants as instr
 use Rattle.ds2_code.specs.declared.parts.Constant.{Constant}
-use Rattle.ds2_code.specs.declared.parts.HashPart.{HashPart}
 use Rattle.ds2_code.specs.declared.parts.MethodPart.{MethodPart}
-use Rattle.ds2_code.specs.declared.parts.OutputPart.{OutputPart}
 use Rattle.ds2_code.specs.declared.parts.ParameterPart.{ParameterPart}
 use Rattle.ds2_code.specs.declared.parts.ProgramParts.{ProgramParts}
 use Rattle.ds2_code.specs.CodeRun.{method_result}
-use Rattle.ds2_code.specs.Desk.{Desk, Taken, take_off, LoadSource, OfConstant, OfSlot, OfLocal, StoreTarget, IntoSlot, IntoLocal, IntoParameter, constant_value, loaded_value, with_stored}
-use Rattle.ds2_code.specs.InstructionTable.{Kind, Pure, Partial, Loads, Stores, Drops, CallsHash, CallsIterator, Writes, Puts, Ticks, Jumps, Tests, Enters, GoesBack, Raises, Finishes, kind_of, of_operand, of_operands, from_operand, from_operands}
-use Rattle.ds2_code.specs.OperandTypes.{OperandTypes, Signature, CodeRole, OfUnit, OfMethod, OperandClass, OneType, AnyDecimal, AnyText, AnyType, TakenTypes, take_classes, with_type, one_for, none_for, when_none, none_below, always, as_operand, by_scales, part_of_first, both_texts, chosen_types, chosen_numbers, when_there, stored_type, types_of_parameters, types_of_locals, with_in_out_types, with_result_type, after_call_types, call_types, without_result, with_only_result, return_types, result_types, slot_type, types_behind}
+use Rattle.ds2_code.specs.Desk.{Desk, Taken, take_off, constant_value, loaded_value, with_stored}
+use Rattle.ds2_code.specs.InstructionTable.{Kind, Pure, Partial, Loads, Stores, Drops, CallsHash, CallsIterator, Writes, Puts, Ticks, Jumps, Tests, Enters, GoesBack, Raises, Finishes, kind_of, of_operand, from_operands}
+use Rattle.ds2_code.specs.OperandTypes.{OperandTypes, Signature, CodeRole, OfUnit, OfMethod, OperandClass, OneType, AnyDecimal, AnyText, AnyType, TakenTypes, take_classes, with_type, one_for, none_for, always, as_operand, by_scales, part_of_first, both_texts, when_there, stored_type, types_of_parameters, types_of_locals, with_in_out_types, with_result_type, after_call_types, call_types, without_result, with_only_result, return_types, result_types, slot_type, types_behind}
 use Rattle.ds2_code.specs.ValidCode.{constant_allowed, is_char_type}
 use Rattle.ds2_scales.specs.Scales.{is_scaled, AreScaled, types_of_slots}
 use Rattle.ds2_scales.proofs.ScaledLists.{both, if_some, some_is, fits_scaled, get_scaled, set_scaled, slot_type_at}
@@ -64,8 +61,8 @@ ScalesFor code role (Stores s) types after =
     (v : Value) (stack : Row) (d : Desk) → AreScaled (v ∷ stack) types → AreScaled d.locals (types_of_locals role) → AreScaled d.state.slots (types_of_slots code.slots)
     → AreScaled stack after × AreScaled (with_stored s v d).locals (types_of_locals role) × AreScaled (with_stored s v d).state.slots (types_of_slots code.slots)
 ScalesFor code role Drops types after = (v : Value) (stack : Row) → AreScaled (v ∷ stack) types → AreScaled stack after
-ScalesFor code role (CallsHash f h) types after = ⊥
-ScalesFor code role (CallsIterator f i) types after = ⊥
+ScalesFor code role (CallsHash f h) types after = after ≡ BigInt ∷ types
+ScalesFor code role (CallsIterator f i) types after = after ≡ BigInt ∷ types
 ScalesFor code role (Writes o) types after = after ≡ types
 ScalesFor code role (Puts k) types after = (stack : Row) (t : Taken) → AreScaled stack types → take_off k [] stack ≡ Some t → AreScaled t.below after
 ScalesFor code role (Ticks p) types after = after ≡ types
@@ -133,13 +130,9 @@ none_there : {A : Type 0} (o : Option A) (types : Option OperandTypes) (after : 
 none_there None types after h = absurd cc
 none_there (Some x) types after h = h
 
-not_there : {A : Type 0} (xs : List A) (n : ℕ) (types : Option OperandTypes) (after : OperandTypes) → xs ≡ [] → when_there (slice_get xs n) types ≡ Some after → ⊥
-not_there [] n types after e h = absurd cc
-not_there (x ∷ xs) n types after e h = absurd cc
-
 -- ---- instructions
 
-module _ (code : ProgramParts) (constants : list_all constant_allowed code.constants ≡ true) (no_hashes : code.hashes ≡ []) (no_iterators : code.iterators ≡ []) (parameters : List (Option Ty)) (role : CodeRole) where
+module _ (code : ProgramParts) (constants : list_all constant_allowed code.constants ≡ true) (parameters : List (Option Ty)) (role : CodeRole) where
   -- an operation that gives no decimal
   plain_value : (f : Row → Value) → ((vs : Row) → IsTrue (is_plain (f vs))) → (result : List Ty → Option Ty) (cs : List OperandClass) (types after : OperandTypes) → one_for result (take_classes cs [] types) ≡ Some after
       → (stack : Row) (t : Taken) → AreScaled stack types → take_off (length cs) [] stack ≡ Some t → AreScaled (f t.values ∷ t.below) after
@@ -232,7 +225,7 @@ module _ (code : ProgramParts) (constants : list_all constant_allowed code.const
   scales instr.Show types after h = plain_value _ shown_plain (always (Varchar TEXT_CHARACTERS)) (AnyType ∷ []) types after h
   scales (instr.Put n) types after h = λ stack t s g.
       dropped_scaled (replicate n AnyText) types after stack t (if_some (nat_le n 1000000) (none_for (take_classes (replicate n AnyText) [] types)) after h) s (ap (λ k. take_off k [] stack) (length-replicate n AnyText) ∙ g)
-  scales (instr.HCall k f) types after h = not_there code.hashes k (Some (BigInt ∷ types)) after no_hashes h
-  scales (instr.ICall k f) types after h = not_there code.iterators k (Some (BigInt ∷ types)) after no_iterators h
+  scales (instr.HCall k f) types after h = sym (some_is (BigInt ∷ types) after (none_there (slice_get code.hashes k) (Some (BigInt ∷ types)) after h))
+  scales (instr.ICall k f) types after h = sym (some_is (BigInt ∷ types) after (none_there (slice_get code.iterators k) (Some (BigInt ∷ types)) after h))
   scales (instr.SetParm j) types after h = λ v stack d s l g. ((stored_type_scaled _ v stack types after h s).1, l, g)
   scales instr.End types after h = tt

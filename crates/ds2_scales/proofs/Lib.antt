@@ -4,4 +4,5 @@ pub mod ScaledResults
 pub mod OperandScales
 pub mod InstructionScales
 pub mod CodePlaces
+pub mod HashScales
 pub mod MachineScales

@@ -1,5 +1,5 @@
 -- Operations whose results are no decimals.
-use Rattle.std.proofs.Common.{◌≡◌, ℕ, zero, suc, ◌+◌, max, Bool, true, false, ◌&&◌, List, [], ◌∷◌, ◌++◌, map, reverse, length, replicate, Option, Some, None, Result, Ok, Err, ℤ, pos, negsuc, ◌+ℤ◌, ◌-ℤ◌, ◌*ℤ◌, neg_ℤ, unsigned_abs, int_rem, refl, sym, ap, ◌∙◌, subst, fold, IsTrue, if◌then◌else◌, nat_le, slice_get, slice_set, ◌==◌}
+use Rattle.std.proofs.Common.{◌≡◌, ℕ, zero, suc, Bool, true, false, [], ◌∷◌, Option, Some, None, Result, Ok, Err, ℤ, pos, negsuc, ◌+ℤ◌, ◌-ℤ◌, ◌*ℤ◌, neg_ℤ, unsigned_abs, int_rem, refl, subst, IsTrue, if◌then◌else◌, nat_le}
 use Rattle.ds2_decimal.specs.Rounding.{is_zero}
 use Rattle.std.specs.Option.{option_map_or}
 use Rattle.std.specs.declared.cmp.Ordering.{Ordering}
@@ -18,7 +18,7 @@ use Rattle.ds2_value.specs.declared.truth.Truth.{Truth}
 use Rattle.ds2_value.specs.declared.truth.Truth.TheVariants.{Yes, No, Unknown}
 use Rattle.ds2_value.specs.declared.ty.TheConstants.{TEXT_CHARACTERS}
 use Rattle.ds2_value.specs.declared.ty.Ty.{Ty}
-use Rattle.ds2_value.specs.declared.ty.Ty.TheVariants.{BigInt, Decimal as DecimalOf, Char, Varchar}
+use Rattle.ds2_value.specs.declared.ty.Ty.TheVariants.{Char, Varchar}
 use Rattle.ds2_value.specs.declared.value.Value.{Value}
 use Rattle.ds2_value.specs.declared.value.Value.TheVariants.{Null, Int, Dec, Txt}
 use Rattle.ds2_code.specs.InstructionTable.{of_operand, of_operands, from_operand, from_operands}

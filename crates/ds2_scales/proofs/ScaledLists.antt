@@ -1,8 +1,6 @@
 -- Values beside types, one after the other.
-use Rattle.std.proofs.Common.{◌≡◌, ℕ, zero, suc, ◌+◌, max, Bool, true, false, ◌&&◌, List, [], ◌∷◌, ◌++◌, map, reverse, length, replicate, Option, Some, None, Result, Ok, Err, ℤ, pos, ◌+ℤ◌, ◌-ℤ◌, ◌*ℤ◌, neg_ℤ, unsigned_abs, int_rem, refl, sym, ap, ◌∙◌, subst, fold, IsTrue, if◌then◌else◌, nat_le, slice_get, slice_set, ◌==◌}
-use Rattle.std.specs.Option.{option_map}
-use Rattle.std.proofs.lemmas.Bool.{eqb-true, eq-eqb}
-use Rattle.ds2_decimal.specs.Decimal.{Decimal}
+use Rattle.std.proofs.Common.{◌≡◌, ℕ, zero, suc, Bool, true, false, ◌&&◌, List, [], ◌∷◌, ◌++◌, length, replicate, Option, Some, None, refl, sym, ap, ◌∙◌, subst, IsTrue, if◌then◌else◌, slice_get, slice_set, ◌==◌}
+use Rattle.std.proofs.lemmas.Bool.{eqb-true}
 use Rattle.ds2_value.specs.Row.{Row}
 use Rattle.ds2_value.specs.Types.{fits}
 use Rattle.ds2_value.specs.Value.{or_null}
@@ -16,7 +14,7 @@ use Rattle.ds2_code.specs.declared.parts.SlotRole.TheVariants.{Cleared, Kept, Co
 use Rattle.ds2_code.specs.CodeUnit.{null_where_cleared, without_cleared}
 use Rattle.ds2_code.specs.Desk.{SlotSettings, with_slot_settings}
 use Rattle.ds2_code.specs.OperandTypes.{same_ty, slot_type}
-use Rattle.ds2_scales.specs.Scales.{is_type_of_scale, is_scaled, AreScaled, types_of_slots, AreSettingsScaled}
+use Rattle.ds2_scales.specs.Scales.{is_scaled, AreScaled, types_of_slots, AreSettingsScaled}
 
 pub both : (a b : Bool) → (a && b) ≡ true → (a ≡ true) × (b ≡ true)
 both true b h = (refl, h)

@@ -1,5 +1,5 @@
 -- The scales of what operations on decimals give, and of choices.
-use Rattle.std.proofs.Common.{◌≡◌, ℕ, zero, suc, ◌+◌, ◌-◌, ◌^◌, ◌+ℤ◌, ◌-ℤ◌, ◌*ℤ◌, unsigned_abs, int_rem, max, Bool, true, false, ◌&&◌, List, [], ◌∷◌, ◌++◌, map, reverse, length, replicate, Option, Some, None, Result, Ok, Err, ℤ, pos, refl, sym, ap, ◌∙◌, subst, fold, IsTrue, if◌then◌else◌, nat_le, slice_get, slice_set, ◌==◌}
+use Rattle.std.proofs.Common.{◌≡◌, ℕ, ◌+◌, ◌-◌, ◌^◌, ◌+ℤ◌, ◌-ℤ◌, ◌*ℤ◌, unsigned_abs, int_rem, max, Bool, true, false, List, [], ◌∷◌, Option, Some, None, Result, Ok, Err, ℤ, refl, sym, ap, ◌∙◌, subst, fold, IsTrue, if◌then◌else◌, nat_le}
 use Rattle.std.specs.Option.{option_map_or}
 use Rattle.std.specs.Ordering.{is_lt, is_gt}
 use Rattle.std.proofs.lemmas.Bool.{eqb-true, eq-eqb}
@@ -21,7 +21,7 @@ use Rattle.ds2_value.specs.declared.ty.Ty.TheVariants.{BigInt, Decimal as Decima
 use Rattle.ds2_value.specs.declared.value.Value.{Value}
 use Rattle.ds2_value.specs.declared.value.Value.TheVariants.{Null, Int, Dec, Txt}
 use Rattle.ds2_code.specs.InstructionTable.{of_operand, from_operand, from_operands}
-use Rattle.ds2_code.specs.OperandTypes.{decimal_of_scale, by_scales, as_operand, always}
+use Rattle.ds2_code.specs.OperandTypes.{decimal_of_scale, by_scales, as_operand}
 use Rattle.ds2_scales.specs.Scales.{is_type_of_scale, is_scaled, AreScaled, is_scale_of_product}
 use Rattle.ds2_scales.proofs.ScaledLists.{if_some, some_is}
 

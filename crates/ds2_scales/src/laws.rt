@@ -1,7 +1,7 @@
 //! What holds of the scales of decimals along the run of valid code.
-ghost use Rattle.ds2_scales.specs.Scales.{UnitsBeginScaled, InstructionsKeepScales, ProductsHaveScales, UnitsEndScaled, SettingsKeepScales, ClearingKeepsScales};
+ghost use Rattle.ds2_scales.specs.Scales.{UnitsBeginScaled, InstructionsKeepScales, ProductsHaveScales, UnitsEndScaled, SettingsKeepScales, ClearingKeepsScales, LoadedHashesAreScaled};
 
-/// A unit begins with decimals of their scales where the slots have them.
+/// A unit begins with decimals of their scales where the program's data has them.
 pub fn units_begin_scaled()
     ensures { UnitsBeginScaled }
 {}
@@ -16,7 +16,7 @@ pub fn products_have_scales()
     ensures { ProductsHaveScales }
 {}
 
-/// A unit that comes to its end leaves slots with decimals of their scales.
+/// A unit that comes to its end leaves data with decimals of their scales.
 pub fn units_end_scaled()
     ensures { UnitsEndScaled }
 {}
@@ -29,4 +29,9 @@ pub fn settings_keep_scales()
 /// Slots that `run` sets to null keep the scales of slots.
 pub fn clearing_keeps_scales()
     ensures { ClearingKeepsScales }
+{}
+
+/// Hash objects that are loaded from tables begin with decimals of the scales of their data variables.
+pub fn loaded_hashes_are_scaled()
+    ensures { LoadedHashesAreScaled }
 {}

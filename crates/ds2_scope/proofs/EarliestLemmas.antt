@@ -63,7 +63,7 @@ later_trans a b c h k =
     must_not (is_earlier a c) (λ n. let x = not_before a b h in let y = not_before b c k in let z = before a c n in omega (arith, x, y, z))
 
 -- what does not stand before a, and before p, has a before p
-before_too : (a b p : Place) → is_earlier b a ≡ false → is_earlier b p ≡ true → is_earlier a p ≡ true
+pub before_too : (a b p : Place) → is_earlier b a ≡ false → is_earlier b p ≡ true → is_earlier a p ≡ true
 before_too a b p h k =
     must (is_earlier a p) (λ n. let x = not_before b a h in let y = before b p k in let z = not_before a p n in omega (arith, x, y, z))
 
@@ -110,3 +110,23 @@ behind_either (Some a) (Some b) p = by (is_earlier b a) refl
     by : (s : Bool) → is_earlier b a ≡ s → stands_behind (if s then Some b else Some a) p ≡ (is_earlier a p || is_earlier b p)
     by true h = first h (is_earlier a p) refl
     by false h = second h (is_earlier a p) refl
+
+-- ---- the earlier of two, in either order
+
+pub same_place : (a b : Place) → a.line ≡ b.line → a.column ≡ b.column → a ≡ b
+same_place a b h k = λ i. record { line = h i; column = k i }
+
+pub earlier_of_comm : (x y : Option Place) → earlier_of x y ≡ earlier_of y x
+earlier_of_comm None y = sym (none_right y)
+earlier_of_comm (Some a) None = refl
+earlier_of_comm (Some a) (Some b) = by (is_earlier b a) (is_earlier a b) refl refl
+  where
+    by : (s t : Bool) → is_earlier b a ≡ s → is_earlier a b ≡ t → (if s then Some b else Some a) ≡ (if t then Some a else Some b)
+    by true false h k = refl
+    by false true h k = refl
+    by true true h k = let x = before b a h in let y = before a b k in absurd (omega (arith, x, y))
+    by false false h k =
+        let x = not_before b a h in
+        let y = not_before a b k in
+        let line : a.line ≡ b.line = omega (arith, x, y) in
+        let column : a.column ≡ b.column = omega (arith, x, y) in ap (λ p. Some p) (same_place a b line column)

@@ -33,10 +33,10 @@ abbrev IsBehind : Refusal ScopeKind → Refusal ScopeKind → Type 0
 IsBehind a b = (b.place.line < a.place.line) ⊎ (((b.place.line ≡ a.place.line) × (b.place.column < a.place.column))
     ⊎ ((b.place.line ≡ a.place.line) × (b.place.column ≡ a.place.column) × (scope_rank b.kind < scope_rank a.kind)))
 
-same_parts : (a b : Place) → is_same_place a b ≡ true → (a.line ≡ b.line) × (a.column ≡ b.column)
+pub same_parts : (a b : Place) → is_same_place a b ≡ true → (a.line ≡ b.line) × (a.column ≡ b.column)
 same_parts a b h = let parts = both_true (a.line == b.line) (a.column == b.column) h in (eqb-true a.line b.line parts.0, eqb-true a.column b.column parts.1)
 
-are_same : (a b : Place) → a.line ≡ b.line → a.column ≡ b.column → is_same_place a b ≡ true
+pub are_same : (a b : Place) → a.line ≡ b.line → a.column ≡ b.column → is_same_place a b ≡ true
 are_same a b h k = (λ i. eq-eqb a.line b.line h i && (a.column == b.column)) ∙ eq-eqb a.column b.column k
 
 is_first : (a b : Refusal ScopeKind) → comes_before scope_rank a b ≡ true → IsFirst a b

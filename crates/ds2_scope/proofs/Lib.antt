@@ -4,3 +4,7 @@ pub mod NamedLemmas
 pub mod CollectedLemmas
 pub mod StatementRows
 pub mod MisplacedLemmas
+pub mod SetLemmas
+pub mod TableLemmas
+pub mod ProgramNameLemmas
+pub mod EachLemmas

@@ -19,7 +19,7 @@ use Rattle.ds2_scope.proofs.EarliestLemmas.{none_right, earlier_of_assoc, earlie
 
 -- ---- calls on instances
 
-no_instance : (names : SourceNames) (m : Method) (name : List ℕ) → names.instances ≡ [] → visible_instance names m name ≡ None
+pub no_instance : (names : SourceNames) (m : Method) (name : List ℕ) → names.instances ≡ [] → visible_instance names m name ≡ None
 no_instance names m name none = by (is_named (local_names m) name)
   where
     by : (t : Bool) → (if t then None else instance_named names.instances name) ≡ None

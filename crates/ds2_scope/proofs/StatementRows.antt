@@ -50,7 +50,7 @@ abbrev body_in : code.Statement → (n : Count) × Row_of-Statement n
 body_in (statement.Do' k c p n row e end) = (_, row)
 body_in _ = (_, end_of-Statement)
 
-if_tree_is : (k : Token) (e : code_expression.Expression) (t : Token) (s : Box code.Statement Global) (others : List code_else_if.ElseIf) (o : Option code_otherwise.Otherwise)
+pub if_tree_is : (k : Token) (e : code_expression.Expression) (t : Token) (s : Box code.Statement Global) (others : List code_else_if.ElseIf) (o : Option code_otherwise.Otherwise)
     → statement_tree (statement.If k e t s others o) ≡ if_else k (expression_tree e) t (statement_tree s.value) (others_of others (otherwise_tree o))
 if_tree_is k e t s others None =
     let row = others_in (statement.If k e t s others None) in
@@ -60,7 +60,7 @@ if_tree_is k e t s others (Some o) =
     let last = Otherwise' o.keyword (statement_tree o.statement.value) in
     ap (λ r. if_else k (expression_tree e) t (statement_tree s.value) r) (others_items row.0 row.1 last ∙ ap (λ l. others_of l last) (items_hidden-the_row-ElseIf-0 others))
 
-select_tree : (k : Token) (s : Option code_selector.Selector) (p : Place) (ws : List code_when.When) (o : Option code_otherwise.Otherwise) (e : Token) (end : Place)
+pub select_tree : (k : Token) (s : Option code_selector.Selector) (p : Place) (ws : List code_when.When) (o : Option code_otherwise.Otherwise) (e : Token) (end : Place)
     → statement_tree (statement.Select k s p ws o e end) ≡ Select k (option_map selector_tree s) p (whens_of ws) (otherwise_tree o) e end
 select_tree k s p ws None e end =
     let row = whens_in (statement.Select k s p ws None e end) in
@@ -69,7 +69,7 @@ select_tree k s p ws (Some o) e end =
     let row = whens_in (statement.Select k s p ws (Some o) e end) in
     ap (λ r. Select k (option_map selector_tree s) p r (Otherwise' o.keyword (statement_tree o.statement.value)) e end) (whens_items row.0 row.1 ∙ ap whens_of (items_hidden-the_row-When-1 ws))
 
-do_tree : (k : Token) (c : code_control.DoControl) (p : Place) (ss : List code.Statement) (e : Token) (end : Place)
+pub do_tree : (k : Token) (c : code_control.DoControl) (p : Place) (ss : List code.Statement) (e : Token) (end : Place)
     → statement_tree (statement.Do k c p ss e end) ≡ Do k (control_tree c) p (statements_of ss) e end
 do_tree k c p ss e end =
     let row = body_in (statement.Do k c p ss e end) in

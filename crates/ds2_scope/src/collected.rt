@@ -36,7 +36,7 @@ fn push_declared_in(
 }
 
 /// The names of variables that a unit declares.
-pub(crate) fn declared_names(
+pub fn declared_names(
     alloc: Global,
     globals: &[GlobalItem],
 ) -> Result<List<PlacedName>, OutOfMemory>
@@ -65,10 +65,7 @@ fn push_method_in(
 }
 
 /// The names of the methods of a unit.
-pub(crate) fn method_names(
-    alloc: Global,
-    globals: &[GlobalItem],
-) -> Result<List<PlacedName>, OutOfMemory>
+pub fn method_names(alloc: Global, globals: &[GlobalItem]) -> Result<List<PlacedName>, OutOfMemory>
     ensures { IfOk result (λ names. names ≡ map method_name (source_methods (map global_tree globals.now))) }
 {
     let mut names: List<PlacedName> = List::new(alloc);
@@ -104,7 +101,7 @@ fn parameter_names(alloc: Global, parameters: &[Parameter]) -> Result<List<Place
 }
 
 /// The parameters and locals of a method.
-pub(crate) fn local_names(alloc: Global, m: &Method) -> Result<List<PlacedName>, OutOfMemory>
+pub fn local_names(alloc: Global, m: &Method) -> Result<List<PlacedName>, OutOfMemory>
     ensures { IfOk result (λ names. names ≡ local_names (method_tree m.now)) }
 {
     let mut names = parameter_names(alloc, m.parameters.list.as_slice())?;
@@ -113,10 +110,7 @@ pub(crate) fn local_names(alloc: Global, m: &Method) -> Result<List<PlacedName>,
 }
 
 /// The names of outputs.
-pub(crate) fn output_names(
-    alloc: Global,
-    outputs: &[OutputTable],
-) -> Result<List<PlacedName>, OutOfMemory>
+pub fn output_names(alloc: Global, outputs: &[OutputTable]) -> Result<List<PlacedName>, OutOfMemory>
     ensures { IfOk result (λ names. names ≡ map output_table_name outputs.now) }
 {
     let mut names: List<PlacedName> = List::new(alloc);
@@ -138,10 +132,7 @@ fn old_names(alloc: Global, renamings: &[Renaming]) -> Result<List<PlacedName>, 
 }
 
 /// The old names of the renamings in an option.
-pub(crate) fn renamed_names(
-    alloc: Global,
-    option: &OutputOption,
-) -> Result<List<PlacedName>, OutOfMemory>
+pub fn renamed_names(alloc: Global, option: &OutputOption) -> Result<List<PlacedName>, OutOfMemory>
     ensures { IfOk result (λ names. names ≡ map old_name (renamings_in option.now)) }
 {
     match option {

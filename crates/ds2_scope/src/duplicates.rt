@@ -14,10 +14,7 @@ use ds2_tree::{GlobalItem, OutputOption, OutputOptions, OutputTable};
 use std::alloc::Global;
 
 /// The earliest of the later methods of two of one name.
-pub(crate) fn repeated_method(
-    alloc: Global,
-    globals: &[GlobalItem],
-) -> Result<Option<Place>, OutOfMemory>
+pub fn repeated_method(alloc: Global, globals: &[GlobalItem]) -> Result<Option<Place>, OutOfMemory>
     ensures { IfOk result (λ place. place ≡ earliest (later_places (map method_name (source_methods (map global_tree globals.now))))) }
 {
     let names = method_names(alloc, globals)?;
@@ -39,10 +36,7 @@ fn repeated_local_in(alloc: Global, global: &GlobalItem) -> Result<Option<Place>
 }
 
 /// The earliest of the later parameters and locals of two of one name in a method.
-pub(crate) fn repeated_local(
-    alloc: Global,
-    globals: &[GlobalItem],
-) -> Result<Option<Place>, OutOfMemory>
+pub fn repeated_local(alloc: Global, globals: &[GlobalItem]) -> Result<Option<Place>, OutOfMemory>
     ensures { IfOk result (λ place. place ≡ earliest (from_each repeated_locals (source_methods (map global_tree globals.now)))) }
 {
     let mut found: Option<Place> = None;
@@ -53,10 +47,7 @@ pub(crate) fn repeated_local(
 }
 
 /// The earliest of the later outputs of two of one name.
-pub(crate) fn repeated_output(
-    alloc: Global,
-    outputs: &[OutputTable],
-) -> Result<Option<Place>, OutOfMemory>
+pub fn repeated_output(alloc: Global, outputs: &[OutputTable]) -> Result<Option<Place>, OutOfMemory>
     ensures { IfOk result (λ place. place ≡ earliest (later_places (map output_table_name outputs.now))) }
 {
     let names = output_names(alloc, outputs)?;
@@ -92,7 +83,7 @@ fn renamed_twice(
 }
 
 /// The earliest second renaming of a column in one option of one of these outputs.
-pub(crate) fn repeated_renaming(
+pub fn repeated_renaming(
     alloc: Global,
     outputs: &[OutputTable],
 ) -> Result<Option<Place>, OutOfMemory>

@@ -7,14 +7,14 @@ ghost use Rattle.ds2_scope.specs.Earliest.{earlier_of, earliest};
 use ds2_base::Place;
 
 /// Whether a place stands before another one.
-pub(crate) fn is_earlier(a: Place, b: Place) -> bool
+pub fn is_earlier(a: Place, b: Place) -> bool
     ensures { result ≡ is_earlier a b }
 {
     a.line < b.line || a.line == b.line && a.column < b.column
 }
 
 /// The earlier of a place and another one, where there is one.
-pub(crate) fn earlier(found: Option<Place>, place: Place) -> Place
+pub fn earlier(found: Option<Place>, place: Place) -> Place
     ensures { Some result ≡ earlier_of found (Some place) }
 {
     match found {
@@ -30,7 +30,7 @@ pub(crate) fn earlier(found: Option<Place>, place: Place) -> Place
 }
 
 /// The earlier of two places, where there are some.
-pub(crate) fn earlier_of(found: Option<Place>, other: Option<Place>) -> Option<Place>
+pub fn earlier_of(found: Option<Place>, other: Option<Place>) -> Option<Place>
     ensures { result ≡ earlier_of found other }
 {
     match other {
@@ -40,7 +40,7 @@ pub(crate) fn earlier_of(found: Option<Place>, other: Option<Place>) -> Option<P
 }
 
 /// A place, where a test does not hold.
-pub(crate) fn place_unless(holds: bool, place: Place) -> Option<Place>
+pub fn place_unless(holds: bool, place: Place) -> Option<Place>
     ensures { result ≡ earliest (place_unless holds place) }
 {
     if holds { None } else { Some(place) }

@@ -20,8 +20,8 @@ use ds2_tree::{
 };
 use std::alloc::Global;
 
-// Whether a name is init, run or term.
-fn is_system_name(name: &[u8]) -> bool
+/// Whether a name is init, run or term.
+pub fn is_system_name(name: &[u8]) -> bool
     ensures { result ≡ is_system_name name.now }
 {
     name == b"init".as_slice() || name == b"run".as_slice() || name == b"term".as_slice()

@@ -30,14 +30,14 @@ fn letters(token: &Token) -> &[u8]
 }
 
 /// The name that a token spells.
-pub(crate) fn spelled_name(alloc: Global, token: &Token) -> Result<Bytes, OutOfMemory>
+pub fn spelled_name(alloc: Global, token: &Token) -> Result<Bytes, OutOfMemory>
     ensures { IfOk result (λ name. name ≡ spelled_name token.now) }
 {
     Ok(List::of(letters(token).to_ascii_lowercase(alloc)?))
 }
 
 /// The name that a token spells, at its place.
-pub(crate) fn placed_name(alloc: Global, token: &Token) -> Result<PlacedName, OutOfMemory>
+pub fn placed_name(alloc: Global, token: &Token) -> Result<PlacedName, OutOfMemory>
     ensures { IfOk result (λ name. name ≡ placed_name token.now) }
 {
     Ok(PlacedName {
@@ -47,7 +47,7 @@ pub(crate) fn placed_name(alloc: Global, token: &Token) -> Result<PlacedName, Ou
 }
 
 /// Adds the names that tokens spell.
-pub(crate) fn push_names(
+pub fn push_names(
     alloc: Global,
     names: &mut List<PlacedName>,
     tokens: &[Token],

@@ -68,10 +68,7 @@ fn earliest_behind(firsts: &FirstPlaces, all: &[PlacedName]) -> Option<Place>
 }
 
 /// The earliest place of a name that stands behind the same name.
-pub(crate) fn earliest_later(
-    alloc: Global,
-    names: &[PlacedName],
-) -> Result<Option<Place>, OutOfMemory>
+pub fn earliest_later(alloc: Global, names: &[PlacedName]) -> Result<Option<Place>, OutOfMemory>
     ensures { IfOk result (λ place. place ≡ earliest (later_places names.now)) }
 {
     let firsts = first_places(alloc, names)?;

@@ -1,6 +1,6 @@
 use Rattle.std.proofs.Common.{refl, Ok, Some}
 use Rattle.ds2_base.specs.declared.stop.OutOfMemory.{OutOfMemory}
-use Rattle.ds2_code.specs.InstructionTable.{Loads, Stores, Drops, Ticks, Jumps, Tests, Enters, GoesBack, Raises, Finishes, kind_of}
+use Rattle.ds2_code.specs.InstructionTable.{Loads, Stores, Drops, Ticks, Jumps, Tests, Enters, GoesBack, CallsHash, CallsIterator, Raises, Finishes, kind_of}
 use Rattle.ds2_machine.specs.Shapes.{load_source_of, store_target_of}
 use Rattle.ds2_machine.specs.declared.state.Halt.TheVariants as halt
 use Rattle.ds2_machine.proofs.Steps.{quiet_of_kind, shape_at}
@@ -32,6 +32,12 @@ returns-in-Enter c = quiet_of_kind {E = OutOfMemory} c.args.code.now (kind_of c.
 
 pub returns-in-GoBack : goal.returns-in-GoBack
 returns-in-GoBack c = quiet_of_kind {E = OutOfMemory} c.args.code.now (kind_of c.args.instr) (GoesBack c.in-GoBack.has_result) c.args.self.now c.go_back.new.self c.go_back.result (shape_at _ _ _ c.in-GoBack.is c.requires.shape) c.go_back.ensures
+
+pub returns-in-CallHash : goal.returns-in-CallHash
+returns-in-CallHash c = quiet_of_kind {E = OutOfMemory} c.args.code.now (kind_of c.args.instr) (CallsHash c.in-CallHash.function c.in-CallHash.number) c.args.self.now c.call_hash.new.self c.call_hash.result (shape_at _ _ _ c.in-CallHash.is c.requires.shape) c.call_hash.ensures
+
+pub returns-in-CallIterator : goal.returns-in-CallIterator
+returns-in-CallIterator c = quiet_of_kind {E = OutOfMemory} c.args.code.now (kind_of c.args.instr) (CallsIterator c.in-CallIterator.function c.in-CallIterator.number) c.args.self.now c.call_iterator.new.self c.call_iterator.result (shape_at _ _ _ c.in-CallIterator.is c.requires.shape) c.call_iterator.ensures
 
 pub returns-in-Raise : goal.returns-in-Raise
 returns-in-Raise c = quiet_of_kind {E = OutOfMemory} c.args.code.now (kind_of c.args.instr) (Raises c.in-Raise.fault) c.args.self.now c.args.self.now (Ok (Some (halt.Faulted c.in-Raise.fault))) (shape_at _ _ _ c.in-Raise.is c.requires.shape) (λ told. refl)

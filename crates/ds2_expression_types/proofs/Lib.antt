@@ -1,0 +1,4 @@
+pub mod ArgumentLists
+pub mod SeveralValues
+pub mod LinkViews
+pub mod Growing

@@ -1,0 +1,4 @@
+pub mod Arguments
+pub mod FurtherValues
+pub mod ChainLinks
+pub mod Growth

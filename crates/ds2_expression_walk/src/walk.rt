@@ -1,0 +1,244 @@
+//! Expressions: what is known of their types, and their typed trees or the rules that they break.
+ghost use Rattle.std.specs.Prelude.{◌≡◌, ◌++◌, ◌∷◌, [], true, false, List as Items, IfOk};
+ghost use Rattle.ds2_elaboration.specs.ExpressionTypes.{TypeScope, is_truth_chain, arguments_for, elaborated_named_call, elaborated_call, elaborated_chain, value_links, truth_links, elaborated, elaborated_arguments};
+ghost use Rattle.ds2_elaboration.specs.Typings.{TypeRefusals, ElaboratedExpression};
+ghost use Rattle.ds2_meaning.specs.IsTyped.{expression_type};
+ghost use Rattle.ds2_meaning.specs.TypedExpression as typed;
+ghost use Rattle.ds2_meaning.specs.View.{Part};
+ghost use Rattle.ds2_tree.specs.ExpressionViews.{expression_tree, operands_of, arguments_of};
+ghost use Rattle.ds2_types.specs.Judgements.{IsOutcome, IsJudged, Judges};
+ghost use Rattle.ds2_value.specs.declared.ty.Ty.TheVariants.{BigInt};
+ghost use Rattle.ds2_expression_types.specs.Arguments.{AreJudged};
+ghost use Rattle.ds2_expression_walk.specs.ArgumentTrees.{argument_in};
+ghost use Rattle.ds2_expression_walk.specs.ChainForms.{chain_behind};
+ghost use Rattle.ds2_expression_types.specs.Growth.{IsGrownChain, IsGrowth};
+ghost use Rattle.ds2_expression_walk.specs.Passing.{ArePassed, AreAllPassed, passed_part, passed_refusals};
+ghost use Rattle.ds2_expression_walk.specs.Scopes.{IsScopeOf};
+
+use crate::named_functions::{function, null_call};
+use crate::names::{nameless, spelled_name};
+use crate::parameters::{first_parameter, further_parameters, have_arguments};
+use crate::passing::{PassedArguments, counted_arguments, pass, result_of};
+use crate::places::first_place;
+use crate::scopes::Scope;
+use crate::settable::lent_variable;
+use crate::variables::{flag, variable};
+use ds2_base::{List, OutOfMemory, Place};
+use ds2_expression_types::constants::{constant_value, null_value};
+use ds2_expression_types::growth::{
+    GrownOutcome, Growth, finished, finished_truth, grow, grow_truth, seed, seed_truth,
+};
+use ds2_meaning::Parameter;
+use ds2_token::Token;
+use ds2_tree::{Argument, Callee, ChainKind, Expression, Operand};
+use ds2_types::judgement::Judgement;
+use ds2_types::operators::{comparison, negation, sign};
+use std::alloc::Global;
+
+/// The further operands of a chain of numbers or texts.
+#[cycle(judge)]
+fn value_chain(
+    alloc: Global,
+    scope: &Scope<'_>,
+    rest: &[Operand],
+    kind: ChainKind,
+    begun: Growth,
+) -> Result<Judgement, OutOfMemory>
+    ensures { (types : TypeScope) (e : ElaboratedExpression) → IsScopeOf types scope.now → is_truth_chain kind ≡ false → IsGrowth e.node [] (expression_type e.node) e.refusals e.typing begun
+        → Judges (elaborated_chain kind e (value_links types kind e.typing (expression_type e.node) e.refusals (operands_of rest.now))) result }
+{
+    let mut growth = begun;
+    'operands: for operand in rest {
+        let x = judge(alloc, scope, &operand.value)?;
+        growth = grow(alloc, kind, &operand.operator, growth, x)?;
+    }
+    finished(alloc, growth)
+}
+
+/// The further operands of a chain of `and` or `or`.
+#[cycle(judge)]
+fn truth_chain(
+    alloc: Global,
+    scope: &Scope<'_>,
+    rest: &[Operand],
+    kind: ChainKind,
+    begun: GrownOutcome,
+) -> Result<Judgement, OutOfMemory>
+    ensures { (types : TypeScope) (e : ElaboratedExpression) (refusals : TypeRefusals) → IsScopeOf types scope.now → is_truth_chain kind ≡ true → IsOutcome (IsGrownChain e.node [] BigInt) refusals begun
+        → Judges (elaborated_chain kind e (truth_links types kind refusals (operands_of rest.now))) result }
+{
+    let mut grown = begun;
+    'operands: for operand in rest {
+        let x = judge(alloc, scope, &operand.value)?;
+        let place = first_place(&operand.value);
+        grown = grow_truth(alloc, kind, &operand.operator, place, grown, x)?;
+    }
+    finished_truth(alloc, grown)
+}
+
+/// A chain, whose first operand stands at this place.
+#[cycle(judge)]
+fn chain(
+    alloc: Global,
+    scope: &Scope<'_>,
+    rest: &[Operand],
+    kind: ChainKind,
+    place: Place,
+    first: Judgement,
+) -> Result<Judgement, OutOfMemory>
+    ensures { (types : TypeScope) (e : ElaboratedExpression) → IsScopeOf types scope.now → IsJudged e first → Judges (chain_behind types kind place e (operands_of rest.now)) result }
+{
+    match kind {
+        ChainKind::And => truth_chain(alloc, scope, rest, kind, seed_truth(alloc, place, first)),
+        ChainKind::Or => truth_chain(alloc, scope, rest, kind, seed_truth(alloc, place, first)),
+        ChainKind::Concatenation => value_chain(alloc, scope, rest, kind, seed(alloc, first)),
+        ChainKind::Sum => value_chain(alloc, scope, rest, kind, seed(alloc, first)),
+        ChainKind::Product => value_chain(alloc, scope, rest, kind, seed(alloc, first)),
+    }
+}
+
+/// What becomes of arguments, in order.
+#[cycle(judge)]
+fn judged_arguments(
+    alloc: Global,
+    scope: &Scope<'_>,
+    arguments: &[Argument],
+) -> Result<List<Judgement>, OutOfMemory>
+    ensures { (types : TypeScope) → IsScopeOf types scope.now → IfOk result (AreJudged (elaborated_arguments types (arguments_of arguments.now))) }
+{
+    let mut judged = List::new(alloc);
+    'arguments: for argument in arguments {
+        let x = judge(alloc, scope, &argument.value)?;
+        judged.push(x)?;
+    }
+    Ok(judged)
+}
+
+/// Arguments for parameters, with one more behind them.
+#[cycle(judge)]
+fn passed_argument(
+    alloc: Global,
+    scope: &Scope<'_>,
+    argument: &Argument,
+    p: &Parameter,
+    before: PassedArguments,
+) -> Result<PassedArguments, OutOfMemory>
+    ensures { (types : TypeScope) (refusals : TypeRefusals) (parts : Items (Part typed.TypedArguments)) → IsScopeOf types scope.now → ArePassed refusals parts before
+        → IfOk result (ArePassed (refusals ++ passed_refusals p.now (argument_in types argument.now)) (parts ++ passed_part p.now (argument_in types argument.now) ∷ [])) }
+{
+    let variable = lent_variable(alloc, scope, p.is_in_out, &argument.value)?;
+    let x = judge(alloc, scope, &argument.value)?;
+    pass(alloc, p, first_place(&argument.value), variable, x, before)
+}
+
+/// Arguments for the parameters of a method whose name stands at this place, in order; another number of them than of
+/// parameters is TypeClash at the name.
+#[cycle(judge)]
+fn passed_arguments(
+    alloc: Global,
+    scope: &Scope<'_>,
+    arguments: &[Argument],
+    name: Place,
+    parameters: &[Parameter],
+) -> Result<PassedArguments, OutOfMemory>
+    ensures { (types : TypeScope) → IsScopeOf types scope.now → IfOk result (AreAllPassed (arguments_for name parameters.now (elaborated_arguments types (arguments_of arguments.now)))) }
+{
+    let mut so_far: PassedArguments = Ok(List::new(alloc));
+    let mut left = parameters;
+    'arguments: for argument in arguments {
+        match first_parameter(left) {
+            None => return Ok(counted_arguments(false, name, so_far)),
+            Some(p) => {
+                so_far = passed_argument(alloc, scope, argument, p, so_far)?;
+                left = further_parameters(left);
+            }
+        }
+    }
+    Ok(counted_arguments(have_arguments(left), name, so_far))
+}
+
+/// A call of a name: of the unit's method, else of a function.
+#[cycle(judge)]
+fn named_call(
+    alloc: Global,
+    scope: &Scope<'_>,
+    name: &Token,
+    arguments: &[Argument],
+) -> Result<Judgement, OutOfMemory>
+    ensures { (types : TypeScope) → IsScopeOf types scope.now → Judges (elaborated_named_call types name.now (elaborated_arguments types (arguments_of arguments.now))) result }
+{
+    let spelled = spelled_name(alloc, name)?;
+    match scope.method(&spelled) {
+        None => {
+            let judged = judged_arguments(alloc, scope, arguments)?;
+            function(alloc, name, judged)
+        }
+        Some(method) => {
+            let parameters = method.parameters.as_slice();
+            let passed = passed_arguments(alloc, scope, arguments, name.place, parameters)?;
+            result_of(alloc, name.place, method, passed)
+        }
+    }
+}
+
+/// A call.
+#[cycle(judge)]
+fn call(
+    alloc: Global,
+    scope: &Scope<'_>,
+    callee: &Callee,
+    arguments: &[Argument],
+) -> Result<Judgement, OutOfMemory>
+    ensures { (types : TypeScope) → IsScopeOf types scope.now → Judges (elaborated_call types callee.now (elaborated_arguments types (arguments_of arguments.now))) result }
+{
+    match callee {
+        Callee::Function(name) => named_call(alloc, scope, name, arguments),
+        Callee::Null(keyword) => {
+            let judged = judged_arguments(alloc, scope, arguments)?;
+            null_call(alloc, keyword.place, judged)
+        }
+        Callee::Method { object, .. } => Ok(nameless(object.place)),
+    }
+}
+
+/// What becomes of an expression: what is known of its type, and its typed tree or the first of the rules that it breaks.
+#[cycle(judge)]
+pub fn judge(alloc: Global, scope: &Scope<'_>, e: &Expression) -> Result<Judgement, OutOfMemory>
+    ensures { (types : TypeScope) → IsScopeOf types scope.now → Judges (elaborated types (expression_tree e.now)) result }
+{
+    match e {
+        Expression::Constant(token) => constant_value(alloc, token),
+        Expression::Null(keyword) => null_value(alloc, keyword.place),
+        Expression::Variable(name) => variable(alloc, scope, name),
+        Expression::Member { object, member, .. } => flag(alloc, scope, object, member),
+        Expression::Call {
+            callee,
+            arguments,
+            ..
+        } => call(alloc, scope, callee, arguments.as_slice()),
+        Expression::Parenthesis { inner, .. } => judge(alloc, scope, inner),
+        Expression::Sign { operator, operand } => {
+            let x = judge(alloc, scope, operand)?;
+            sign(alloc, operator, x)
+        }
+        Expression::Chain { kind, first, rest } => {
+            let place = first_place(first);
+            let x = judge(alloc, scope, first)?;
+            chain(alloc, scope, rest.as_slice(), *kind, place, x)
+        }
+        Expression::Comparison {
+            left,
+            operator,
+            right,
+        } => {
+            let a = judge(alloc, scope, left)?;
+            let b = judge(alloc, scope, right)?;
+            comparison(alloc, operator, a, b)
+        }
+        Expression::Not { operand, .. } => {
+            let place = first_place(operand);
+            let x = judge(alloc, scope, operand)?;
+            negation(alloc, place, x)
+        }
+    }
+}

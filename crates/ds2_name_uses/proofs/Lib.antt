@@ -1,0 +1,4 @@
+pub mod UseLemmas
+pub mod MethodLemmas
+pub mod UsageLemmas
+pub mod BrokenLemmas

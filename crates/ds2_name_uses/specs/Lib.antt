@@ -1,0 +1,6 @@
+-- What a use of a name breaks, by tests on names, what hashed tables of names tell, and what a program breaks of the rules on uses.
+pub mod UseParts
+pub mod UseRules
+pub mod ScopeTables
+pub mod ListedParts
+pub mod BrokenUses

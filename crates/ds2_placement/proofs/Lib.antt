@@ -1,0 +1,4 @@
+pub mod Placements
+pub mod Roles
+pub mod KeptTypes
+pub mod Covered

@@ -1,0 +1,3 @@
+pub mod SlotHashes
+pub mod SlotSteps
+pub mod LoadedHashes
