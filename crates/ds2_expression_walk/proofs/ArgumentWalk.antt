@@ -9,7 +9,6 @@ use Rattle.ds2_meaning.specs.View.{Part, in_a_row, argument_tree}
 use Rattle.ds2_meaning.specs.declared.expressions.Argument as typed
 use Rattle.ds2_meaning.specs.declared.methods.Parameter.{Parameter}
 use Rattle.ds2_meaning.specs.declared.refusals.TypeKind.{TypeKind}
-use Rattle.ds2_tree.specs.Expressions.{Arguments, NoArgument, Argument}
 use Rattle.ds2_tree.specs.ExpressionViews.{arguments_of}
 use Rattle.ds2_tree.specs.declared.expressions.Argument as code
 use Rattle.ds2_elaboration.specs.ExpressionTypes.{TypeScope, ElaboratedArguments, no_arguments, arguments_for, elaborated_arguments, in_out_argument, value_argument}

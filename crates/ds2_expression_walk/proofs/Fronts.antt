@@ -1,5 +1,5 @@
 -- Parameters, one by one.
-use Rattle.std.proofs.Common.{◌≡◌, ◌≤◌, true, false, List, [], ◌∷◌, length, get_or, Some, ap, refl, arith}
+use Rattle.std.proofs.Common.{◌≡◌, ◌≤◌, false, List, [], ◌∷◌, length, get_or, Some, ap, refl, arith}
 use Rattle.std.specs.Prelude.{is_none}
 use Rattle.ds2_meaning.specs.declared.methods.Parameter.{Parameter}
 use Rattle.ds2_expression_walk.specs.Parameters.{front_of}

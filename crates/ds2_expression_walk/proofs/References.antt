@@ -10,7 +10,7 @@ use Rattle.ds2_token.specs.Values.{token_integer, token_decimal, token_text}
 use Rattle.ds2_token.specs.Words.{is_integer, is_decimal, is_word}
 use Rattle.ds2_decimal.specs.Decimal.{Decimal}
 use Rattle.ds2_value.specs.declared.ty.Ty.{Ty}
-use Rattle.ds2_tree.specs.Expressions.{Expression, Constant, Null, Variable, Member, Call, Parenthesis, Sign, Chain, Comparison, Not, Arguments}
+use Rattle.ds2_tree.specs.Expressions.{Expression, Constant, Null, Variable, Member, Call, Parenthesis, Sign, Chain, Comparison, Not}
 use Rattle.ds2_tree.specs.Globals.{Method}
 use Rattle.ds2_tree.specs.declared.expressions.Callee.{Callee}
 use Rattle.ds2_tree.specs.declared.expressions.Callee.TheVariants as callee

@@ -1,4 +1,4 @@
-use Rattle.std.proofs.Common.{List, ◌∷◌, ◌∙◌, subst}
+use Rattle.std.proofs.Common.{List, subst}
 use Rattle.std.specs.Prelude.{ℕ}
 use Rattle.ds2_elaboration.specs.FunctionTypes.{form_of_one, form_of_several}
 use Rattle.ds2_types.specs.Judgements.{Judges}

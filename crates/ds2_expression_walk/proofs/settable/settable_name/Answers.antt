@@ -1,4 +1,4 @@
-use Rattle.std.proofs.Common.{ap, ◌≡◌, ◌∙◌}
+use Rattle.std.proofs.Common.{ap}
 use Rattle.std.specs.Option.{option_copied}
 use Rattle.ds2_expression_walk.proofs.References.{no_settable, a_settable}
 use Rattle.ds2_expression_walk.proofs.IfOks.{if_ok_as}

@@ -1,10 +1,9 @@
-use Rattle.std.proofs.Common.{◌≡◌, ◌+◌, ◌++◌, [], ◌∷◌, List, drop, None, Some, Ok, sym, ap, ◌∙◌, subst, arith}
+use Rattle.std.proofs.Common.{◌+◌, List, drop, Ok, sym, ap, ◌∙◌, subst, arith}
 use Rattle.ds2_base.specs.declared.place.Place.{Place}
 use Rattle.ds2_elaboration.specs.OperatorTypes.{elaborated_not}
 use Rattle.ds2_elaboration.specs.Typings.{truth_refusals}
 use Rattle.ds2_types.specs.Judgements.{Judges}
 use Rattle.std.specs.Option.{option_copied}
-use Rattle.ds2_tree.specs.Expressions as tree
 use Rattle.ds2_tree.specs.ExpressionViews.{expression_tree, operands_of, arguments_of}
 use Rattle.ds2_names.specs.Uses.{first_place}
 use Rattle.ds2_tree.specs.declared.expressions.Expression as code

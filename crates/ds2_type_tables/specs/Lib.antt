@@ -1,0 +1,4 @@
+pub mod Tables
+pub mod Clashes
+pub mod Globals
+pub mod ScopeLaw

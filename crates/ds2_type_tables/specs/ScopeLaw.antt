@@ -1,0 +1,13 @@
+-- What scopes of tables stand for.
+use Rattle.std.specs.Prelude.{ℕ, List}
+use Rattle.ds2_elaboration.specs.ExpressionTypes.{TypeScope, known_variable}
+use Rattle.ds2_expression_walk.specs.Scopes.{known_in, IsKnownAs}
+use Rattle.ds2_expression_walk.specs.declared.scopes.Scope.{Scope}
+use Rattle.ds2_type_tables.specs.Globals.{HasGlobals}
+use Rattle.ds2_type_tables.specs.Tables.{HasLocals}
+
+-- in a scope of these tables each name stands for what the definitions say
+abbrev pub TablesTellVariables : Type 0
+TablesTellVariables =
+    (types : TypeScope) (scope : Scope) → HasLocals scope.locals.now types.locals → HasGlobals scope.globals.now types.unjoined types.variables types.flags
+    → (name : List ℕ) → IsKnownAs (known_in scope name) (known_variable types name)
