@@ -61,6 +61,20 @@ impl<T> List<T> {
         Ok(())
     }
 
+    /// Adds an item at the end of a list that seldom gets a second one: where there is none yet, room is made for this one alone.
+    /// After a refusal the list is as it was, and the item is gone.
+    pub fn push_sparing(&mut self, item: T) -> Result<(), OutOfMemory>
+    where
+        T: Drop,
+        ensures ok { OnOk result (self.new ≡ self.old ++ item ∷ []) }
+        ensures err { OnErr result (self.new ≡ self.old) }
+    {
+        if self.items.is_empty() {
+            self.items.reserve_exact(1)?;
+        }
+        self.push(item)
+    }
+
     /// Makes room for `n` more items at once.
     pub fn reserve(&mut self, n: usize) -> Result<(), OutOfMemory>
         ensures { self.new ≡ self.old }

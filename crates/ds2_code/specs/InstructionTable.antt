@@ -3,7 +3,7 @@ use Rattle.std.specs.Prelude.{ℕ, Bool, true, false, [], ◌∷◌, fold, Resul
 use Rattle.ds2_base.specs.declared.place.Place.{Place}
 use Rattle.ds2_decimal.specs.Arithmetic as decimal
 use Rattle.ds2_value.specs.Functions.{is_null_of, length_of, trim_of, concat_of, substr_of, first_of, lesser_of, greater_of}
-use Rattle.ds2_value.specs.Operations.{of_decimals, of_decimal, truth_value, widened, or_null_at_fault, line_value}
+use Rattle.ds2_value.specs.Operations.{of_decimals, of_decimal, truth_value, widened, or_null_at_fault, line_value, of_one, of_one_or_fault, of_two}
 use Rattle.ds2_value.specs.Row.{Row}
 use Rattle.ds2_value.specs.Types.{assign_of}
 use Rattle.ds2_value.specs.Value.{sum_of, difference_of, product_of, negative_of, absolute_of, remainder_of, compared_of, truth_of, and_of, or_of, not_of}
@@ -53,25 +53,10 @@ pub data Kind : Type 0 where
   -- ends the unit
   Finishes : Kind
 
--- an operation on one operand; null where there are others
-abbrev pub of_operand : (Value → Value) → Row → Value
-of_operand f (a ∷ []) = f a
-of_operand f _ = Null
-
 -- an operation on two operands; null where there are others
 abbrev pub of_operands : (Value → Value → Value) → Row → Value
 of_operands f (a ∷ b ∷ []) = f a b
 of_operands f _ = Null
-
--- an operation on one operand that may fault; null where there are others
-abbrev pub from_operand : (Value → Result Value Fault) → Row → Result Value Fault
-from_operand f (a ∷ []) = f a
-from_operand f _ = Ok Null
-
--- an operation on two operands that may fault; null where there are others
-abbrev pub from_operands : (Value → Value → Result Value Fault) → Row → Result Value Fault
-from_operands f (a ∷ b ∷ []) = f a b
-from_operands f _ = Ok Null
 
 -- the machine's table
 abbrev pub kind_of : Instr → Kind
@@ -82,33 +67,33 @@ kind_of (instr.GStore n) = Stores (IntoSlot n)
 kind_of (instr.LLoad n) = Loads (OfLocal n)
 kind_of (instr.LStore n) = Stores (IntoLocal n)
 kind_of instr.DropTop = Drops
-kind_of instr.IToD = Pure 1 (of_operand widened)
-kind_of (instr.Rescale p s) = Partial 1 (from_operand (λ v. assign_of v (DecimalOf p s)))
-kind_of (instr.Pad n) = Pure 1 (of_operand (λ v. or_null_at_fault (assign_of v (Char n))))
-kind_of (instr.Cut n) = Pure 1 (of_operand (λ v. or_null_at_fault (assign_of v (Varchar n))))
-kind_of instr.IAdd = Partial 2 (from_operands sum_of)
-kind_of instr.ISub = Partial 2 (from_operands difference_of)
-kind_of instr.IMul = Partial 2 (from_operands product_of)
-kind_of instr.INeg = Partial 1 (from_operand negative_of)
-kind_of instr.IAbs = Partial 1 (from_operand absolute_of)
-kind_of instr.IMod = Partial 2 (from_operands remainder_of)
-kind_of instr.DAdd = Partial 2 (from_operands (of_decimals decimal.add))
-kind_of instr.DSub = Partial 2 (from_operands (of_decimals decimal.sub))
-kind_of instr.DMul = Partial 2 (from_operands (of_decimals decimal.mul))
-kind_of instr.DDiv = Partial 2 (from_operands (of_decimals decimal.div))
-kind_of instr.DNeg = Pure 1 (of_operand (of_decimal decimal.neg))
-kind_of instr.DAbs = Pure 1 (of_operand (of_decimal decimal.abs))
-kind_of instr.DMod = Partial 2 (from_operands (of_decimals decimal.modulo))
-kind_of instr.DFloor = Pure 1 (of_operand (of_decimal decimal.floor))
-kind_of instr.DCeil = Pure 1 (of_operand (of_decimal decimal.ceil))
+kind_of instr.IToD = Pure 1 (of_one widened)
+kind_of (instr.Rescale p s) = Partial 1 (of_one_or_fault (λ v. assign_of v (DecimalOf p s)))
+kind_of (instr.Pad n) = Pure 1 (of_one (λ v. or_null_at_fault (assign_of v (Char n))))
+kind_of (instr.Cut n) = Pure 1 (of_one (λ v. or_null_at_fault (assign_of v (Varchar n))))
+kind_of instr.IAdd = Partial 2 (of_two sum_of)
+kind_of instr.ISub = Partial 2 (of_two difference_of)
+kind_of instr.IMul = Partial 2 (of_two product_of)
+kind_of instr.INeg = Partial 1 (of_one_or_fault negative_of)
+kind_of instr.IAbs = Partial 1 (of_one_or_fault absolute_of)
+kind_of instr.IMod = Partial 2 (of_two remainder_of)
+kind_of instr.DAdd = Partial 2 (of_two (of_decimals decimal.add))
+kind_of instr.DSub = Partial 2 (of_two (of_decimals decimal.sub))
+kind_of instr.DMul = Partial 2 (of_two (of_decimals decimal.mul))
+kind_of instr.DDiv = Partial 2 (of_two (of_decimals decimal.div))
+kind_of instr.DNeg = Pure 1 (of_one (of_decimal decimal.neg))
+kind_of instr.DAbs = Pure 1 (of_one (of_decimal decimal.abs))
+kind_of instr.DMod = Partial 2 (of_two (of_decimals decimal.modulo))
+kind_of instr.DFloor = Pure 1 (of_one (of_decimal decimal.floor))
+kind_of instr.DCeil = Pure 1 (of_one (of_decimal decimal.ceil))
 kind_of (instr.ICmp comparison) = Pure 2 (of_operands (compared_of comparison))
 kind_of (instr.DCmp comparison) = Pure 2 (of_operands (compared_of comparison))
 kind_of (instr.TCmp comparison) = Pure 2 (of_operands (compared_of comparison))
 kind_of instr.And = Pure 2 (of_operands (λ a b. truth_value (and_of (truth_of a) (truth_of b))))
 kind_of instr.Or = Pure 2 (of_operands (λ a b. truth_value (or_of (truth_of a) (truth_of b))))
-kind_of instr.Not = Pure 1 (of_operand (λ a. truth_value (not_of (truth_of a))))
-kind_of instr.ITruth = Pure 1 (of_operand (λ a. truth_value (truth_of a)))
-kind_of instr.DTruth = Pure 1 (of_operand (λ a. truth_value (truth_of a)))
+kind_of instr.Not = Pure 1 (of_one (λ a. truth_value (not_of (truth_of a))))
+kind_of instr.ITruth = Pure 1 (of_one (λ a. truth_value (truth_of a)))
+kind_of instr.DTruth = Pure 1 (of_one (λ a. truth_value (truth_of a)))
 kind_of instr.IsNull = Pure 1 is_null_of
 kind_of (instr.Choose n) = Pure n (fold first_of Null)
 kind_of (instr.Least n) = Pure n (fold lesser_of Null)
@@ -127,7 +112,7 @@ kind_of instr.Ret = GoesBack false
 kind_of instr.RetV = GoesBack true
 kind_of instr.NoWhen = Raises NoWhenFault
 kind_of (instr.Output output) = Writes output
-kind_of instr.Show = Pure 1 (of_operand line_value)
+kind_of instr.Show = Pure 1 (of_one line_value)
 kind_of (instr.Put n) = Puts n
 kind_of (instr.HCall h f) = CallsHash f h
 kind_of (instr.ICall i f) = CallsIterator f i

@@ -1,7 +1,8 @@
 -- The types of operands: what each instruction needs on the operand list, and what it leaves there.
 use Rattle.std.specs.Prelude.{ℕ, ◌+◌, ◌==◌, max, min, nat_le, Bool, true, false, ◌&&◌, if◌then◌else◌, List, [], ◌∷◌, ◌++◌, map, reverse, replicate, slice_get, Option, Some, None, unwrap_or}
-use Rattle.std.specs.Option.{option_map}
-use Rattle.ds2_value.specs.Types.{in_bounds}
+use Rattle.std.specs.List.{cons_option}
+use Rattle.std.specs.Option.{option_and, option_map}
+use Rattle.ds2_value.specs.Types.{in_bounds, same_ty}
 use Rattle.ds2_value.specs.declared.ty.TheConstants.{TEXT_CHARACTERS}
 use Rattle.ds2_value.specs.declared.ty.Ty.{Ty}
 use Rattle.ds2_value.specs.declared.ty.Ty.TheVariants.{BigInt, Decimal as DecimalOf, Char, Varchar}
@@ -44,14 +45,6 @@ types_of_locals OfUnit = []
 types_of_locals (OfMethod signature) = types_of_parameters signature.parameters ++ signature.locals
 
 -- ---- operands that are taken off
-
--- two types are equal
-abbrev pub same_ty : Ty → Ty → Bool
-same_ty BigInt BigInt = true
-same_ty (DecimalOf p s) (DecimalOf q t) = (p == q) && (s == t)
-same_ty (Char n) (Char m) = n == m
-same_ty (Varchar n) (Varchar m) = n == m
-same_ty _ _ = false
 
 -- what an instruction may need of an operand: one type, a DECIMAL, a text, or nothing
 pub data OperandClass : Type 0 where
@@ -175,8 +168,7 @@ when_in_bounds t types = if in_bounds t then types else None
 
 -- operands, where a part of the code is there
 abbrev pub when_there : {A : Type 0} → Option A → Option OperandTypes → Option OperandTypes
-when_there None types = None
-when_there (Some part) types = types
+when_there part types = option_and part types
 
 -- a stored operand goes, which has exactly the type that is there
 abbrev pub stored_type : Option Ty → OperandTypes → Option OperandTypes
@@ -190,8 +182,7 @@ with_in_out_types (p ∷ ps) types = with_in_out_types ps (if p.is_in_out then p
 
 -- a method's result on top, where it has one
 abbrev pub with_result_type : Option Ty → OperandTypes → OperandTypes
-with_result_type None types = types
-with_result_type (Some t) types = t ∷ types
+with_result_type t types = cons_option t types
 
 -- what a call of a method leaves for its arguments, which have exactly the types of its parameters
 abbrev pub after_call_types : MethodPart → Option TakenTypes → Option OperandTypes

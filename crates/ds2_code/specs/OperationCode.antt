@@ -1,5 +1,6 @@
 -- The numbers of the instructions' rows, which are their operation codes in an object file.
 use Rattle.std.specs.Prelude.{◌≡◌, ℕ, zero, suc, ◌+◌, List, [], ◌∷◌}
+use Rattle.std.specs.List.{range_with_len}
 use Rattle.ds2_code.specs.declared.instr.Instr.{Instr}
 use Rattle.ds2_code.specs.declared.instr.Instr.TheVariants as instr
 use Rattle.ds2_code.specs.declared.rows.TheConstants.{ROWS}
@@ -67,8 +68,7 @@ operation_code instr.End = 57
 
 -- so many numbers from one on
 abbrev pub codes_from : ℕ → ℕ → List ℕ
-codes_from n zero = []
-codes_from n (suc k) = n ∷ codes_from (n + 1) k
+codes_from n k = range_with_len n k
 
 -- the rows of the machine's table have the numbers 0 to 57, in order
 abbrev pub RowsInOrder : Type 0

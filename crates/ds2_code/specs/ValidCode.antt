@@ -1,13 +1,11 @@
 -- Valid code: what is asked of a program's code, clause by clause. Valid code ends in time, and is never stuck.
 use Rattle.std.specs.Prelude.{◌≡◌, ◌≤◌, IsTrue, ℕ, ◌+◌, ◌^◌, ◌==◌, nat_lt, nat_le, Bool, true, false, ◌&&◌, not, if◌then◌else◌, List, [], ◌∷◌, length, map, slice_get, Option, Some, None, bytes_eq}
-use Rattle.std.specs.Char.{to_ascii_lowercase}
 use Rattle.std.specs.List.{list_all, list_any}
 use Rattle.std.specs.Option.{option_map, option_map_or, is_some}
-use Rattle.ds2_token.specs.Forms.{is_word_form}
-use Rattle.ds2_token.specs.Words.{spells_reserved}
+use Rattle.ds2_token.specs.Words.{is_table_name}
 use Rattle.ds2_value.specs.Progress.{UnitOutcome, has_end}
 use Rattle.ds2_value.specs.Schema.{distinct_names}
-use Rattle.ds2_value.specs.Types.{in_bounds, join_of, fits}
+use Rattle.ds2_value.specs.Types.{in_bounds, join_of, fits, same_ty}
 use Rattle.ds2_value.specs.Value.{is_null}
 use Rattle.ds2_value.specs.declared.schema.Column.{Column}
 use Rattle.ds2_value.specs.declared.ty.Ty.{Ty}
@@ -32,7 +30,7 @@ use Rattle.ds2_code.specs.CodeUnit.{most_executed, code_init, code_run, code_ter
 use Rattle.ds2_code.specs.Desk.{ProgramData, SlotSettings}
 use Rattle.ds2_code.specs.CodeBound.{HasBoundedJumps, jump_target, falls_through}
 use Rattle.ds2_code.specs.InstructionTable.{kind_of}
-use Rattle.ds2_code.specs.OperandTypes.{OperandTypes, CodeRole, OfUnit, OfMethod, signature_of, same_ty, slot_type, parameter_slot_types, types_behind}
+use Rattle.ds2_code.specs.OperandTypes.{OperandTypes, CodeRole, OfUnit, OfMethod, signature_of, slot_type, parameter_slot_types, types_behind}
 
 -- ---- operand types along the list
 
@@ -138,10 +136,6 @@ parts_in_range code =
     && (reading_in_range slots code.reading && list_all (output_in_range slots) code.outputs)
 
 -- ---- values and lists
-
--- the name of a table: a word in lower case that is not reserved
-abbrev pub is_table_name : List ℕ → Bool
-is_table_name name = (is_word_form name && bytes_eq (map to_ascii_lowercase name) name) && not (spells_reserved name)
 
 -- a table's name, and columns with types in bounds
 abbrev pub reference_allowed : TableReference → Bool

@@ -1,7 +1,7 @@
 //! What is said of a case.
-use crate::assembly::assemble;
 use ds2_base::Stop;
 use ds2_code::StagedParts;
+use ds2_code_text::assemble;
 use ds2_valid_code::verify;
 use std::alloc::Global;
 

@@ -1,15 +1,10 @@
 //! Codes and whether they are valid.
 //!
 //! Standard input holds cases, an empty line between two of them. Standard output gets each case again and, below it, `valid` or
-//! `not valid`. A block that begins with `##` is a heading. `assembly` tells how a case is written.
+//! `not valid`. A block that begins with `##` is a heading. `ds2_code_text` tells how a case is written.
 #![tactic(auto)]
 
 mod answer;
-mod assembly;
-mod instruction;
-mod operation;
-mod parts;
-mod words;
 
 use crate::answer::answer;
 use std::io;

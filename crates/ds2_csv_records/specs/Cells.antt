@@ -1,6 +1,6 @@
 -- Cells: a cell as it stands in a text, and what it spells.
 use Rattle.std.specs.Prelude.{ℕ, suc, Bool, true, false, not, ◌==◌, ◌||◌, [], ◌∷◌, if◌then◌else◌}
-use Rattle.std.specs.List.{prefix_len}
+use Rattle.std.specs.List.{position_or_len}
 use Rattle.ds2_base.specs.Bytes.{Bytes}
 use Rattle.csv.specs.Reading.{is_bom}
 use Rattle.ds2_csv_records.specs.declared.cell.Cell.{Cell}
@@ -16,7 +16,7 @@ ends_cell c = (c == 44) || ends_line c
 
 -- how many bytes stand before the end of a cell without quotes
 abbrev pub bare_len : Bytes → ℕ
-bare_len text = prefix_len (λ c. not (ends_cell c)) text
+bare_len text = position_or_len ends_cell text
 
 -- a text that begins with a byte order mark
 abbrev pub begins_mark : Bytes → Bool
@@ -27,7 +27,7 @@ begins_mark (a ∷ b ∷ c ∷ cs) = is_bom a b c
 
 -- how many bytes stand before the first quote
 abbrev pub to_quote : Bytes → ℕ
-to_quote text = prefix_len (λ c. not (c == 34)) text
+to_quote text = position_or_len (λ c. c == 34) text
 
 -- a text that begins with a quote
 abbrev pub begins_quoted : Bytes → Bool

@@ -1,5 +1,6 @@
 -- Division of whole numbers with a rounded quotient.
 use Rattle.std.specs.Prelude.{ℕ, suc, ◌+◌, ◌*◌, ◌/◌, Bool, ◌==◌, ℤ, pos, negsuc, neg_ℤ, unsigned_abs}
+use Rattle.std.specs.Float.{ratio_round_half_up}
 
 -- z is 0
 abbrev pub is_zero : ℤ → Bool
@@ -12,7 +13,7 @@ moved_sign (negsuc n) z = neg_ℤ z
 
 -- n / b rounded to the nearest, a half upwards
 abbrev pub rounded_half_up : ℕ → ℕ → ℕ
-rounded_half_up n b = (2 * n + b) / (2 * b)
+rounded_half_up n b = ratio_round_half_up n b
 
 -- a / b rounded to the nearest, a half away from zero
 abbrev pub round : ℤ → ℕ → ℤ

@@ -10,7 +10,7 @@ use Rattle.ds2_tree.specs.declared.expressions.Callee.{Callee}
 use Rattle.ds2_tree.specs.declared.expressions.Callee.TheVariants as callee
 use Rattle.ds2_tree.specs.declared.expressions.ChainKind.{ChainKind}
 use Rattle.ds2_tree.specs.declared.expressions.ChainKind.TheVariants as chain
-use Rattle.ds2_value.specs.Types.{in_bounds}
+use Rattle.ds2_value.specs.Types.{in_bounds, same_ty}
 use Rattle.ds2_value.specs.declared.ty.Ty.{Ty}
 use Rattle.ds2_value.specs.declared.ty.Ty.TheVariants.{BigInt}
 use Rattle.ds2_meaning.specs.declared.location.Global.TheVariants.{Named, First, Last, Present, Parameter}
@@ -25,7 +25,7 @@ use Rattle.ds2_names.specs.Uses.{first_place, method_named}
 use Rattle.ds2_elaboration.specs.ExpressionTypes.{TypeScope, KnownVariable, known_global, known_before_globals, known_variable, variable_node, value_of_variable, elaborated_variable, flag_node, elaborated_flag, number_of_method, ElaboratedArguments, value_argument, is_settable_reference, reference_in, reference_or_none, in_out_argument, arguments_for, result_of_method, method_or_function_call, elaborated_call, ElaboratedLinks, is_truth_chain, link_refusals, elaborated, truth_links, value_links, elaborated_arguments}
 use Rattle.ds2_elaboration.specs.FunctionTypes.{ElaboratedArgument}
 use Rattle.ds2_elaboration.specs.OperatorTypes.{elaborated_link}
-use Rattle.ds2_elaboration.specs.SourceTypes.{is_one_type, elaborated_parameters, returned_type}
+use Rattle.ds2_elaboration.specs.SourceTypes.{elaborated_parameters, returned_type}
 use Rattle.ds2_elaboration.specs.TypedForms.{IsOfTyping, IsSoundlyElaborated, IsSoundArgument, IsLeft, LinkFits}
 use Rattle.ds2_elaboration.specs.TypedScopes.{IsBoundedIfAny, MethodStands, ScopeStands, ExpressionsAreTyped}
 use Rattle.ds2_elaboration.specs.Typings.{TypeRefusals, clash_unless, Typing, Known, NullAt, Unknown, ElaboratedExpression, form_of_type, typing_behind, form_of_operands, elaborated_nameless, where_known, truth_refusals, assigned_refusals}
@@ -107,9 +107,9 @@ module _ (scope : TypeScope) (names : NamesInScope) (stands : ScopeStands scope 
   handed_if ty reference false e s t = cc
 
   handed : (ty : Ty) (place : Place) (typing : Typing) (node : tree.TypedExpression) → IsOfTyping names typing node → is_some (reference_in node) ≡ true
-      → where_known typing (λ own. clash_unless (is_one_type own ty) place) ≡ [] → IsHanded ty (reference_or_none (reference_in node))
+      → where_known typing (λ own. clash_unless (same_ty own ty) place) ≡ [] → IsHanded ty (reference_or_none (reference_in node))
   handed ty place (Known own) (tree.Variable reference declared) h s w =
-      handed_if ty reference (is_settable_reference reference) refl s (h.0 ∙ ap (λ t. Some t) (h.1 ∙ one_type own ty (unclashed (is_one_type own ty) place w)))
+      handed_if ty reference (is_settable_reference reference) refl s (h.0 ∙ ap (λ t. Some t) (h.1 ∙ one_type own ty (unclashed (same_ty own ty) place w)))
   handed ty place (Known own) _ h s w = cc
   handed ty place (NullAt word) node h s w = absurd (true≢false (sym s ∙ ap (λ n. is_some (reference_in n)) h))
   handed ty place Unknown node h s w = absurd h
@@ -120,7 +120,7 @@ module _ (scope : TypeScope) (names : NamesInScope) (stands : ScopeStands scope 
       → AreTypedArguments names (p ∷ ps) (if b then in_out_argument p.ty x rest else value_argument p.ty x rest).arguments
   argument_if p ps x rest true e bounds f r h =
       let own = clash_unless (is_some (reference_in x.value.node)) x.place in
-      let exact = where_known x.value.typing (λ own. clash_unless (is_one_type own p.ty) x.place) in
+      let exact = where_known x.value.typing (λ own. clash_unless (same_ty own p.ty) x.place) in
       let a = both_empty (x.value.refusals ++ own ++ exact) rest.refusals h in
       let c = both_empty (x.value.refusals ++ own) exact a.0 in
       let d = both_empty x.value.refusals own c.0 in

@@ -2,13 +2,12 @@
 use Rattle.std.proofs.Common.{◌≡◌, ◌==◌, Bool, true, false, [], ◌∷◌, ◌++◌, if◌then◌else◌, refl, sym, ap, ◌∙◌, subst}
 use Rattle.std.proofs.lemmas.Bool.{and_parts, eqb-true}
 use Rattle.ds2_base.specs.declared.place.Place.{Place}
-use Rattle.ds2_value.specs.Types.{in_bounds}
+use Rattle.ds2_value.specs.Types.{in_bounds, same_ty}
 use Rattle.ds2_value.specs.declared.ty.Ty.{Ty}
 use Rattle.ds2_value.specs.declared.ty.Ty.TheVariants.{BigInt, Decimal as DecimalOf, Char, Varchar}
 use Rattle.ds2_meaning.specs.IsTyped.{NamesInScope, class_of, Decimals, Texts, IsNumeric, type_scale, expression_type, IsTypedExpression}
 use Rattle.ds2_meaning.specs.TypedExpression.{TypedExpression, Widen, Convert}
 use Rattle.ds2_meaning.specs.declared.refusals.TypeKind.TheVariants.{NotTruth}
-use Rattle.ds2_elaboration.specs.SourceTypes.{is_one_type}
 use Rattle.ds2_elaboration.specs.TypedForms.{IsOfTyping, IsSoundlyElaborated, IsInType}
 use Rattle.ds2_elaboration.specs.Typings.{TypeRefusals, type_refusal_at, clash_unless, Typing, Known, NullAt, Unknown, ElaboratedExpression, form_of_operands, is_numeric_type, is_characters, is_integer_type, is_assigned_from, where_known, null_clash, operand_clash, truth_refusals, assigned_refusals, widened_node, in_type, assigned_node}
 use Rattle.ds2_elaboration.proofs.Outcome.{both_empty}
@@ -39,7 +38,7 @@ textual (DecimalOf p s) h = cc
 textual (Char n) h = refl
 textual (Varchar n) h = refl
 
-pub one_type : (a b : Ty) → is_one_type a b ≡ true → a ≡ b
+pub one_type : (a b : Ty) → same_ty a b ≡ true → a ≡ b
 one_type BigInt BigInt h = refl
 one_type BigInt (DecimalOf q t) h = cc
 one_type BigInt (Char m) h = cc
@@ -113,7 +112,7 @@ module _ (names : NamesInScope) where
   pub wide : (node : TypedExpression) → Operand is_numeric_type node → Wide (expression_type node) (widened_node node)
   wide node o = wide_from (expression_type node) node refl o.typed o.bounds o.passes
 
-  converted_if : (ty : Ty) (w : TypedExpression) (same : Bool) → is_one_type (expression_type w) ty ≡ same → IsTypedExpression names w
+  converted_if : (ty : Ty) (w : TypedExpression) (same : Bool) → same_ty (expression_type w) ty ≡ same → IsTypedExpression names w
       → class_of (expression_type w) ≡ class_of ty → in_bounds ty ≡ true → IsInType names ty (if same then w else Convert w ty)
   converted_if ty w true e typed class bounds = record { typed = typed; exact = one_type (expression_type w) ty e }
   converted_if ty w false e typed class bounds = record { typed = (typed, bounds, class); exact = refl }
@@ -121,14 +120,14 @@ module _ (names : NamesInScope) where
   pub converted : (ty : Ty) (node : TypedExpression) → IsTypedExpression names node → in_bounds (expression_type node) ≡ true → in_bounds ty ≡ true
       → is_assigned_from ty (expression_type node) ≡ true → IsInType names ty (in_type ty node)
   converted BigInt node typed own bounds h =
-      converted_if BigInt node (is_one_type (expression_type node) BigInt) refl typed (ap class_of (integer (expression_type node) h)) bounds
+      converted_if BigInt node (same_ty (expression_type node) BigInt) refl typed (ap class_of (integer (expression_type node) h)) bounds
   converted (DecimalOf p s) node typed own bounds h =
       let w = wide_from (expression_type node) node refl typed own h in
-      converted_if (DecimalOf p s) (widened_node node) (is_one_type (expression_type (widened_node node)) (DecimalOf p s)) refl w.typed w.decimal bounds
+      converted_if (DecimalOf p s) (widened_node node) (same_ty (expression_type (widened_node node)) (DecimalOf p s)) refl w.typed w.decimal bounds
   converted (Char n) node typed own bounds h =
-      converted_if (Char n) node (is_one_type (expression_type node) (Char n)) refl typed (textual (expression_type node) h) bounds
+      converted_if (Char n) node (same_ty (expression_type node) (Char n)) refl typed (textual (expression_type node) h) bounds
   converted (Varchar n) node typed own bounds h =
-      converted_if (Varchar n) node (is_one_type (expression_type node) (Varchar n)) refl typed (textual (expression_type node) h) bounds
+      converted_if (Varchar n) node (same_ty (expression_type node) (Varchar n)) refl typed (textual (expression_type node) h) bounds
 
   -- ---- assigned values
 

@@ -1,5 +1,6 @@
 -- What becomes of the expressions of a method.
 use Rattle.std.specs.Prelude.{ℕ, ℤ, max, nat_le, ◌++◌, Bool, true, false, not, bytes_eq, codes, if◌then◌else◌, List, [], ◌∷◌, filter, position, unwrap_or, is_some, option_and_then, Option, Some, None}
+use Rattle.ds2_value.specs.Types.{same_ty}
 use Rattle.ds2_base.specs.Characters.{char_count}
 use Rattle.ds2_base.specs.declared.place.Place.{Place}
 use Rattle.ds2_decimal.specs.Decimal.{Decimal, digit_count}
@@ -31,7 +32,7 @@ use Rattle.ds2_meaning.specs.TypedExpression as tree
 use Rattle.ds2_names.specs.Uses.{first_place, method_named}
 use Rattle.ds2_elaboration.specs.FunctionTypes.{ElaboratedArgument, elaborated_null_test, elaborated_function}
 use Rattle.ds2_elaboration.specs.OperatorTypes.{is_operand_type, pair_refusals, ElaboratedLink, elaborated_link, elaborated_comparison, elaborated_sign, elaborated_not}
-use Rattle.ds2_elaboration.specs.SourceTypes.{is_one_type, elaborated_parameters, returned_type}
+use Rattle.ds2_elaboration.specs.SourceTypes.{elaborated_parameters, returned_type}
 use Rattle.ds2_elaboration.specs.Typings.{TypeRefusals, type_refusal_at, clash_unless, Typing, ElaboratedExpression, form_of_type, typing_behind, form_of_operands, elaborated_null, elaborated_nameless, where_known, where_both_known, operand_clash, truth_refusals, assigned_refusals, assigned_node}
 
 -- ---- constants
@@ -195,7 +196,7 @@ in_out_argument ty x rest =
       refusals =
           x.value.refusals
           ++ clash_unless (is_some (reference_in x.value.node)) x.place
-          ++ where_known x.value.typing (λ own. clash_unless (is_one_type own ty) x.place)
+          ++ where_known x.value.typing (λ own. clash_unless (same_ty own ty) x.place)
           ++ rest.refusals;
       arguments = tree.InOut (reference_or_none (reference_in x.value.node)) rest.arguments;
     }

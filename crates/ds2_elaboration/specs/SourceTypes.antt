@@ -14,7 +14,7 @@ use Rattle.ds2_tree.specs.declared.globals.TypeName.TheVariants as type_name
 use Rattle.ds2_tree.specs.declared.globals.VariableDeclaration.{VariableDeclaration}
 use Rattle.ds2_tree.specs.declared.readings.Input as source_input
 use Rattle.ds2_value.specs.Row.{Columns}
-use Rattle.ds2_value.specs.Types.{join_of}
+use Rattle.ds2_value.specs.Types.{join_of, same_ty}
 use Rattle.ds2_value.specs.declared.ty.Ty.{Ty}
 use Rattle.ds2_value.specs.declared.ty.Ty.TheVariants.{BigInt, Decimal as DecimalOf, Char, Varchar}
 use Rattle.ds2_meaning.specs.declared.globals.Variable as typed
@@ -60,14 +60,6 @@ returned_type returns = option_map (λ (r : Returns). spelled_type r.ty) returns
 
 -- ---- columns
 
--- two types are the same one
-abbrev pub is_one_type : Ty → Ty → Bool
-is_one_type BigInt BigInt = true
-is_one_type (DecimalOf p s) (DecimalOf q t) = (p == q) && (s == t)
-is_one_type (Char n) (Char m) = n == m
-is_one_type (Varchar n) (Varchar m) = n == m
-is_one_type _ _ = false
-
 -- the type of a column of this name
 abbrev pub type_of_column : List ℕ → Columns → Option Ty
 type_of_column name [] = None
@@ -83,7 +75,7 @@ pub data ColumnTyping : Type 0 where
 -- there is a join, and it is this type
 abbrev pub is_joined_to : Ty → Option Ty → Bool
 is_joined_to ty None = false
-is_joined_to ty (Some joined) = is_one_type joined ty
+is_joined_to ty (Some joined) = same_ty joined ty
 
 -- a declared variable of a column's name has the type that it and the column join to; where none is declared any type will do
 abbrev pub agrees_with_declared : Option Ty → Ty → Bool

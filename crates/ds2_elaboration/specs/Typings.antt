@@ -1,5 +1,6 @@
 -- What becomes of an expression: what is known of its type, the rules that it breaks, and the typed expression.
 use Rattle.std.specs.Prelude.{Bool, true, false, ◌&&◌, ◌||◌, if◌then◌else◌, List, [], ◌∷◌, ◌++◌}
+use Rattle.ds2_value.specs.Types.{same_ty}
 use Rattle.ds2_base.specs.declared.place.Place.{Place}
 use Rattle.ds2_base.specs.declared.place.Refusal.{Refusal}
 use Rattle.ds2_value.specs.declared.ty.Ty.{Ty}
@@ -9,7 +10,6 @@ use Rattle.ds2_meaning.specs.IsTyped.{expression_type}
 use Rattle.ds2_meaning.specs.TypedExpression.{TypedExpression, Constant, Widen, Convert}
 use Rattle.ds2_meaning.specs.declared.refusals.TypeKind.{TypeKind}
 use Rattle.ds2_meaning.specs.declared.refusals.TypeKind.TheVariants.{TypeClash, NotTruth}
-use Rattle.ds2_elaboration.specs.SourceTypes.{is_one_type}
 
 -- the broken rules of types, each with its place
 abbrev pub TypeRefusals : Type 0
@@ -134,7 +134,7 @@ widened_for _ e = e
 
 -- an expression that is assigned to a type: converted where it is not of that type
 abbrev pub in_type : Ty → TypedExpression → TypedExpression
-in_type ty e = let w = widened_for ty e in if is_one_type (expression_type w) ty then w else Convert w ty
+in_type ty e = let w = widened_for ty e in if same_ty (expression_type w) ty then w else Convert w ty
 
 -- a value that is assigned to a type; the constant null has that type
 abbrev pub assigned_node : Ty → ElaboratedExpression → TypedExpression

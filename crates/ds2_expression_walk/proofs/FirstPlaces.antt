@@ -17,6 +17,6 @@ pub first_in_chain : (e : code.Expression) (kind : ChainKind) (a : Box code.Expr
     → first_place (expression_tree e) ≡ first_place (expression_tree a.value)
 first_in_chain e kind a os h = ap first_place (chain_is e kind a os h)
 
-pub first_in_call : (e : code.Expression) (callee : Callee) (p : Place) (xs : List code_argument.Argument) (q : Place) → e ≡ expression.Call callee p xs q
-    → first_place (expression_tree e) ≡ callee_place callee
+pub first_in_call : (e : code.Expression) (callee : Box Callee Global) (p : Place) (xs : List code_argument.Argument) (q : Place) → e ≡ expression.Call callee p xs q
+    → first_place (expression_tree e) ≡ callee_place callee.value
 first_in_call e callee p xs q h = ap first_place (call_is e callee p xs q h)

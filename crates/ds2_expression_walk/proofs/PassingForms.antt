@@ -1,5 +1,6 @@
 -- Arguments for parameters, from what stands of them.
 use Rattle.std.proofs.Common.{◌≡◌, Bool, true, false, List, [], ◌∷◌, ◌++◌, map, Option, Some, None, Result, Ok, Err, if◌then◌else◌, refl, sym, ap, ◌∙◌, subst}
+use Rattle.ds2_value.specs.Types.{same_ty}
 use Rattle.std.specs.Prelude.{is_some}
 use Rattle.ds2_base.specs.declared.place.Place.{Place}
 use Rattle.ds2_base.specs.declared.place.Refusal.{Refusal}
@@ -14,7 +15,6 @@ use Rattle.ds2_meaning.specs.declared.refusals.TypeKind.TheVariants.{TypeClash}
 use Rattle.ds2_names.specs.Refusals.{type_rank, first_of_both}
 use Rattle.ds2_elaboration.specs.ExpressionTypes.{reference_in}
 use Rattle.ds2_elaboration.specs.FunctionTypes.{ElaboratedArgument}
-use Rattle.ds2_elaboration.specs.SourceTypes.{is_one_type}
 use Rattle.ds2_elaboration.specs.Typings.{TypeRefusals, Typing, clash_unless, where_known, assigned_refusals, assigned_node}
 use Rattle.ds2_types.specs.Judgements.{first_type_refusal, typing_of, node_tree, IsOutcome, IsJudged, IsAssigned, ruled}
 use Rattle.ds2_types.specs.declared.judgement.Judgement.{Judgement}
@@ -29,7 +29,7 @@ use Rattle.ds2_expression_types.proofs.ArgumentLists.{map-push}
 
 -- the type of the variable is another one than the parameter's
 abbrev pub type_rule : Ty → Place → Typing → TypeRefusals
-type_rule ty place typing = where_known typing (λ own. clash_unless (is_one_type own ty) place)
+type_rule ty place typing = where_known typing (λ own. clash_unless (same_ty own ty) place)
 
 ruled_none : (outcome : Result Node (Refusal TypeKind)) → ruled outcome None ≡ outcome
 ruled_none (Ok n) = refl

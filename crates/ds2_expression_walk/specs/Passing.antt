@@ -1,5 +1,6 @@
 -- Arguments for the parameters of a method, one by one.
 use Rattle.std.specs.Prelude.{◌≡◌, Bool, true, false, ◌++◌, is_some, if◌then◌else◌, List, map, Option, None, Result}
+use Rattle.ds2_value.specs.Types.{same_ty}
 use Rattle.ds2_base.specs.declared.place.Refusal.{Refusal}
 use Rattle.ds2_value.specs.declared.ty.Ty.{Ty}
 use Rattle.ds2_meaning.specs.TypedExpression as tree
@@ -10,7 +11,6 @@ use Rattle.ds2_meaning.specs.declared.methods.Parameter.{Parameter}
 use Rattle.ds2_meaning.specs.declared.refusals.TypeKind.{TypeKind}
 use Rattle.ds2_elaboration.specs.ExpressionTypes.{ElaboratedArguments, reference_in, reference_or_none}
 use Rattle.ds2_elaboration.specs.FunctionTypes.{ElaboratedArgument}
-use Rattle.ds2_elaboration.specs.SourceTypes.{is_one_type}
 use Rattle.ds2_elaboration.specs.Typings.{TypeRefusals, clash_unless, where_known, assigned_refusals, assigned_node}
 use Rattle.ds2_types.specs.Judgements.{IsOutcome}
 
@@ -34,7 +34,7 @@ abbrev pub lent_refusals : Ty → ElaboratedArgument → TypeRefusals
 lent_refusals ty x =
     x.value.refusals
     ++ clash_unless (is_some (reference_in x.value.node)) x.place
-    ++ where_known x.value.typing (λ own. clash_unless (is_one_type own ty) x.place)
+    ++ where_known x.value.typing (λ own. clash_unless (same_ty own ty) x.place)
 
 -- what is broken in an argument for a parameter
 abbrev pub passed_refusals : Parameter → ElaboratedArgument → TypeRefusals

@@ -1,9 +1,9 @@
 //! Arguments of methods: by value, or variables that are handed in and out.
 ghost use Rattle.std.specs.Prelude.{◌≡◌, ◌++◌, ◌∷◌, [], ℕ, false, List as Items, IfOk, Err, Some, None, map, is_some};
+ghost use Rattle.ds2_value.specs.Types.{same_ty};
 ghost use Rattle.ds2_base.specs.declared.place.Place.{Place as PlaceOf};
 ghost use Rattle.ds2_elaboration.specs.ExpressionTypes.{ElaboratedArguments, reference_in, result_of_method};
 ghost use Rattle.ds2_elaboration.specs.FunctionTypes.{ElaboratedArgument};
-ghost use Rattle.ds2_elaboration.specs.SourceTypes.{is_one_type};
 ghost use Rattle.ds2_elaboration.specs.Typings.{TypeRefusals, clash_unless, where_known};
 ghost use Rattle.ds2_meaning.specs.TypedExpression as tree;
 ghost use Rattle.ds2_meaning.specs.View.{Part, in_a_row, typed_expression, argument_tree};
@@ -29,7 +29,7 @@ pub type PassedArguments = Result<List<Argument>, Refusal<TypeKind>>;
 
 /// A variable that is handed in and out has exactly the parameter's type, else TypeClash at its place.
 fn type_clash(ty: Ty, place: Place, typing: Typing) -> Option<Refusal<TypeKind>>
-    ensures { result ≡ first_type_refusal (where_known (typing_of typing) (λ own. clash_unless (is_one_type own ty) place)) }
+    ensures { result ≡ first_type_refusal (where_known (typing_of typing) (λ own. clash_unless (same_ty own ty) place)) }
 {
     match typing {
         Typing::Known(own) => clash_unless(is_one(own, ty), place),

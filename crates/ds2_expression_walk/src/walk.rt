@@ -99,7 +99,7 @@ fn chain(
 
 /// What becomes of arguments, in order.
 #[cycle(judge)]
-fn judged_arguments(
+pub fn judged_arguments(
     alloc: Global,
     scope: &Scope<'_>,
     arguments: &[Argument],
@@ -134,7 +134,7 @@ fn passed_argument(
 /// Arguments for the parameters of a method whose name stands at this place, in order; another number of them than of
 /// parameters is TypeClash at the name.
 #[cycle(judge)]
-fn passed_arguments(
+pub fn passed_arguments(
     alloc: Global,
     scope: &Scope<'_>,
     arguments: &[Argument],

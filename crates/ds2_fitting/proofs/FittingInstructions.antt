@@ -9,7 +9,7 @@ use Rattle.ds2_decimal.specs.Decimal.{Decimal}
 use Rattle.ds2_decimal.specs.declared.dec.DecFault.{DecFault}
 use Rattle.ds2_value.specs.Functions.{length_of, trim_of, concat_of, substr_of, is_null_of, first_of, lesser_of, greater_of}
 use Rattle.ds2_value.specs.Keeping.{AssignedFits, FittingIsHeld}
-use Rattle.ds2_value.specs.Operations.{of_decimals, of_decimal, widened, line_value}
+use Rattle.ds2_value.specs.Operations.{of_decimals, of_decimal, widened, line_value, of_one, of_two}
 use Rattle.ds2_value.specs.Row.{Row}
 use Rattle.ds2_value.specs.Types.{in_bounds, fits}
 use Rattle.ds2_value.specs.Value.{is_null, or_null}
@@ -28,7 +28,7 @@ use Rattle.ds2_code.specs.declared.parts.ParameterPart.{ParameterPart}
 use Rattle.ds2_code.specs.declared.parts.ProgramParts.{ProgramParts}
 use Rattle.ds2_code.specs.CodeRun.{method_result}
 use Rattle.ds2_code.specs.Desk.{Desk, Taken, take_off, constant_value, loaded_value, with_stored}
-use Rattle.ds2_code.specs.InstructionTable.{Kind, Pure, Partial, Loads, Stores, Drops, CallsHash, CallsIterator, Writes, Puts, Ticks, Jumps, Tests, Enters, GoesBack, Raises, Finishes, kind_of, of_operand, from_operands}
+use Rattle.ds2_code.specs.InstructionTable.{Kind, Pure, Partial, Loads, Stores, Drops, CallsHash, CallsIterator, Writes, Puts, Ticks, Jumps, Tests, Enters, GoesBack, Raises, Finishes, kind_of}
 use Rattle.ds2_code.specs.OperandTypes.{OperandTypes, Signature, CodeRole, OfUnit, OfMethod, OperandClass, OneType, AnyDecimal, AnyText, AnyType, is_text_type, text_length, TakenTypes, take_classes, with_type, one_for, none_for, always, as_operand, by_scales, part_of_first, both_texts, when_there, stored_type, types_of_parameters, types_of_locals, with_in_out_types, with_result_type, after_call_types, call_types, without_result, with_only_result, return_types, result_types, slot_type, type_of_parameter, types_behind}
 use Rattle.ds2_code.specs.ValidCode.{constant_allowed, is_char_type, stage_parameters}
 use Rattle.ds2_fitting.specs.Fitting.{is_of_type, AreOfTypes, slot_types, AreParametersOfStage}
@@ -203,15 +203,15 @@ module _ (held : FittingIsHeld) (assigned : AssignedFits) (code : ProgramParts) 
   -- one on two decimals
   of_two_decimals : (f : Decimal → Decimal → Result Decimal DecFault) (scale : ℕ → ℕ → ℕ) → ((a b d : Decimal) → f a b ≡ Ok d → HasScale (scale a.scale b.scale) d) → (types after : OperandTypes)
       → one_for (by_scales scale) (take_classes (AnyDecimal ∷ AnyDecimal ∷ []) [] types) ≡ Some after
-      → (stack : Row) (t : Taken) (v : Value) → AreOfTypes stack types → take_off 2 [] stack ≡ Some t → from_operands (of_decimals f) t.values ≡ Ok v → AreOfTypes (v ∷ t.below) after
+      → (stack : Row) (t : Taken) (v : Value) → AreOfTypes stack types → take_off 2 [] stack ≡ Some t → of_two (of_decimals f) t.values ≡ Ok v → AreOfTypes (v ∷ t.below) after
   of_two_decimals f scale made types after h stack t v s g e =
       put_of_type v (by_scales scale) t (AnyDecimal ∷ AnyDecimal ∷ []) types (λ q u is k r. of_type v u (of_decimals_fits f scale made t.values v q.taken u e k r) (scales_bounds scale q.taken u r)) after stack h s g
 
   -- one on a decimal that gives one of the same type
   same_sign : (f : Decimal → Decimal) → ((d : Decimal) → (f d).scale ≡ d.scale) → ((d : Decimal) → unsigned_abs (f d).units ≡ unsigned_abs d.units) → (types after : OperandTypes) → one_for as_operand (take_classes (AnyDecimal ∷ []) [] types) ≡ Some after
-      → (stack : Row) (t : Taken) → AreOfTypes stack types → take_off 1 [] stack ≡ Some t → AreOfTypes (of_operand (of_decimal f) t.values ∷ t.below) after
+      → (stack : Row) (t : Taken) → AreOfTypes stack types → take_off 1 [] stack ≡ Some t → AreOfTypes (of_one (of_decimal f) t.values ∷ t.below) after
   same_sign f kept size types after h stack t s g =
-      put_of_type (of_operand (of_decimal f) t.values) as_operand t (AnyDecimal ∷ []) types (λ q u is k r. of_type (of_operand (of_decimal f) t.values) u (of_decimal_fits f kept size t.values q.taken u k r) (operand_bounds t.values q.taken u k r)) after stack h s g
+      put_of_type (of_one (of_decimal f) t.values) as_operand t (AnyDecimal ∷ []) types (λ q u is k r. of_type (of_one (of_decimal f) t.values) u (of_decimal_fits f kept size t.values q.taken u k r) (operand_bounds t.values q.taken u k r)) after stack h s g
     where
       operand_bounds : (vs : Row) (ts : List Ty) (u : Ty) → AreOfTypes vs ts → as_operand ts ≡ Some u → in_bounds u ≡ true
       operand_bounds vs [] u h r = absurd cc
@@ -225,7 +225,7 @@ module _ (held : FittingIsHeld) (assigned : AssignedFits) (code : ProgramParts) 
   part_outcome cs types after h stack t v s g e =
       put_of_type v part_of_first t (cs ++ AnyText ∷ []) types (λ q u is k r. part_typed v cs types t.values q u is k r (λ ty more f. part_ok (text_length ty) (substr_of t.values) v (substr_fits t.values ty more f) e)) after stack h s g
 
-  shown_fits : (vs : Row) (ts : List Ty) → AreOfTypes vs ts → fits (of_operand line_value vs) (Varchar TEXT_CHARACTERS) ≡ true
+  shown_fits : (vs : Row) (ts : List Ty) → AreOfTypes vs ts → fits (of_one line_value vs) (Varchar TEXT_CHARACTERS) ≡ true
   shown_fits [] ts h = refl
   shown_fits (v ∷ []) [] h = absurd h
   shown_fits (v ∷ []) (t ∷ ts) h = line_fits v (value_held held assigned v t h.0)
@@ -247,7 +247,7 @@ module _ (held : FittingIsHeld) (assigned : AssignedFits) (code : ProgramParts) 
   types_kept (instr.LStore n) types after h = λ v stack d s l g p.
       let k = stored_type_fits (slice_get (types_of_locals role) n) v stack types after h s in (k.1, set_of_type d.locals (types_of_locals role) n v l k.0, g, p)
   types_kept instr.DropTop types after h = λ v stack s. dropped_of_types (AnyType ∷ []) types after (v ∷ stack) (record { values = v ∷ []; below = stack }) h s refl
-  types_kept instr.IToD types after h = of_one_type (of_operand widened) (DecimalOf 19 0) refl widened_fits (OneType BigInt ∷ []) types after h
+  types_kept instr.IToD types after h = of_one_type (of_one widened) (DecimalOf 19 0) refl widened_fits (OneType BigInt ∷ []) types after h
   types_kept (instr.Rescale p s) types after h = λ stack t v k g e.
       let b = when_true (in_bounds (DecimalOf p s)) (one_for (always (DecimalOf p s)) (take_classes (AnyDecimal ∷ []) [] types)) after h in
       put_of_type v (always (DecimalOf p s)) t (AnyDecimal ∷ []) types
@@ -272,8 +272,8 @@ module _ (held : FittingIsHeld) (assigned : AssignedFits) (code : ProgramParts) 
   types_kept instr.DNeg types after h = same_sign decimal.neg (λ d. refl) (λ d. negative_size d.units) types after h
   types_kept instr.DAbs types after h = same_sign decimal.abs (λ d. refl) (λ d. refl) types after h
   types_kept instr.DMod types after h = of_two_decimals decimal.modulo max remainder_scale types after h
-  types_kept instr.DFloor types after h = of_one_type (of_operand (of_decimal decimal.floor)) (DecimalOf 38 0) refl (whole_fits decimal.floor (λ d. refl) floor_less) (AnyDecimal ∷ []) types after h
-  types_kept instr.DCeil types after h = of_one_type (of_operand (of_decimal decimal.ceil)) (DecimalOf 38 0) refl (whole_fits decimal.ceil (λ d. refl) ceil_less) (AnyDecimal ∷ []) types after h
+  types_kept instr.DFloor types after h = of_one_type (of_one (of_decimal decimal.floor)) (DecimalOf 38 0) refl (whole_fits decimal.floor (λ d. refl) floor_less) (AnyDecimal ∷ []) types after h
+  types_kept instr.DCeil types after h = of_one_type (of_one (of_decimal decimal.ceil)) (DecimalOf 38 0) refl (whole_fits decimal.ceil (λ d. refl) ceil_less) (AnyDecimal ∷ []) types after h
   types_kept (instr.ICmp c) types after h = bigint_value _ (compared_fits c) (OneType BigInt ∷ OneType BigInt ∷ []) types after h
   types_kept (instr.DCmp c) types after h = bigint_value _ (compared_fits c) (AnyDecimal ∷ AnyDecimal ∷ []) types after h
   types_kept (instr.TCmp c) types after h = bigint_value _ (compared_fits c) (AnyText ∷ AnyText ∷ []) types after h
@@ -302,7 +302,7 @@ module _ (held : FittingIsHeld) (assigned : AssignedFits) (code : ProgramParts) 
   types_kept instr.RetV types after h = result_fits role types after h
   types_kept instr.NoWhen types after h = tt
   types_kept (instr.Output o) types after h = sym (some_is types after (none_there (slice_get code.outputs o) (Some types) after h))
-  types_kept instr.Show types after h = of_one_type (of_operand line_value) (Varchar TEXT_CHARACTERS) refl shown_fits (AnyType ∷ []) types after h
+  types_kept instr.Show types after h = of_one_type (of_one line_value) (Varchar TEXT_CHARACTERS) refl shown_fits (AnyType ∷ []) types after h
   types_kept (instr.Put n) types after h = λ stack t s g.
       dropped_of_types (replicate n AnyText) types after stack t (if_some (nat_le n 1000000) (none_for (take_classes (replicate n AnyText) [] types)) after h) s (ap (λ k. take_off k [] stack) (length-replicate n AnyText) ∙ g)
   types_kept (instr.HCall k f) types after h = part_there (slice_get code.hashes k) (BigInt ∷ types) after h

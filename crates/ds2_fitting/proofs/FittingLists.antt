@@ -4,7 +4,7 @@ use Rattle.std.specs.Prelude.{IsTrue, if◌then◌else◌, slice_get, slice_set,
 use Rattle.std.specs.List.{list_all, zip}
 use Rattle.std.proofs.lemmas.Bool.{eqb-true}
 use Rattle.ds2_value.specs.Row.{Row}
-use Rattle.ds2_value.specs.Types.{in_bounds, fits}
+use Rattle.ds2_value.specs.Types.{in_bounds, fits, same_ty}
 use Rattle.ds2_value.specs.Value.{or_null}
 use Rattle.ds2_value.specs.declared.ty.Ty.{Ty}
 use Rattle.ds2_value.specs.declared.ty.Ty.TheVariants.{BigInt, Decimal as DecimalOf, Char, Varchar}
@@ -15,7 +15,7 @@ use Rattle.ds2_code.specs.declared.parts.SlotRole.{SlotRole}
 use Rattle.ds2_code.specs.declared.parts.SlotRole.TheVariants.{Cleared, Kept, Column, Flag}
 use Rattle.ds2_code.specs.CodeUnit.{null_where_cleared, without_cleared}
 use Rattle.ds2_code.specs.Desk.{SlotSettings, with_slot_settings, values_of_slots}
-use Rattle.ds2_code.specs.OperandTypes.{same_ty, slot_type, type_of_parameter}
+use Rattle.ds2_code.specs.OperandTypes.{slot_type, type_of_parameter}
 use Rattle.ds2_fitting.specs.Fitting.{is_of_type, AreOfTypes, slot_types, AreOfSlots, AreSettingsOfSlots}
 
 pub both : (a b : Bool) → (a && b) ≡ true → (a ≡ true) × (b ≡ true)

@@ -33,7 +33,8 @@ use Rattle.ds2_code.specs.Desk.{ProgramData, Desk, with_stack, with_state, pushe
 use Rattle.ds2_code.specs.HashCalls.{hash_called, iterator_moved, iterator_called, answer_of_hash, after_hash_call, answer_of_iterator, after_iterator_call}
 use Rattle.ds2_code.specs.InstructionTable.{Kind, Pure, Partial, Loads, Stores, Drops, CallsHash, CallsIterator, Writes, Puts, Ticks, Jumps, Tests, Enters, GoesBack, Raises, Finishes, kind_of}
 use Rattle.ds2_code.specs.OperandTypes.{OperandTypes, CodeRole, OfUnit, OfMethod, Signature, signature_of, types_of_parameters, types_of_locals, with_in_out_types, with_result_type}
-use Rattle.ds2_code.specs.ValidCode.{CodePoint, point, HasOperandTypes, stage_parameters, constant_allowed, method_allowed, reference_allowed, reading_allowed, is_table_name, values_allowed, IsValidProgram, unit_entries}
+use Rattle.ds2_token.specs.Words.{is_table_name}
+use Rattle.ds2_code.specs.ValidCode.{CodePoint, point, HasOperandTypes, stage_parameters, constant_allowed, method_allowed, reference_allowed, reading_allowed, values_allowed, IsValidProgram, unit_entries}
 use Rattle.ds2_fitting.specs.Fitting.{AreOfTypes, AreHashesOfSlots, IsDataOfCode, IsRowOfOutput, AreRowsOfOutputs, AreCallersOfTypes, IsFittingAt, UnitsBeginFitting, InstructionsKeepTypes, UnitsEndFitting, FaultsLeaveRows}
 use Rattle.ds2_fitting.proofs.FittingLists.{both, of_type, append_of_types, nulls_of_types, values_for_slots}
 use Rattle.ds2_fitting.proofs.FittingOperands.{in_outs_fit}

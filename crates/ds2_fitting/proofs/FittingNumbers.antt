@@ -14,7 +14,7 @@ use Rattle.ds2_decimal.specs.declared.dec.DecFault.{DecFault}
 use Rattle.ds2_decimal.specs.declared.dec.DecFault.TheVariants.{Overflow, DivideByZero}
 use Rattle.ds2_value.specs.Functions.{is_null_of, first_of, lesser_of, greater_of}
 use Rattle.ds2_value.specs.Keeping.{IsHeld, AssignedFits, FittingIsHeld}
-use Rattle.ds2_value.specs.Operations.{of_decimals, of_decimal, truth_value, widened, or_null_at_fault}
+use Rattle.ds2_value.specs.Operations.{of_decimals, of_decimal, truth_value, widened, or_null_at_fault, of_one, of_one_or_fault, of_two}
 use Rattle.ds2_value.specs.Order.{key_order}
 use Rattle.ds2_value.specs.Row.{Row}
 use Rattle.ds2_value.specs.Types.{in_bounds, is_from_one, fits, assign_of, decimal_value}
@@ -28,7 +28,7 @@ use Rattle.ds2_value.specs.declared.ty.Ty.{Ty}
 use Rattle.ds2_value.specs.declared.ty.Ty.TheVariants.{BigInt, Decimal as DecimalOf, Char, Varchar}
 use Rattle.ds2_value.specs.declared.value.Value.{Value}
 use Rattle.ds2_value.specs.declared.value.Value.TheVariants.{Null, Int, Dec, Txt}
-use Rattle.ds2_code.specs.InstructionTable.{of_operand, of_operands, from_operand, from_operands}
+use Rattle.ds2_code.specs.InstructionTable.{of_operands}
 use Rattle.ds2_code.specs.OperandTypes.{decimal_of_scale, by_scales, as_operand}
 use Rattle.ds2_fitting.specs.Fitting.{is_of_type, AreOfTypes}
 use Rattle.ds2_fitting.proofs.FittingLists.{both, and_true, if_some, when_true, some_is, value_fits, type_bounds}
@@ -68,7 +68,7 @@ remainder_small : (x y : ℤ) → fits_bigint x ≡ true → fits_bigint (int_re
 remainder_small (pos n) y h = let less = mod-le n (unsigned_abs y) in let few = ltb-true n (2 ^ 63) h in lt-ltb (n % unsigned_abs y) (2 ^ 63) (omega (arith, less, few))
 remainder_small (negsuc n) y h = negative_small (suc n % unsigned_abs y) n (mod-le (suc n) (unsigned_abs y)) (ltb-true n (2 ^ 63) h)
 
-pub sum_fits : (vs : Row) (ts : List Ty) → AreOfTypes vs ts → IsTrue (is_bigint_result (from_operands sum_of vs))
+pub sum_fits : (vs : Row) (ts : List Ty) → AreOfTypes vs ts → IsTrue (is_bigint_result (of_two sum_of vs))
 unfolding sum_of
 sum_fits [] ts h = refl
 sum_fits (a ∷ []) ts h = refl
@@ -81,7 +81,7 @@ sum_fits (Int x ∷ Txt t ∷ []) ts h = refl
 sum_fits (Int x ∷ Int y ∷ []) ts h = bigint_fits (x +ℤ y)
 sum_fits (a ∷ b ∷ c ∷ vs) ts h = refl
 
-pub difference_fits : (vs : Row) (ts : List Ty) → AreOfTypes vs ts → IsTrue (is_bigint_result (from_operands difference_of vs))
+pub difference_fits : (vs : Row) (ts : List Ty) → AreOfTypes vs ts → IsTrue (is_bigint_result (of_two difference_of vs))
 unfolding difference_of
 difference_fits [] ts h = refl
 difference_fits (a ∷ []) ts h = refl
@@ -94,7 +94,7 @@ difference_fits (Int x ∷ Txt t ∷ []) ts h = refl
 difference_fits (Int x ∷ Int y ∷ []) ts h = bigint_fits (x -ℤ y)
 difference_fits (a ∷ b ∷ c ∷ vs) ts h = refl
 
-pub product_fits : (vs : Row) (ts : List Ty) → AreOfTypes vs ts → IsTrue (is_bigint_result (from_operands product_of vs))
+pub product_fits : (vs : Row) (ts : List Ty) → AreOfTypes vs ts → IsTrue (is_bigint_result (of_two product_of vs))
 unfolding product_of
 product_fits [] ts h = refl
 product_fits (a ∷ []) ts h = refl
@@ -111,7 +111,7 @@ remainder_by : (b : Bool) (z : ℤ) → fits_bigint z ≡ true → IsTrue (is_bi
 remainder_by true z h = refl
 remainder_by false z h = h
 
-pub remainder_fits : (vs : Row) (ts : List Ty) → AreOfTypes vs ts → IsTrue (is_bigint_result (from_operands remainder_of vs))
+pub remainder_fits : (vs : Row) (ts : List Ty) → AreOfTypes vs ts → IsTrue (is_bigint_result (of_two remainder_of vs))
 unfolding remainder_of
 remainder_fits [] ts h = refl
 remainder_fits (a ∷ []) ts h = refl
@@ -125,7 +125,7 @@ remainder_fits (Int x ∷ Int y ∷ []) [] h = absurd h
 remainder_fits (Int x ∷ Int y ∷ []) (t ∷ ts) h = remainder_by (is_zero y) (int_rem x y) (remainder_small x y (int_of_type x t h.0))
 remainder_fits (a ∷ b ∷ c ∷ vs) ts h = refl
 
-pub negative_fits : (vs : Row) (ts : List Ty) → AreOfTypes vs ts → IsTrue (is_bigint_result (from_operand negative_of vs))
+pub negative_fits : (vs : Row) (ts : List Ty) → AreOfTypes vs ts → IsTrue (is_bigint_result (of_one_or_fault negative_of vs))
 unfolding negative_of
 negative_fits [] ts h = refl
 negative_fits (Null ∷ []) ts h = refl
@@ -134,7 +134,7 @@ negative_fits (Txt t ∷ []) ts h = refl
 negative_fits (Int x ∷ []) ts h = bigint_fits (neg_ℤ x)
 negative_fits (a ∷ b ∷ vs) ts h = refl
 
-pub absolute_fits : (vs : Row) (ts : List Ty) → AreOfTypes vs ts → IsTrue (is_bigint_result (from_operand absolute_of vs))
+pub absolute_fits : (vs : Row) (ts : List Ty) → AreOfTypes vs ts → IsTrue (is_bigint_result (of_one_or_fault absolute_of vs))
 unfolding absolute_of
 absolute_fits [] ts h = refl
 absolute_fits (Null ∷ []) ts h = refl
@@ -173,12 +173,12 @@ or_fits (a ∷ []) ts h = refl
 or_fits (a ∷ b ∷ []) ts h = truth_fits (or_of (truth_of a) (truth_of b))
 or_fits (a ∷ b ∷ c ∷ vs) ts h = refl
 
-pub not_fits : (vs : Row) (ts : List Ty) → AreOfTypes vs ts → fits (of_operand (λ a. truth_value (not_of (truth_of a))) vs) BigInt ≡ true
+pub not_fits : (vs : Row) (ts : List Ty) → AreOfTypes vs ts → fits (of_one (λ a. truth_value (not_of (truth_of a))) vs) BigInt ≡ true
 not_fits [] ts h = refl
 not_fits (a ∷ []) ts h = truth_fits (not_of (truth_of a))
 not_fits (a ∷ b ∷ vs) ts h = refl
 
-pub condition_fits : (vs : Row) (ts : List Ty) → AreOfTypes vs ts → fits (of_operand (λ a. truth_value (truth_of a)) vs) BigInt ≡ true
+pub condition_fits : (vs : Row) (ts : List Ty) → AreOfTypes vs ts → fits (of_one (λ a. truth_value (truth_of a)) vs) BigInt ≡ true
 condition_fits [] ts h = refl
 condition_fits (a ∷ []) ts h = truth_fits (truth_of a)
 condition_fits (a ∷ b ∷ vs) ts h = refl
@@ -264,8 +264,8 @@ scaled_fits : (d : Decimal) (s : ℕ) → HasScale s d → fits (Dec d) (Decimal
 scaled_fits d s h = and_true (d.scale == s) (is_within 38 d.units) (eq-eqb d.scale s h.0) h.1
 
 module _ (f : Decimal → Decimal → Result Decimal DecFault) (scale : ℕ → ℕ → ℕ) (made : (a b d : Decimal) → f a b ≡ Ok d → HasScale (scale a.scale b.scale) d) where
-  of_two : (a b : Decimal) (v : Value) (ts : List Ty) (u : Ty) → decimal_value (f a b) ≡ Ok v → AreOfTypes (Dec a ∷ Dec b ∷ []) ts → by_scales scale ts ≡ Some u → fits v u ≡ true
-  of_two a b v ts u h k g =
+  two_fit : (a b : Decimal) (v : Value) (ts : List Ty) (u : Ty) → decimal_value (f a b) ≡ Ok v → AreOfTypes (Dec a ∷ Dec b ∷ []) ts → by_scales scale ts ≡ Some u → fits v u ≡ true
+  two_fit a b v ts u h k g =
       let d = decimal_is (f a b) v h in
       let s = two_scales a b ts k in
       let n = scale a.scale b.scale in
@@ -273,7 +273,7 @@ module _ (f : Decimal → Decimal → Result Decimal DecFault) (scale : ℕ → 
       let is : DecimalOf 38 n ≡ u = some_is (DecimalOf 38 n) u (if_some (nat_le n 38) (Some (DecimalOf 38 n)) u at) in
       subst (λ z. fits z u ≡ true) (sym d.2) (subst (λ z. fits (Dec d.0) z ≡ true) is (scaled_fits d.0 n (made a b d.0 d.1)))
 
-  pub of_decimals_fits : (vs : Row) (v : Value) (ts : List Ty) (u : Ty) → from_operands (of_decimals f) vs ≡ Ok v → AreOfTypes vs ts → by_scales scale ts ≡ Some u → fits v u ≡ true
+  pub of_decimals_fits : (vs : Row) (v : Value) (ts : List Ty) (u : Ty) → of_two (of_decimals f) vs ≡ Ok v → AreOfTypes vs ts → by_scales scale ts ≡ Some u → fits v u ≡ true
   of_decimals_fits [] v ts u h k g = null_result v u h
   of_decimals_fits (a ∷ []) v ts u h k g = null_result v u h
   of_decimals_fits (Null ∷ b ∷ []) v ts u h k g = null_result v u h
@@ -282,7 +282,7 @@ module _ (f : Decimal → Decimal → Result Decimal DecFault) (scale : ℕ → 
   of_decimals_fits (Dec a ∷ Null ∷ []) v ts u h k g = null_result v u h
   of_decimals_fits (Dec a ∷ Int i ∷ []) v ts u h k g = null_result v u h
   of_decimals_fits (Dec a ∷ Txt t ∷ []) v ts u h k g = null_result v u h
-  of_decimals_fits (Dec a ∷ Dec b ∷ []) v ts u h k g = of_two a b v ts u h k g
+  of_decimals_fits (Dec a ∷ Dec b ∷ []) v ts u h k g = two_fit a b v ts u h k g
   of_decimals_fits (a ∷ b ∷ c ∷ vs) v ts u h k g = null_result v u h
 
 -- the type of such an operation's result is in bounds
@@ -317,7 +317,7 @@ module _ (f : Decimal → Decimal) (kept : (d : Decimal) → (f d).scale ≡ d.s
       let k = both (d.scale == s) (is_within p d.units) (value_fits (Dec d) (DecimalOf p s) h) in
       and_true ((f d).scale == s) (is_within p (f d).units) (ap (λ n. n == s) (kept d) ∙ k.0) (ap (λ n. nat_lt n (10 ^ p)) (size d) ∙ k.1)
 
-  pub of_decimal_fits : (vs : Row) (ts : List Ty) (u : Ty) → AreOfTypes vs ts → as_operand ts ≡ Some u → fits (of_operand (of_decimal f) vs) u ≡ true
+  pub of_decimal_fits : (vs : Row) (ts : List Ty) (u : Ty) → AreOfTypes vs ts → as_operand ts ≡ Some u → fits (of_one (of_decimal f) vs) u ≡ true
   of_decimal_fits [] ts u h g = refl
   of_decimal_fits (Null ∷ []) ts u h g = refl
   of_decimal_fits (Int i ∷ []) ts u h g = refl
@@ -342,7 +342,7 @@ module _ (f : Decimal → Decimal) (whole : (d : Decimal) → (f d).scale ≡ 0)
       let below = less d in
       and_true ((f d).scale == 0) (is_within 38 (f d).units) (eq-eqb (f d).scale 0 (whole d)) (lt-ltb (unsigned_abs (f d).units) (10 ^ 38) (omega (arith, below, small, fewer)))
 
-  pub whole_fits : (vs : Row) (ts : List Ty) → AreOfTypes vs ts → fits (of_operand (of_decimal f) vs) (DecimalOf 38 0) ≡ true
+  pub whole_fits : (vs : Row) (ts : List Ty) → AreOfTypes vs ts → fits (of_one (of_decimal f) vs) (DecimalOf 38 0) ≡ true
   whole_fits [] ts h = refl
   whole_fits (Null ∷ []) ts h = refl
   whole_fits (Int i ∷ []) ts h = refl
@@ -368,7 +368,7 @@ bigint_digits : (i : ℤ) → fits_bigint i ≡ true → is_within 19 i ≡ true
 bigint_digits (pos n) h = let b = ltb-true n (2 ^ 63) h in lt-ltb n (10 ^ 19) (omega (arith, b))
 bigint_digits (negsuc n) h = let b = ltb-true n (2 ^ 63) h in lt-ltb (suc n) (10 ^ 19) (omega (arith, b))
 
-pub widened_fits : (vs : Row) (ts : List Ty) → AreOfTypes vs ts → fits (of_operand widened vs) (DecimalOf 19 0) ≡ true
+pub widened_fits : (vs : Row) (ts : List Ty) → AreOfTypes vs ts → fits (of_one widened vs) (DecimalOf 19 0) ≡ true
 widened_fits [] ts h = refl
 widened_fits (Null ∷ []) ts h = refl
 widened_fits (Int i ∷ []) [] h = absurd h
@@ -383,7 +383,7 @@ module _ (held : FittingIsHeld) (assigned : AssignedFits) where
   pub value_held : (v : Value) (t : Ty) → IsTrue (is_of_type v t) → IsHeld v
   value_held v t h = held v t (type_bounds v t h) (value_fits v t h)
 
-  pub rescaled_fits : (c : Ty) → in_bounds c ≡ true → (vs : Row) (ts : List Ty) (v : Value) → AreOfTypes vs ts → from_operand (λ w. assign_of w c) vs ≡ Ok v → fits v c ≡ true
+  pub rescaled_fits : (c : Ty) → in_bounds c ≡ true → (vs : Row) (ts : List Ty) (v : Value) → AreOfTypes vs ts → of_one_or_fault (λ w. assign_of w c) vs ≡ Ok v → fits v c ≡ true
   rescaled_fits c b [] ts v h e = null_result v c e
   rescaled_fits c b (w ∷ []) [] v h e = absurd h
   rescaled_fits c b (w ∷ []) (t ∷ ts) v h e = assigned w v c (value_held w t h.0) b e
@@ -396,7 +396,7 @@ module _ (held : FittingIsHeld) (assigned : AssignedFits) where
   pub assigned_fits : (v : Value) (c : Ty) → in_bounds c ≡ true → IsHeld v → fits (or_null_at_fault (assign_of v c)) c ≡ true
   assigned_fits v c b h = or_null_fits v c (assign_of v c) refl b h
 
-  pub brought_fits : (c : Ty) → in_bounds c ≡ true → (vs : Row) (ts : List Ty) → AreOfTypes vs ts → fits (of_operand (λ v. or_null_at_fault (assign_of v c)) vs) c ≡ true
+  pub brought_fits : (c : Ty) → in_bounds c ≡ true → (vs : Row) (ts : List Ty) → AreOfTypes vs ts → fits (of_one (λ v. or_null_at_fault (assign_of v c)) vs) c ≡ true
   brought_fits c b [] ts h = refl
   brought_fits c b (w ∷ []) [] h = absurd h
   brought_fits c b (w ∷ []) (t ∷ ts) h = assigned_fits w c b (value_held w t h.0)

@@ -22,7 +22,8 @@ use Rattle.ds2_code.specs.declared.parts.Slot.{Slot}
 use Rattle.ds2_code.specs.CodeUnit.{assigned_to_slot, row_slot_settings, columns_for, with_rows_added, opening_items, further_tables, opening_hashes, opening_data}
 use Rattle.ds2_code.specs.Desk.{SlotSettings}
 use Rattle.ds2_code.specs.OperandTypes.{slot_type}
-use Rattle.ds2_code.specs.ValidCode.{constant_allowed, reference_allowed, method_allowed, reading_allowed, is_table_name, values_allowed, chosen_columns_fit, joins_to_slot, hash_table_fits, layout_fits, IsValidProgram, IsValidChain}
+use Rattle.ds2_token.specs.Words.{is_table_name}
+use Rattle.ds2_code.specs.ValidCode.{constant_allowed, reference_allowed, method_allowed, reading_allowed, values_allowed, chosen_columns_fit, joins_to_slot, hash_table_fits, layout_fits, IsValidProgram, IsValidChain}
 use Rattle.ds2_fitting.specs.Fitting.{is_of_type, AreOfTypes, slot_types, IsOfSlot, AreOfSlots, AreSettingsOfSlots, AreItemsOfSlots, HasRoomFor, AreHashesOfSlots, AreParametersOfStage, IsDataOfCode}
 use Rattle.ds2_fitting.specs.CodeOpening.{IsTableForHash, AreTablesForHashes, stage_parameter_count, CodeOpeningFits, RowsSetWhatFits}
 use Rattle.ds2_fitting.proofs.FittingLists.{both, some_is, of_type, settings_of_types, zipped_settings}

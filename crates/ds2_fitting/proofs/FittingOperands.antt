@@ -1,5 +1,6 @@
 -- Operands that are taken off beside their types, and what stands in their place.
 use Rattle.std.proofs.Common.{◌≡◌, ℕ, zero, suc, Bool, true, false, ◌&&◌, List, [], ◌∷◌, ◌++◌, map, reverse, length, replicate, Option, Some, None, refl, sym, ap, ◌∙◌, subst, fold, IsTrue, if◌then◌else◌, nat_le, append_assoc}
+use Rattle.ds2_value.specs.Types.{same_ty}
 use Rattle.std.proofs.lemmas.List.{append-nil, reverse-append, reverse-reverse, length-reverse, length-replicate}
 use Rattle.ds2_value.specs.Row.{Row}
 use Rattle.ds2_value.specs.declared.ty.Ty.{Ty}
@@ -8,7 +9,7 @@ use Rattle.ds2_value.specs.declared.value.Value.TheVariants.{Null}
 use Rattle.ds2_code.specs.declared.parts.ParameterPart.{ParameterPart}
 use Rattle.ds2_code.specs.CodeRun.{with_in_outs}
 use Rattle.ds2_code.specs.Desk.{Taken, take_off}
-use Rattle.ds2_code.specs.OperandTypes.{OperandTypes, OperandClass, OneType, TakenTypes, is_of_class, same_ty, take_classes, with_type, one_for, none_for, when_none, none_below, always, is_number_type, chosen_types, chosen_numbers, types_of_parameters, with_in_out_types}
+use Rattle.ds2_code.specs.OperandTypes.{OperandTypes, OperandClass, OneType, TakenTypes, is_of_class, take_classes, with_type, one_for, none_for, when_none, none_below, always, is_number_type, chosen_types, chosen_numbers, types_of_parameters, with_in_out_types}
 use Rattle.ds2_fitting.specs.Fitting.{is_of_type, AreOfTypes}
 use Rattle.ds2_fitting.proofs.FittingLists.{if_some, when_true, some_is, type_bounds, of_type, of_same_type}
 use Rattle.ds2_fitting.proofs.FittingNumbers.{AllOfType, KeepsType, fold_of_type}

@@ -3,7 +3,7 @@ use Rattle.std.proofs.Common.{◌≡◌, ℕ, zero, suc, ◌+◌, List, [], ◌�
 use Rattle.std.specs.Prelude.{◌⊎◌, fold, slice_get}
 use Rattle.ds2_decimal.specs.Arithmetic as decimal
 use Rattle.ds2_value.specs.Functions.{is_null_of, length_of, trim_of, substr_of, first_of, lesser_of, greater_of}
-use Rattle.ds2_value.specs.Operations.{of_decimals, of_decimal}
+use Rattle.ds2_value.specs.Operations.{of_decimals, of_decimal, of_one, of_one_or_fault, of_two}
 use Rattle.ds2_value.specs.Row.{Row}
 use Rattle.ds2_value.specs.Value.{absolute_of, remainder_of}
 use Rattle.ds2_value.specs.declared.fault.Fault.{Fault}
@@ -13,13 +13,13 @@ use Rattle.ds2_meaning.specs.declared.expressions.Function.{Function}
 use Rattle.ds2_meaning.specs.declared.expressions.Function.TheVariants as function
 use Rattle.ds2_meaning.specs.Evaluation.{with_one_more, then_others, then_all}
 use Rattle.ds2_meaning.specs.RunState.{RunState, ExpressionEnd, Gives, Breaks, ExpressionsEnd, GiveAll, BreakAt, attempt}
-use Rattle.ds2_meaning.specs.ValueOperations.{applied, of_two, of_one, of_one_or_fault}
+use Rattle.ds2_meaning.specs.ValueOperations.{applied}
 use Rattle.ds2_code.specs.declared.instr.Instr.{Instr}
 use Rattle.ds2_code.specs.declared.instr.Instr.TheVariants as instr
 use Rattle.ds2_code.specs.declared.parts.ProgramParts.{ProgramParts}
 use Rattle.ds2_code.specs.CodeRun.{CallFrame, MachineState, Broken, on_desk, on_result, perform}
 use Rattle.ds2_code.specs.Desk.{Taken, take_off, with_value_for, with_result_for}
-use Rattle.ds2_code.specs.InstructionTable.{Pure, Partial, of_operand, from_operand, from_operands, kind_of}
+use Rattle.ds2_code.specs.InstructionTable.{Pure, Partial, kind_of}
 use Rattle.ds2_gen.specs.CallPieces.{stacked}
 use Rattle.ds2_gen.specs.CodeCells.{Cells, desk_of, Placement, HoldState}
 use Rattle.ds2_gen.specs.CodePieces.{StandsAt, EndsWith, ComesTo, EvaluatesTo}
@@ -39,17 +39,17 @@ taken_all vs below n e =
     let named : List Value → Option Taken = λ values. Some (record { values = values; below = below }) in
     taken_some vs [] below zero n (omega arith) ∙ ap named (append-nil vs)
 
-one_is : (f : Value → Value) (vs : List Value) → of_operand f vs ≡ of_one f vs
+one_is : (f : Value → Value) (vs : List Value) → of_one f vs ≡ of_one f vs
 one_is f [] = refl
 one_is f (a ∷ []) = refl
 one_is f (a ∷ b ∷ vs) = refl
 
-one_or_fault_is : (f : Value → Result Value Fault) (vs : List Value) → from_operand f vs ≡ of_one_or_fault f vs
+one_or_fault_is : (f : Value → Result Value Fault) (vs : List Value) → of_one_or_fault f vs ≡ of_one_or_fault f vs
 one_or_fault_is f [] = refl
 one_or_fault_is f (a ∷ []) = refl
 one_or_fault_is f (a ∷ b ∷ vs) = refl
 
-two_is : (f : Value → Value → Result Value Fault) (vs : List Value) → from_operands f vs ≡ of_two f vs
+two_is : (f : Value → Value → Result Value Fault) (vs : List Value) → of_two f vs ≡ of_two f vs
 two_is f [] = refl
 two_is f (a ∷ []) = refl
 two_is f (a ∷ b ∷ []) = refl
@@ -95,10 +95,10 @@ module _ (code : ProgramParts) (p : Placement) (kept : ℕ) where
         attempt_evaluates code p kept i (f vs) at to (stacked vs below) below cells frames w here e
         (ap (λ k. perform code k m) is ∙ ap (λ t. on_result (with_result_for f t (desk_of (stacked vs below) cells)) m) (taken_all vs below n count)) holds
 
-    of_one_runs : (i : Instr) (f : Value → Value) → kind_of i ≡ Pure 1 (of_operand f) → (at to : ℕ) (vs : List Value) (below : Row) (cells : Cells) (w : RunState) → length vs ≡ 1
+    of_one_runs : (i : Instr) (f : Value → Value) → kind_of i ≡ Pure 1 (of_one f) → (at to : ℕ) (vs : List Value) (below : Row) (cells : Cells) (w : RunState) → length vs ≡ 1
         → at + 1 ≡ to → slice_get code.instrs at ≡ Some i → HoldState p w cells → ComesTo code p kept (from frames at (stacked vs below) cells w) to (of_one f vs ∷ below) w
     of_one_runs i f is at to vs below cells w count e here holds =
-        subst (λ v. ComesTo code p kept (from frames at (stacked vs below) cells w) to (v ∷ below) w) (one_is f vs) (pure_many i 1 (of_operand f) is at to vs below cells w count e here holds)
+        subst (λ v. ComesTo code p kept (from frames at (stacked vs below) cells w) to (v ∷ below) w) (one_is f vs) (pure_many i 1 (of_one f) is at to vs below cells w count e here holds)
 
     unchanged_runs : (at to : ℕ) (vs : List Value) (below : Row) (cells : Cells) (w : RunState) → length vs ≡ 1 → at ≡ to → HoldState p w cells
         → ComesTo code p kept (from frames at (stacked vs below) cells w) to (of_one (λ v. v) vs ∷ below) w
@@ -119,14 +119,14 @@ module _ (code : ProgramParts) (p : Placement) (kept : ℕ) where
     function_runs function.Greatest n at to vs below cells w count takes e has holds = pure_many (instr.Greatest n) n (fold greater_of Null) refl at to vs below cells w count e has.0 holds
     function_runs function.IntegerAbsolute n at to vs below cells w count takes e has holds =
         subst (λ r. EvaluatesTo code p kept (from frames at (stacked vs below) cells w) to below (attempt r w)) (one_or_fault_is absolute_of vs)
-        (partial_many instr.IAbs 1 (from_operand absolute_of) refl at to vs below cells w (count ∙ takes) e has.0 holds)
+        (partial_many instr.IAbs 1 (of_one_or_fault absolute_of) refl at to vs below cells w (count ∙ takes) e has.0 holds)
     function_runs function.DecimalAbsolute n at to vs below cells w count takes e has holds = of_one_runs instr.DAbs (of_decimal decimal.abs) refl at to vs below cells w (count ∙ takes) e has.0 holds
     function_runs function.IntegerModulo n at to vs below cells w count takes e has holds =
         subst (λ r. EvaluatesTo code p kept (from frames at (stacked vs below) cells w) to below (attempt r w)) (two_is remainder_of vs)
-        (partial_many instr.IMod 2 (from_operands remainder_of) refl at to vs below cells w (count ∙ takes) e has.0 holds)
+        (partial_many instr.IMod 2 (of_two remainder_of) refl at to vs below cells w (count ∙ takes) e has.0 holds)
     function_runs function.DecimalModulo n at to vs below cells w count takes e has holds =
         subst (λ r. EvaluatesTo code p kept (from frames at (stacked vs below) cells w) to below (attempt r w)) (two_is (of_decimals decimal.modulo) vs)
-        (partial_many instr.DMod 2 (from_operands (of_decimals decimal.modulo)) refl at to vs below cells w (count ∙ takes) e has.0 holds)
+        (partial_many instr.DMod 2 (of_two (of_decimals decimal.modulo)) refl at to vs below cells w (count ∙ takes) e has.0 holds)
     function_runs function.Floor n at to vs below cells w count takes e has holds = of_one_runs instr.DFloor (of_decimal decimal.floor) refl at to vs below cells w (count ∙ takes) e has.0 holds
     function_runs function.Ceiling n at to vs below cells w count takes e has holds = of_one_runs instr.DCeil (of_decimal decimal.ceil) refl at to vs below cells w (count ∙ takes) e has.0 holds
     function_runs function.Unchanged n at to vs below cells w count takes e has holds = unchanged_runs at to vs below cells w (count ∙ takes) (omega arith) holds

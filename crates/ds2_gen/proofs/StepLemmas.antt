@@ -3,7 +3,7 @@ use Rattle.std.proofs.Common.{◌≡◌, ℕ, ◌+◌, Bool, true, false, List, 
 use Rattle.std.specs.Prelude.{slice_get}
 use Rattle.ds2_decimal.specs.Arithmetic as decimal
 use Rattle.ds2_value.specs.Functions.{concat_of}
-use Rattle.ds2_value.specs.Operations.{of_decimals, of_decimal, truth_value, widened, or_null_at_fault}
+use Rattle.ds2_value.specs.Operations.{of_decimals, of_decimal, truth_value, widened, or_null_at_fault, of_one, of_one_or_fault, of_two}
 use Rattle.ds2_value.specs.Row.{Row}
 use Rattle.ds2_value.specs.Types.{assign_of}
 use Rattle.ds2_value.specs.Value.{sum_of, difference_of, product_of, negative_of, compared_of, truth_of, and_of, or_of, not_of, or_null}
@@ -29,7 +29,7 @@ use Rattle.ds2_code.specs.declared.instr.Instr.{Instr}
 use Rattle.ds2_code.specs.declared.instr.Instr.TheVariants as instr
 use Rattle.ds2_code.specs.declared.parts.ProgramParts.{ProgramParts}
 use Rattle.ds2_code.specs.CodeRun.{CallFrame, MachineState, GoesOn, perform}
-use Rattle.ds2_code.specs.InstructionTable.{Pure, Partial, of_operand, of_operands, from_operand, from_operands, kind_of}
+use Rattle.ds2_code.specs.InstructionTable.{Pure, Partial, of_operands, kind_of}
 use Rattle.ds2_gen.specs.CodeCells.{nameable_of, content_of, CodeCell, SlotCell, LocalCell, HashCell, IteratorCell, ParameterCell, Cells, desk_of, CellHas, IsValueCell, Placement, HoldState}
 use Rattle.ds2_gen.specs.CodePieces.{StandsAt, machine_at, ComesTo, EvaluatesTo}
 use Rattle.ds2_gen.specs.CoveredForms.{HasConstant}
@@ -80,7 +80,7 @@ from frames at stack cells w = machine_at at (desk_of stack cells) frames w.prog
 module _ (code : ProgramParts) (p : Placement) (kept : ℕ) (frames : List CallFrame) where
   -- ---- one instruction
 
-  pub pure_one : (i : Instr) (f : Value → Value) → kind_of i ≡ Pure 1 (of_operand f) → (at to : ℕ) (v : Value) (stack : Row) (cells : Cells) (w : RunState)
+  pub pure_one : (i : Instr) (f : Value → Value) → kind_of i ≡ Pure 1 (of_one f) → (at to : ℕ) (v : Value) (stack : Row) (cells : Cells) (w : RunState)
       → at + 1 ≡ to → slice_get code.instrs at ≡ Some i → HoldState p w cells → ComesTo code p kept (from frames at (v ∷ stack) cells w) to (f v ∷ stack) w
   pure_one i f is at to v stack cells w e here holds =
       comes_by code p kept i at to (v ∷ stack) (f v ∷ stack) cells frames w w here e (ap (λ k. perform code k (from frames at (v ∷ stack) cells w)) is) holds (at_most w.progress.left)
@@ -90,12 +90,12 @@ module _ (code : ProgramParts) (p : Placement) (kept : ℕ) (frames : List CallF
   pure_two i f is at to x y stack cells w e here holds =
       comes_by code p kept i at to (y ∷ x ∷ stack) (f x y ∷ stack) cells frames w w here e (ap (λ k. perform code k (from frames at (y ∷ x ∷ stack) cells w)) is) holds (at_most w.progress.left)
 
-  partial_one : (i : Instr) (f : Value → Result Value Fault) → kind_of i ≡ Partial 1 (from_operand f) → (at to : ℕ) (v : Value) (stack : Row) (cells : Cells) (w : RunState)
+  partial_one : (i : Instr) (f : Value → Result Value Fault) → kind_of i ≡ Partial 1 (of_one_or_fault f) → (at to : ℕ) (v : Value) (stack : Row) (cells : Cells) (w : RunState)
       → at + 1 ≡ to → slice_get code.instrs at ≡ Some i → HoldState p w cells → EvaluatesTo code p kept (from frames at (v ∷ stack) cells w) to stack (attempt (f v) w)
   partial_one i f is at to v stack cells w e here holds =
       attempt_evaluates code p kept i (f v) at to (v ∷ stack) stack cells frames w here e (ap (λ k. perform code k (from frames at (v ∷ stack) cells w)) is) holds
 
-  partial_two : (i : Instr) (f : Value → Value → Result Value Fault) → kind_of i ≡ Partial 2 (from_operands f) → (at to : ℕ) (x y : Value) (stack : Row) (cells : Cells) (w : RunState)
+  partial_two : (i : Instr) (f : Value → Value → Result Value Fault) → kind_of i ≡ Partial 2 (of_two f) → (at to : ℕ) (x y : Value) (stack : Row) (cells : Cells) (w : RunState)
       → at + 1 ≡ to → slice_get code.instrs at ≡ Some i → HoldState p w cells → EvaluatesTo code p kept (from frames at (y ∷ x ∷ stack) cells w) to stack (attempt (f x y) w)
   partial_two i f is at to x y stack cells w e here holds =
       attempt_evaluates code p kept i (f x y) at to (y ∷ x ∷ stack) stack cells frames w here e (ap (λ k. perform code k (from frames at (y ∷ x ∷ stack) cells w)) is) holds

@@ -1,5 +1,6 @@
 -- The words that a grammar is written in: parsers on lists of tokens.
 use Rattle.std.specs.Prelude.{ℕ, zero, suc, Bool, true, false, if◌then◌else◌, List, [], ◌∷◌, Option, Some, None}
+use Rattle.std.specs.Option.{option_and_then}
 use Rattle.ds2_token.specs.declared.token.Token.{Token}
 
 -- what is read and what is left; or what is left where nothing goes on, or where the levels end; Spent where the turns end
@@ -63,8 +64,7 @@ token_value None = unexpected
 
 -- what the next token stands for, where one is left
 abbrev pub on : {A : Type 0} → (Token → Option A) → Option Token → Option A
-on f None = None
-on f (Some t) = f t
+on f t = option_and_then f t
 
 -- one token that stands for a value, read as the value
 abbrev pub one : {A : Type 0} → (Token → Option A) → Parser A

@@ -4,7 +4,7 @@ use Rattle.std.specs.List.{join_with_byte}
 use Rattle.std.specs.Prelude.{bytes_eq, slice_get, if◌then◌else◌, pos}
 use Rattle.ds2_base.specs.declared.place.Place.{Place}
 use Rattle.ds2_value.specs.HashList.{Shift, shifted, hash_answer, iterator_answer}
-use Rattle.ds2_value.specs.Operations.{is_true, widened, of_decimals, line_text}
+use Rattle.ds2_value.specs.Operations.{is_true, widened, of_decimals, line_text, of_one_or_fault, of_two}
 use Rattle.ds2_value.specs.Progress.{with_step}
 use Rattle.ds2_value.specs.Row.{Row}
 use Rattle.ds2_value.specs.Run.{Tested}
@@ -43,7 +43,7 @@ use Rattle.ds2_meaning.specs.Method.{MethodTree, Declarations}
 use Rattle.ds2_meaning.specs.RunState.{RunState, ExpressionEnd, Gives, Breaks, then_operand, attempt, ExpressionsEnd, GiveAll, BreakAt, StatementOutcome, Proceeds, Leaves, Continues, Returns, Faults, then_value, then_statement, then_round, step_fails, step_finding, begin_step, after_test, noting, with_progress, variable_value, store, keep_at, put_line}
 use Rattle.ds2_meaning.specs.TypedExpression.{TypedExpression, Constant, Variable, Widen, Convert, Prefixed, Chain, Compared, Applied, Called, HashCalled, IteratorCalled, Links, NoLink, Link, TypedExpressions, NoExpression, Then, TypedArguments, NoArgument, ByValue, InOut}
 use Rattle.ds2_meaning.specs.TypedStatement.{TypedStatement, Empty, Assign, Invoke, Evaluate, SetParameters, ParameterValue, Construct, Leave, Continue, Return, ReturnValue, Output, Put, If, IfElse, Select, SelectValue, Block, Count, While, Until, TypedStatements, Finish, Next, TypedWhens, NoOtherwise, Otherwise, When, Item, Text, Shown, Labelled}
-use Rattle.ds2_meaning.specs.ValueOperations.{operated, prefixed, converted, applied, of_two, of_one_or_fault}
+use Rattle.ds2_meaning.specs.ValueOperations.{operated, prefixed, converted, applied}
 
 -- what several expressions leave, and what a call leaves
 abbrev pub left_by_all : ExpressionsEnd → ℕ

@@ -2,7 +2,7 @@
 use Rattle.std.specs.Prelude.{List, [], ◌∷◌, fold, Result, Ok}
 use Rattle.ds2_decimal.specs.Arithmetic as decimal
 use Rattle.ds2_value.specs.Functions.{is_null_of, length_of, trim_of, concat_of, substr_of, first_of, lesser_of, greater_of}
-use Rattle.ds2_value.specs.Operations.{of_decimals, of_decimal, truth_value, or_null_at_fault}
+use Rattle.ds2_value.specs.Operations.{of_decimals, of_decimal, truth_value, or_null_at_fault, of_one, of_one_or_fault, of_two}
 use Rattle.ds2_value.specs.Types.{assign_of}
 use Rattle.ds2_value.specs.Value.{sum_of, difference_of, product_of, negative_of, absolute_of, remainder_of, truth_of, and_of, or_of, not_of}
 use Rattle.ds2_value.specs.declared.fault.Fault.{Fault}
@@ -44,21 +44,6 @@ converted BigInt a w = Gives a w
 converted (DecimalOf p s) a w = attempt (assign_of a (DecimalOf p s)) w
 converted (Char n) a w = Gives (or_null_at_fault (assign_of a (Char n))) w
 converted (Varchar n) a w = Gives (or_null_at_fault (assign_of a (Varchar n))) w
-
--- a function of two values that may fault; other numbers of arguments are never met, and give null
-abbrev pub of_two : (Value → Value → Result Value Fault) → List Value → Result Value Fault
-of_two f (a ∷ b ∷ []) = f a b
-of_two f _ = Ok Null
-
--- a function of one value; other numbers of arguments are never met, and give null
-abbrev pub of_one : (Value → Value) → List Value → Value
-of_one f (a ∷ []) = f a
-of_one f _ = Null
-
--- a function of one value that may fault
-abbrev pub of_one_or_fault : (Value → Result Value Fault) → List Value → Result Value Fault
-of_one_or_fault f (a ∷ []) = f a
-of_one_or_fault f _ = Ok Null
 
 -- a function of its arguments
 abbrev pub applied : Function → List Value → RunState → ExpressionEnd

@@ -29,22 +29,22 @@ use Rattle.ds2_scope.specs.Earliest.{earlier_of, earliest}
 use Rattle.ds2_scope.specs.NameSets.{HasNames}
 use Rattle.ds2_name_uses.specs.ScopeTables.{AreTablesOf, tests_by}
 use Rattle.ds2_name_uses.specs.UseParts.{UsePlaces, earliest_use, next_flag, further_flags}
-use Rattle.ds2_name_uses.specs.UseRules.{IsPlainProgram, NameTests, flags_of_method, tests_of, flags_by, is_there, is_global_there, may_be_set, unknown_by, not_variable_by, counts_by, unknown_method_by, wrong_count_by, broken_by, broken_in_use, no_name_in, no_name_if}
+use Rattle.ds2_name_uses.specs.UseRules.{IsPlainProgram, NameTests, flags_of_method, tests_of, flags_by_methods, flags_by, is_there, is_global_there, may_be_set, unknown_by, not_variable_by, counts_by, unknown_method_by, wrong_count_by, broken_by, broken_in_use, no_name_in, no_name_if}
 use Rattle.ds2_scope.proofs.EarliestLemmas.{earlier_of_assoc, earliest_append}
 use Rattle.ds2_scope.proofs.MisplacedLemmas.{no_instance}
 use Rattle.ds2_name_uses.proofs.UseLemmas.{call_is, chain_is}
 
 -- ---- arguments for in_out parameters
 
-pub call_begins : (e : code_expression.Expression) (f : Callee) (p : Place) (xs : List code_argument.Argument) (q : Place)
-    → e ≡ expression.Call f p xs q → first_place (expression_tree e) ≡ callee_place f
+pub call_begins : (e : code_expression.Expression) (f : Box Callee Global) (p : Place) (xs : List code_argument.Argument) (q : Place)
+    → e ≡ expression.Call f p xs q → first_place (expression_tree e) ≡ callee_place f.value
 call_begins e f p xs q h = ap first_place (call_is e f p xs q h)
 
 pub chain_begins : (e : code_expression.Expression) (kind : ChainKind) (a : Box code_expression.Expression Global) (os : List code_operand.Operand)
     → e ≡ expression.Chain kind a os → first_place (expression_tree e) ≡ first_place (expression_tree a.value)
 chain_begins e kind a os h = ap first_place (chain_is e kind a os h)
 
-pub call_is_no_name : (e : code_expression.Expression) (f : Callee) (p : Place) (xs : List code_argument.Argument) (q : Place)
+pub call_is_no_name : (e : code_expression.Expression) (f : Box Callee Global) (p : Place) (xs : List code_argument.Argument) (q : Place)
     → e ≡ expression.Call f p xs q → no_name_in (expression_tree e) ≡ first_place (expression_tree e) ∷ []
 call_is_no_name e f p xs q h = ap no_name_in (call_is e f p xs q h) ∙ sym (ap (λ t. first_place t ∷ []) (call_is e f p xs q h))
 
@@ -144,6 +144,13 @@ module _ (names : SourceNames) (plain : IsPlainProgram names) where
       (λ i. named_global name i || (not (columns_are_known names) && not (named_global name i)))
       ∙ known_test false (is_named (vector_names names) name) (is_named names.flags name) (not (columns_are_known names))
 
+  -- which parameters are in_out is what the methods of the unit tell
+  pub flags_known : (f : Callee) → in_out_parameters names f ≡ flags_by_methods (λ name. flags_of_method (method_named names.methods name)) f
+  flags_known (callee.Function n) = flags_of_first (method_named names.methods (spelled_name n))
+  flags_known (callee.Null keyword) = refl
+  flags_known (callee.Method object dot method) =
+      ap (λ is. in_out_of (method_named (option_map_or (λ (i : SourceInstance). methods_of_sort names.known i.sort) (instance_named is (spelled_name object)) []) (spelled_name method))) plain.instances
+
   -- hashed tables tell which globals are there
   pub global_by_tables : (s : Scope) → AreTablesOf s.unit names → (name : List ℕ) → may_be_global names name ≡ is_global_there (tests_by s) name
   global_by_tables s t name = global_is name ∙ sym (λ i. t.variables name i || (t.flags name i || t.is_open i))
@@ -172,10 +179,7 @@ module _ (names : SourceNames) (m : Method) (plain : IsPlainProgram names) where
       by false = refl
 
   flags_are : (f : Callee) → in_out_parameters names f ≡ flags_by (tests_of names m) f
-  flags_are (callee.Function n) = flags_of_first (method_named names.methods (spelled_name n))
-  flags_are (callee.Null keyword) = refl
-  flags_are (callee.Method object dot method) =
-      ap (λ is. in_out_of (method_named (option_map_or (λ (i : SourceInstance). methods_of_sort names.known i.sort) (instance_named is (spelled_name object)) []) (spelled_name method))) plain.instances
+  flags_are f = flags_known names plain f
 
   unknown_is : (u : NameUse) → unknown_in_use names m u ≡ unknown_by (tests_of names m) u
   unknown_is (Values n) = ap (λ t. place_unless t n.place) (scope_is (spelled_name n))

@@ -114,19 +114,19 @@ chain_is e kind a os h =
     let row = operands_in (expression.Chain kind a os) in
     ap expression_tree h ∙ ap (λ k. Chain kind (expression_tree a.value) k) (operands_items row.0 row.1 ∙ ap operands_of (items_hidden-the_row-Operand-1 os))
 
-pub call_is : (e : code_expression.Expression) (callee : Callee) (p : Place) (xs : List code_argument.Argument) (q : Place)
-    → e ≡ expression.Call callee p xs q → expression_tree e ≡ Call callee p (arguments_of xs) q
+pub call_is : (e : code_expression.Expression) (callee : Box Callee Global) (p : Place) (xs : List code_argument.Argument) (q : Place)
+    → e ≡ expression.Call callee p xs q → expression_tree e ≡ Call callee.value p (arguments_of xs) q
 call_is e callee p xs q h =
     let row = arguments_in (expression.Call callee p xs q) in
-    ap expression_tree h ∙ ap (λ k. Call callee p k q) (arguments_items row.0 row.1 ∙ ap arguments_of (items_hidden-the_row-Argument-0 xs))
+    ap expression_tree h ∙ ap (λ k. Call callee.value p k q) (arguments_items row.0 row.1 ∙ ap arguments_of (items_hidden-the_row-Argument-0 xs))
 
 -- neither a call nor a chain is a name
 
-pub no_name_in_call : (in_out : Bool) (e : code_expression.Expression) (callee : Callee) (p : Place) (xs : List code_argument.Argument) (q : Place)
+pub no_name_in_call : (in_out : Bool) (e : code_expression.Expression) (callee : Box Callee Global) (p : Place) (xs : List code_argument.Argument) (q : Place)
     → e ≡ expression.Call callee p xs q → handed_name in_out (expression_tree e) ≡ None
 no_name_in_call in_out e callee p xs q h = ap (handed_name in_out) (call_is e callee p xs q h) ∙ by in_out
   where
-    by : (t : Bool) → handed_name t (Call callee p (arguments_of xs) q) ≡ None
+    by : (t : Bool) → handed_name t (Call callee.value p (arguments_of xs) q) ≡ None
     by true = refl
     by false = refl
 
@@ -139,8 +139,8 @@ no_name_in_chain in_out e kind a os h = ap (handed_name in_out) (chain_is e kind
     by false = refl
 
 module _ (places : UsePlaces) (flags : InOutFlags) where
-  pub uses_of_call : (e : code_expression.Expression) (callee : Callee) (p : Place) (xs : List code_argument.Argument) (q : Place) → e ≡ expression.Call callee p xs q
-      → earliest_use places (uses flags (expression_tree e)) ≡ earliest_use places (CallsOn callee (arguments_of xs) ∷ argument_uses flags (flags callee) (arguments_of xs))
+  pub uses_of_call : (e : code_expression.Expression) (callee : Box Callee Global) (p : Place) (xs : List code_argument.Argument) (q : Place) → e ≡ expression.Call callee p xs q
+      → earliest_use places (uses flags (expression_tree e)) ≡ earliest_use places (CallsOn callee.value (arguments_of xs) ∷ argument_uses flags (flags callee.value) (arguments_of xs))
   uses_of_call e callee p xs q h = ap (λ t. earliest_use places (uses flags t)) (call_is e callee p xs q h)
 
   pub uses_of_chain : (e : code_expression.Expression) (kind : ChainKind) (a : Box code_expression.Expression Global) (os : List code_operand.Operand) → e ≡ expression.Chain kind a os

@@ -52,11 +52,15 @@ tests_of names m = record {
   is_open = not (columns_are_known names);
 }
 
--- for each parameter of what is called whether it is in_out
+-- for each parameter of what is called whether it is in_out, by the methods of a unit
+abbrev pub flags_by_methods : (List ℕ → Option (List Bool)) → InOutFlags
+flags_by_methods methods (callee.Function n) = unwrap_or (methods (spelled_name n)) []
+flags_by_methods methods (callee.Null keyword) = []
+flags_by_methods methods (callee.Method object dot method) = []
+
+-- likewise, by tests on names
 abbrev pub flags_by : NameTests → InOutFlags
-flags_by t (callee.Function n) = unwrap_or (t.method (spelled_name n)) []
-flags_by t (callee.Null keyword) = []
-flags_by t (callee.Method object dot method) = []
+flags_by t = flags_by_methods t.method
 
 -- a global is there
 abbrev pub is_global_there : NameTests → List ℕ → Bool

@@ -16,4 +16,7 @@ mod usage;
 mod use_walk;
 mod used_names;
 
+pub use scope::MethodFlags;
+pub use unit_tables::{flags_of, method_flags, parameters_of};
+pub use use_walk::{further_flags, handed_name, next_flag};
 pub use used_names::{BrokenUses, broken_uses};

@@ -14,7 +14,7 @@ pub(crate) enum UsageRule {
 }
 
 /// For each name of a method its parameters: whether each is in_out.
-pub(crate) type MethodFlags = HashMap<Bytes, List<bool>>;
+pub type MethodFlags = HashMap<Bytes, List<bool>>;
 
 /// Hashed tables of what a data program gives names to.
 #[derive(Drop)]

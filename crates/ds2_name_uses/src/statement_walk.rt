@@ -2,7 +2,7 @@
 ghost use Rattle.std.specs.Prelude.{◌≡◌, ◌∷◌, ◌++◌, [], IfOk, map};
 ghost use Rattle.std.specs.Option.{option_map};
 ghost use Rattle.ds2_tree.specs.ExpressionViews.{expression_tree, arguments_of};
-ghost use Rattle.ds2_tree.specs.StatementViews.{selector_tree, step_tree, control_tree, statement_tree, statements_of, whens_of, otherwise_tree};
+ghost use Rattle.ds2_tree.specs.StatementViews.{selector_tree, step_tree, counted_tree, control_tree, statement_tree, statements_of, whens_of, otherwise_tree};
 ghost use Rattle.ds2_names.specs.NameRules.{from_each};
 ghost use Rattle.ds2_names.specs.Uses.{Sets, WritesTo, uses, argument_uses, item_uses, uses_if_any, step_uses, control_uses, selector_uses, statement_uses, statements_uses, when_uses, otherwise_uses};
 ghost use Rattle.ds2_scope.specs.Earliest.{earliest};
@@ -13,7 +13,8 @@ use ds2_base::{OutOfMemory, Place};
 use ds2_scope::earlier_of;
 use ds2_token::Token;
 use ds2_tree::{
-    DoControl, ElseIf, Expression, Otherwise, PutItem, Selector, Statement, Step, When,
+    CountedControl, DoControl, ElseIf, Expression, Otherwise, PutItem, Selector, Statement, Step,
+    When,
 };
 use std::alloc::Global;
 
@@ -119,8 +120,22 @@ fn in_setting<R: UseRule>(
     Ok(earlier_of(found, further))
 }
 
-// The earliest one between `do` and its `;`.
+// The earliest one in a count.
 #[tactic(auto, using(crate::proofs::UseLemmas::uses_of_count))]
+fn in_count<R: UseRule>(
+    alloc: Global,
+    rule: &R,
+    count: &CountedControl,
+) -> Result<Option<Place>, OutOfMemory>
+    ensures { IfOk result (λ place. place ≡ earliest_use (R.places rule.now) (control_uses (R.flags rule.now) (counted_tree count.now))) }
+{
+    let found = in_setting(alloc, rule, &count.variable, &count.start)?;
+    let end = in_expression(alloc, rule, &count.stop)?;
+    let by = in_step(alloc, rule, &count.step)?;
+    Ok(earlier_of(found, earlier_of(end, by)))
+}
+
+// The earliest one between `do` and its `;`.
 fn in_control<R: UseRule>(
     alloc: Global,
     rule: &R,
@@ -130,19 +145,8 @@ fn in_control<R: UseRule>(
 {
     match control {
         DoControl::Block => Ok(None),
-        DoControl::Counted {
-            variable,
-            start,
-            stop,
-            step,
-            ..
-        } => {
-            let found = in_setting(alloc, rule, variable, start)?;
-            let end = in_expression(alloc, rule, stop)?;
-            let by = in_step(alloc, rule, step)?;
-            Ok(earlier_of(found, earlier_of(end, by)))
-        }
-        DoControl::Tested { condition, .. } => in_expression(alloc, rule, condition),
+        DoControl::Counted(count) => in_count(alloc, rule, count),
+        DoControl::Tested(test) => in_expression(alloc, rule, &test.condition),
     }
 }
 

@@ -1,5 +1,5 @@
 //! Hashed tables of what a data program gives names to.
-ghost use Rattle.std.specs.Prelude.{◌≡◌, ℕ, List as Items, IfOk, OnOk, nat_eq, map};
+ghost use Rattle.std.specs.Prelude.{◌≡◌, ℕ, List as Items, IfOk, OnOk, nat_eq, map, option_copied};
 ghost use Rattle.std.specs.Cmp.Lexicographic.{pointwise};
 ghost use Rattle.std.specs.HashMap.{get};
 ghost use Rattle.std.specs.Option.{option_or};
@@ -9,12 +9,12 @@ ghost use Rattle.ds2_names.specs.Uses.{method_named, in_out_of};
 ghost use Rattle.ds2_scope.specs.Collected.{methods_in};
 ghost use Rattle.ds2_scope.specs.ProgramNames.{NamesAre};
 ghost use Rattle.ds2_name_uses.specs.ScopeTables.{HasMethods, AreTablesOf, flags_if_named};
-ghost use Rattle.ds2_name_uses.specs.UseRules.{flags_of_method, are_in_out};
+ghost use Rattle.ds2_name_uses.specs.UseRules.{flags_of_method, are_in_out, flags_by_methods};
 
 use crate::scope::{MethodFlags, UnitTables};
-use ds2_base::{List, OutOfMemory};
+use ds2_base::{Bytes, List, OutOfMemory};
 use ds2_scope::{ProgramNames, name_set, spelled_name};
-use ds2_tree::{DataProgram, GlobalItem, Method, Parameter};
+use ds2_tree::{Callee, DataProgram, GlobalItem, Method, Parameter};
 use std::alloc::Global;
 use std::collections::HashMap;
 
@@ -56,8 +56,8 @@ fn note_global(
     }
 }
 
-// The table of the methods of a unit.
-fn method_flags(alloc: Global, globals: &[GlobalItem]) -> Result<MethodFlags, OutOfMemory>
+/// For each method of a unit, by its name, whether each of its parameters is in_out; the first method of a name counts.
+pub fn method_flags(alloc: Global, globals: &[GlobalItem]) -> Result<MethodFlags, OutOfMemory>
     ensures { IfOk result (λ table. HasMethods table (source_methods (map global_tree globals.now))) }
 {
     let mut methods: MethodFlags = HashMap::new(alloc);
@@ -65,6 +65,37 @@ fn method_flags(alloc: Global, globals: &[GlobalItem]) -> Result<MethodFlags, Ou
         note_global(alloc, &mut methods, global)?;
     }
     Ok(methods)
+}
+
+/// For each parameter of the method of a name whether it is in_out, where there is one.
+pub fn parameters_of<'m>(methods: &'m MethodFlags, name: &Bytes) -> Option<&'m [bool]>
+    ensures { option_copied result ≡ get (pointwise nat_eq) methods.now name.now }
+{
+    match methods.get(name) {
+        None => None,
+        Some(flags) => Some(flags.as_slice()),
+    }
+}
+
+/// For each parameter of what is called whether it is in_out; none where it is no method of the unit.
+pub fn flags_of<'m>(
+    alloc: Global,
+    methods: &'m MethodFlags,
+    callee: &Callee,
+) -> Result<&'m [bool], OutOfMemory>
+    ensures { IfOk result (λ flags. flags.now ≡ flags_by_methods (get (pointwise nat_eq) methods.now) callee.now) }
+{
+    match callee {
+        Callee::Function(name) => {
+            let name = spelled_name(alloc, name)?;
+            match parameters_of(methods, &name) {
+                None => Ok(&[]),
+                Some(flags) => Ok(flags),
+            }
+        }
+        Callee::Null(_) => Ok(&[]),
+        Callee::Method { .. } => Ok(&[]),
+    }
 }
 
 /// The tables of a program's names.

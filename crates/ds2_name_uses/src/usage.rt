@@ -13,6 +13,7 @@ ghost use Rattle.ds2_name_uses.specs.UseRules.{flags_by, is_global_there, is_the
 use crate::arguments::no_names;
 use crate::functions::{counts_of, takes_count};
 use crate::scope::{Scope, UsageRule};
+use crate::unit_tables::{flags_of, parameters_of};
 use crate::use_walk::UseRule;
 use ds2_base::{Bytes, OutOfMemory, Place};
 use ds2_scope::{is_system_name, place_unless, spelled_name};
@@ -66,27 +67,14 @@ impl Scope {
     fn parameters_of(&self, name: &Bytes) -> Option<&[bool]>
         ensures { option_copied result ≡ (tests_by self.now).method name.now }
     {
-        match self.unit.methods.get(name) {
-            None => None,
-            Some(flags) => Some(flags.as_slice()),
-        }
+        parameters_of(&self.unit.methods, name)
     }
 
     // For each parameter of what is called whether it is in_out.
     fn flags_of(&self, alloc: Global, callee: &Callee) -> Result<&[bool], OutOfMemory>
         ensures { IfOk result (λ flags. flags.now ≡ flags_by (tests_by self.now) callee.now) }
     {
-        match callee {
-            Callee::Function(name) => {
-                let name = spelled_name(alloc, name)?;
-                match self.parameters_of(&name) {
-                    None => Ok(&[]),
-                    Some(flags) => Ok(flags),
-                }
-            }
-            Callee::Null(_) => Ok(&[]),
-            Callee::Method { .. } => Ok(&[]),
-        }
+        flags_of(alloc, &self.unit.methods, callee)
     }
 
     // The place of a name that is not there.

@@ -58,7 +58,7 @@ pub(crate) trait UseRule {
 }
 
 /// Whether the next argument is for an in_out parameter.
-pub(crate) fn next_flag(flags: &[bool]) -> bool
+pub fn next_flag(flags: &[bool]) -> bool
     ensures { result ≡ next_flag flags.now }
 {
     match flags {
@@ -68,7 +68,7 @@ pub(crate) fn next_flag(flags: &[bool]) -> bool
 }
 
 /// What is told of the arguments behind the next one.
-pub(crate) fn further_flags(flags: &[bool]) -> &[bool]
+pub fn further_flags(flags: &[bool]) -> &[bool]
     ensures { result.now ≡ further_flags flags.now }
 {
     match flags {
@@ -146,9 +146,9 @@ fn in_operands<R: UseRule>(
     Ok(found)
 }
 
-// The name in an argument for an in_out parameter, where it is one.
+/// The name in an argument for an in_out parameter, where it is one.
 #[tactic(auto, using(crate::proofs::UseLemmas::no_name_in_call, crate::proofs::UseLemmas::no_name_in_chain))]
-fn handed_name(in_out: bool, e: &Expression) -> Option<&Token>
+pub fn handed_name(in_out: bool, e: &Expression) -> Option<&Token>
     ensures { option_copied result ≡ handed_name in_out (expression_tree e.now) }
 {
     match e {

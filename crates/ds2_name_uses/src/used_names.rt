@@ -13,7 +13,7 @@ use crate::scope::{Scope, UnitTables, UsageRule};
 use crate::unit_tables::tables_of_program;
 use ds2_base::{OutOfMemory, Place};
 use ds2_names::{NamedSchema, PlacedName};
-use ds2_scope::{ProgramNames, earlier_of, names_of_program, reading_of_run, tables_of};
+use ds2_scope::{ProgramNames, earlier_of, reading_of_run, tables_of};
 use ds2_tree::DataProgram;
 use std::alloc::Global;
 use std::collections::HashSet;
@@ -61,14 +61,16 @@ fn scope_over(alloc: Global, unit: UnitTables) -> Scope
     }
 }
 
-// The earliest places at which a program with these names breaks the rules.
-fn broken_by(
+/// The earliest places at which a data program that declares no instances breaks the rules on uses of names, over the columns of
+/// these tables and behind any units. The names are those that `names_of_program` gives over the same tables.
+pub fn broken_uses(
     alloc: Global,
     tables: &[NamedSchema],
     names: &ProgramNames,
     program: &DataProgram,
 ) -> Result<BrokenUses, OutOfMemory>
-    ensures { IfOk result (λ b. (known : Items KnownUnit) → source_instances (map global_tree program.now.globals) ≡ [] → NamesAre names.now (names_of_unit (columns_stored tables.now) known (unit_of_data (data_tree program.now))) → BreaksFirst (columns_stored tables.now) (names_of_unit (columns_stored tables.now) known (unit_of_data (data_tree program.now))) b) }
+    requires { source_instances (map global_tree program.now.globals) ≡ [] }
+    ensures { IfOk result (λ b. (known : Items KnownUnit) → NamesAre names.now (names_of_unit (columns_stored tables.now) known (unit_of_data (data_tree program.now))) → BreaksFirst (columns_stored tables.now) (names_of_unit (columns_stored tables.now) known (unit_of_data (data_tree program.now))) b) }
 {
     let globals = program.globals.as_slice();
     let unit = tables_of_program(alloc, names, program)?;
@@ -84,18 +86,4 @@ fn broken_by(
         wrong_count,
         not_variable,
     })
-}
-
-/// The earliest places at which a data program that declares no instances breaks the rules on uses of names, over the columns of
-/// these tables and behind any units.
-pub fn broken_uses(
-    alloc: Global,
-    tables: &[NamedSchema],
-    program: &DataProgram,
-) -> Result<BrokenUses, OutOfMemory>
-    requires { source_instances (map global_tree program.now.globals) ≡ [] }
-    ensures { IfOk result (λ b. (known : Items KnownUnit) → BreaksFirst (columns_stored tables.now) (names_of_unit (columns_stored tables.now) known (unit_of_data (data_tree program.now))) b) }
-{
-    let names = names_of_program(alloc, tables, program)?;
-    broken_by(alloc, tables, &names, program)
 }

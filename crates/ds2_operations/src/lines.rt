@@ -2,9 +2,8 @@
 ghost use Rattle.std.specs.Prelude.{◌≡◌, ◌++◌, ◌∷◌, IfOk, OnOk, Ok, map, string_bytes};
 ghost use Rattle.std.specs.List.{join_with_byte};
 ghost use Rattle.ds2_base.specs.Says.{Says};
-ghost use Rattle.ds2_value.specs.Operations.{line_value};
+ghost use Rattle.ds2_value.specs.Operations.{line_value, of_one};
 ghost use Rattle.ds2_code.specs.CodeRun.{operand_text};
-ghost use Rattle.ds2_code.specs.InstructionTable.{of_operand};
 
 use ds2_base::{OutOfMemory, Stop, Text};
 use ds2_value::{Fault, TEXT_CHARACTERS, Ty, Value, assign_owned, trim, write_dec};
@@ -24,7 +23,7 @@ fn operand_text(alloc: Global, v: &Value) -> Result<Text, OutOfMemory>
 
 /// The text of one operand in a line, as a value: a text without the blanks at its end, cut to 1,024 characters; `null` for null.
 pub(crate) fn shown(alloc: Global, operands: &[Value]) -> Result<Value, Stop<Fault>>
-    ensures { Says result (Ok (of_operand line_value operands.now)) }
+    ensures { Says result (Ok (of_one line_value operands.now)) }
 {
     match operands {
         [Value::Txt(_)] => {

@@ -1,7 +1,7 @@
 //! The parts of statements that hold no statement.
 use crate::expressions::say_expression;
 use crate::tokens::{Said, say_member, say_token};
-use ds2_tree::{DoControl, Expression, PutItem, Selector, Step};
+use ds2_tree::{CountedControl, DoControl, Expression, PutItem, Selector, Step, TestedControl};
 
 /// Says an expression behind a blank, where there is one.
 pub fn say_value(said: &mut String, value: &Option<Expression>) -> Said {
@@ -35,39 +35,31 @@ fn say_step(said: &mut String, step: &Option<Step>) -> Said {
     }
 }
 
+fn say_count(said: &mut String, count: &CountedControl) -> Said {
+    said.push(' ')?;
+    say_token(said, &count.variable)?;
+    said.push_str(" = ")?;
+    say_expression(said, &count.start)?;
+    said.push_str(" to ")?;
+    say_expression(said, &count.stop)?;
+    say_step(said, &count.step)?;
+    said.push(':')
+}
+
+fn say_test(said: &mut String, test: &TestedControl) -> Said {
+    said.push(' ')?;
+    say_token(said, &test.keyword)?;
+    said.push(' ')?;
+    say_expression(said, &test.condition)?;
+    said.push(':')
+}
+
 /// Says what stands between `do` and its `;`, behind a blank.
 pub fn say_control(said: &mut String, control: &DoControl) -> Said {
     match control {
         DoControl::Block => Ok(()),
-        DoControl::Counted {
-            variable,
-            equals: _,
-            start,
-            to_keyword: _,
-            stop,
-            step,
-        } => {
-            said.push(' ')?;
-            say_token(said, variable)?;
-            said.push_str(" = ")?;
-            say_expression(said, start)?;
-            said.push_str(" to ")?;
-            say_expression(said, stop)?;
-            say_step(said, step)?;
-            said.push(':')
-        }
-        DoControl::Tested {
-            keyword,
-            opening: _,
-            condition,
-            closing: _,
-        } => {
-            said.push(' ')?;
-            say_token(said, keyword)?;
-            said.push(' ')?;
-            say_expression(said, condition)?;
-            said.push(':')
-        }
+        DoControl::Counted(count) => say_count(said, count),
+        DoControl::Tested(test) => say_test(said, test),
     }
 }
 

@@ -253,6 +253,16 @@ pub fn operator_at(tokens: &[Token], kind: ChainKind) -> Taken<'_>
     }
 }
 
+/// Whether an operator of a chain of this kind stands at the front.
+pub fn at_operator(tokens: &[Token], kind: ChainKind) -> bool
+    ensures { result ≡ when (tests.is_operator kind) (first tokens.now) }
+{
+    match tokens {
+        [token, ..] => is_operator(token, kind),
+        [] => false,
+    }
+}
+
 /// The place of a mark at the front.
 #[tactic(auto, using(crate::proofs::FrontSteps::mark_read))]
 pub fn mark_at<'t>(tokens: &'t [Token], mark: &str) -> Option<(Place, &'t [Token])>

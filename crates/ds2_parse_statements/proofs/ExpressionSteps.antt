@@ -1,5 +1,5 @@
 -- Steps of the code of expressions against their rules.
-use Rattle.std.proofs.Common.{◌≡◌, ℕ, zero, suc, ◌||◌, Bool, true, false, codes, List, Option, Some, None, refl, sym, ap, ◌∙◌, subst}
+use Rattle.std.proofs.Common.{◌≡◌, ℕ, zero, suc, ◌<◌, ◌||◌, Bool, true, false, codes, List, [], length, Option, Some, None, refl, sym, ap, ◌∙◌, subst}
 use Rattle.ds2_base.specs.declared.place.Place.{Place}
 use Rattle.ds2_base.specs.declared.place.Refusal.{Refusal}
 use Rattle.ds2_base.specs.declared.stop.Stop.{Stop}
@@ -15,7 +15,7 @@ use Rattle.ds2_tree.specs.Expressions.{Expression, Call, Parenthesis, Sign, Not,
 use Rattle.ds2_parse_rules.specs.GrammarTokens.{mark_rule, enclosed, is_open_mark, is_comma_mark, Fronted}
 use Rattle.ds2_parse_rules.specs.ExpressionGrammar.{ArgumentList, listed_further, listed_arguments, chain_of, comparison_of, null_of, member_of, named_of, Tail, primary_of, unary_of, negation_of, begins_expression, is_open_or_dot, member_tail, name_tail, primary, operators, comparison_rule, unary_with, comparison_with, negation_with, expression, argument_list}
 use Rattle.ds2_parse_statements.specs.ExpressionParts.{unary_rule, negation_rule, operand_rule, signed_rule, negated_rule, parenthesis_rule}
-use Rattle.ds2_parse_rules.proofs.RuleSteps.{Holds, held, taken, on_read, on_stop, on_last, on_last_stop, on_some, on_none, on_yes, on_no, plainly, plain_outcome, closed_deep}
+use Rattle.ds2_parse_rules.proofs.RuleSteps.{Holds, held, taken, on_read, on_stop, on_last, on_last_stop, on_some, on_none, on_yes, on_no, plainly, plain_outcome, closed_deep, loop_ends}
 use Rattle.ds2_parse_rules.proofs.FrontSteps.{kept_read, fronted_when, open_is, tail_is, mark_was}
 
 -- ---- the rules, one in the other
@@ -52,6 +52,11 @@ module _ (m : ℕ) (kind : ChainKind) (p : Parser Expression) (ts : List Token) 
 
   pub chain_read : (a : Expression) (r : List Token) (l : List (Token × Expression)) (z : List Token) → p ts ≡ Read a r → links r ≡ Read l z → operators m kind p ts ≡ Read (chain_of kind a l) z
   chain_read a r l z is h = held (λ o. o ≡ Read (chain_of kind a l) z) chained (seq p links) ts (on_read p links is (on_last h refl))
+
+  -- no operator stands behind the operand
+  pub chain_alone : (a : Expression) (r : List Token) → p ts ≡ Read a r → length r < m → when (is_operator kind) (first r) ≡ false → operators m kind p ts ≡ Read a r
+  chain_alone a r is lt none =
+      chain_read a r [] r is (loop_ends (is_operator kind) (seq (kept (is_operator kind)) p) (links r) (λ l. l) r m (sym (plain_outcome (links r))) lt none)
 
 -- a token that is kept, and what is behind it
 module _ {A : Type 0} (is : Token → Bool) (p : Parser A) (ts : List Token) (t : Token) (r : List Token) (there : Fronted is ts t r) where

@@ -59,7 +59,7 @@ behind_variable e = seq (mark_rule (codes "=")) (seq e (seq (word_rule (codes "t
 
 -- what stands in parentheses behind `select`
 abbrev pub selector_parts : code_selector.Selector → Place × (Expression × Place)
-selector_parts s = (s.opening, (view_expression.expression_tree s.value, s.closing))
+selector_parts s = (s.opening, (view_expression.expression_tree s.value.value, s.closing))
 
 -- the step of a count
 abbrev pub step_parts : code_step.Step → Token × Expression

@@ -14,7 +14,7 @@ use crate::expressions::expression;
 use ds2_base::Place;
 use ds2_parse_rules::front::{Parsed, at_mark, at_word, mark, name_at, tested_at, word};
 use ds2_token::Token;
-use ds2_tree::{DoControl, Selector, Step};
+use ds2_tree::{CountedControl, DoControl, Selector, Step, TestedControl};
 use std::alloc::Global;
 
 /// `[ "(" expr ")" ]` behind `select`
@@ -30,11 +30,12 @@ pub fn selector(
     if at_mark(tokens, "(") {
         let (opening, rest) = mark(tokens, end, "(")?;
         let (value, rest) = expression(alloc, rest, end, levels)?;
+        let boxed = Box::new(alloc, value)?;
         let (closing, rest) = mark(rest, end, ")")?;
         return Ok((
             Some(Selector {
                 opening,
-                value,
+                value: boxed,
                 closing,
             }),
             rest,
@@ -73,17 +74,16 @@ fn counted(
     let (to_keyword, rest) = word(alloc, rest, end, "to")?;
     let (stop, rest) = expression(alloc, rest, end, levels)?;
     let (step, rest) = step(alloc, rest, end, levels)?;
-    Ok((
-        DoControl::Counted {
-            variable,
-            equals,
-            start,
-            to_keyword,
-            stop,
-            step,
-        },
-        rest,
-    ))
+    let count = CountedControl {
+        variable,
+        equals,
+        start,
+        to_keyword,
+        stop,
+        step,
+    };
+    let boxed = Box::new(alloc, count)?;
+    Ok((DoControl::Counted(boxed), rest))
 }
 
 // `["by" expr]`
@@ -113,13 +113,12 @@ fn tested(
     let (opening, rest) = mark(tokens, end, "(")?;
     let (condition, rest) = expression(alloc, rest, end, levels)?;
     let (closing, rest) = mark(rest, end, ")")?;
-    Ok((
-        DoControl::Tested {
-            keyword,
-            opening,
-            condition,
-            closing,
-        },
-        rest,
-    ))
+    let test = TestedControl {
+        keyword,
+        opening,
+        condition,
+        closing,
+    };
+    let boxed = Box::new(alloc, test)?;
+    Ok((DoControl::Tested(boxed), rest))
 }

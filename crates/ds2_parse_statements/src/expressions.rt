@@ -14,8 +14,8 @@ ghost use Rattle.ds2_parse_statements.specs.ExpressionParts.{compared_rule, unar
 use crate::trees::{self, CallArguments};
 use ds2_base::{List, Place};
 use ds2_parse_rules::front::{
-    Parsed, any_word, at_mark, begins_expression, comparison_at, constant_at, deeper, mark,
-    mark_at, name_at, not_at, null_at, operator_at, sign_at,
+    Parsed, any_word, at_mark, at_operator, begins_expression, comparison_at, constant_at, deeper,
+    mark, mark_at, name_at, not_at, null_at, operator_at, sign_at,
 };
 use ds2_token::Token;
 use ds2_tree::{Argument, Callee, ChainKind, Expression, Operand};
@@ -48,6 +48,9 @@ fn chain(
     ensures shorter { IfOk result (λ r. length r.1.now < length tokens.now) }
 {
     let (first, rest) = operand(alloc, tokens, end, levels, kind)?;
+    if !at_operator(rest, kind) {
+        return Ok((first, rest));
+    }
     let (further, rest) = operands(alloc, rest, end, levels, kind)?;
     Ok((trees::chain(alloc, kind, first, further)?, rest))
 }
@@ -69,7 +72,7 @@ fn operands(
     while let Some((operator, after)) = operator_at(rest, kind) {
         let operator = operator.copy(alloc)?;
         let (value, after) = operand(alloc, after, end, levels, kind)?;
-        found.push(Operand { operator, value })?;
+        found.push_sparing(Operand { operator, value })?;
         rest = after;
     }
     Ok((found, rest))
@@ -174,11 +177,12 @@ fn primary(alloc: Global, tokens: &[Token], end: Place, levels: u64) -> Parsed<'
     if let Some((keyword, rest)) = null_at(tokens) {
         let keyword = keyword.copy(alloc)?;
         let (arguments, rest) = optional_arguments(alloc, rest, end, levels)?;
-        return Ok((trees::null(keyword, arguments), rest));
-    }
-    match name_at(tokens) {
-        Some((name, rest)) => named(alloc, name.copy(alloc)?, rest, end, levels),
-        None => parenthesis(alloc, tokens, end, levels),
+        Ok((trees::null(alloc, keyword, arguments)?, rest))
+    } else {
+        match name_at(tokens) {
+            Some((name, rest)) => named(alloc, name.copy(alloc)?, rest, end, levels),
+            None => parenthesis(alloc, tokens, end, levels),
+        }
     }
 }
 
@@ -196,15 +200,16 @@ fn named(
 {
     if at_mark(tokens, "(") {
         let (arguments, rest) = argument_list(alloc, tokens, end, levels)?;
-        return Ok((trees::call(Callee::Function(name), arguments), rest));
-    }
-    match mark_at(tokens, ".") {
-        Some((dot, rest)) => {
-            let (word, rest) = any_word(alloc, rest, end)?;
-            let (arguments, rest) = optional_arguments(alloc, rest, end, levels)?;
-            Ok((trees::member(name, dot, word, arguments), rest))
+        Ok((trees::call(alloc, Callee::Function(name), arguments)?, rest))
+    } else {
+        match mark_at(tokens, ".") {
+            Some((dot, rest)) => {
+                let (word, rest) = any_word(alloc, rest, end)?;
+                let (arguments, rest) = optional_arguments(alloc, rest, end, levels)?;
+                Ok((trees::member(alloc, name, dot, word, arguments)?, rest))
+            }
+            None => Ok((Expression::Variable(name), tokens)),
         }
-        None => Ok((Expression::Variable(name), tokens)),
     }
 }
 
@@ -276,7 +281,7 @@ pub fn values(
 {
     let (value, rest) = chain(alloc, tokens, end, levels, ChainKind::Or)?;
     let mut found: List<Argument> = List::new(alloc);
-    found.push(Argument { comma: None, value })?;
+    found.push_sparing(Argument { comma: None, value })?;
     further_values(alloc, found, rest, end, levels)
 }
 

@@ -195,7 +195,7 @@ fn else_parts(alloc: Global, tokens: &[Token], end: Place, levels: u64) -> Parse
             ));
         }
         let (next, after) = arm(alloc, after, end, levels)?;
-        others.push(trees::else_if(else_keyword, next))?;
+        others.push_sparing(trees::else_if(else_keyword, next))?;
         rest = after;
     }
     Ok((ElseParts { others, last: None }, rest))

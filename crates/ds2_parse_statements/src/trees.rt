@@ -47,43 +47,53 @@ pub fn chain(
 }
 
 /// A call.
-pub fn call(callee: Callee, arguments: CallArguments) -> Expression
-    ensures { expression_tree result ≡ tree.Call callee arguments.opening (arguments_of arguments.arguments) arguments.closing }
+pub fn call(
+    alloc: Global,
+    callee: Callee,
+    arguments: CallArguments,
+) -> Result<Expression, OutOfMemory>
+    ensures { IfOk result (λ e. expression_tree e ≡ tree.Call callee arguments.opening (arguments_of arguments.arguments) arguments.closing) }
 {
     let CallArguments {
         opening,
         arguments,
         closing,
     } = arguments;
-    Expression::Call {
-        callee,
+    Ok(Expression::Call {
+        callee: Box::new(alloc, callee)?,
         opening,
         arguments,
         closing,
-    }
+    })
 }
 
 /// The constant `null`, or a call of the function.
-pub fn null(keyword: Token, arguments: Option<CallArguments>) -> Expression
-    ensures { expression_tree result ≡ grammar.null_of keyword (option_map argument_parts arguments) }
+pub fn null(
+    alloc: Global,
+    keyword: Token,
+    arguments: Option<CallArguments>,
+) -> Result<Expression, OutOfMemory>
+    ensures { IfOk result (λ e. expression_tree e ≡ grammar.null_of keyword (option_map argument_parts arguments)) }
 {
     match arguments {
-        Some(arguments) => call(Callee::Null(keyword), arguments),
-        None => Expression::Null(keyword),
+        Some(arguments) => call(alloc, Callee::Null(keyword), arguments),
+        None => Ok(Expression::Null(keyword)),
     }
 }
 
 /// A member, or a call of the method.
 pub fn member(
+    alloc: Global,
     object: Token,
     dot: Place,
     member: Token,
     arguments: Option<CallArguments>,
-) -> Expression
-    ensures { expression_tree result ≡ grammar.member_of object dot member (option_map argument_parts arguments) }
+) -> Result<Expression, OutOfMemory>
+    ensures { IfOk result (λ e. expression_tree e ≡ grammar.member_of object dot member (option_map argument_parts arguments)) }
 {
     match arguments {
         Some(arguments) => call(
+            alloc,
             Callee::Method {
                 object,
                 dot,
@@ -91,11 +101,11 @@ pub fn member(
             },
             arguments,
         ),
-        None => Expression::Member {
+        None => Ok(Expression::Member {
             object,
             dot,
-            member,
-        },
+            member: Box::new(alloc, member)?,
+        }),
     }
 }
 

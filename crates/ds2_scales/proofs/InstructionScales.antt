@@ -7,7 +7,7 @@ use Rattle.ds2_decimal.specs.Arithmetic as decimal
 use Rattle.ds2_decimal.specs.Decimal.{Decimal}
 use Rattle.ds2_decimal.specs.declared.dec.DecFault.{DecFault}
 use Rattle.ds2_value.specs.Functions.{length_of, trim_of, concat_of, substr_of, is_null_of, first_of, lesser_of, greater_of}
-use Rattle.ds2_value.specs.Operations.{of_decimals, of_decimal, widened}
+use Rattle.ds2_value.specs.Operations.{of_decimals, of_decimal, widened, of_one, of_two}
 use Rattle.ds2_value.specs.Row.{Row}
 use Rattle.ds2_value.specs.Types.{in_bounds, fits}
 use Rattle.ds2_value.specs.Value.{is_null, or_null}
@@ -25,7 +25,7 @@ use Rattle.ds2_code.specs.declared.parts.ParameterPart.{ParameterPart}
 use Rattle.ds2_code.specs.declared.parts.ProgramParts.{ProgramParts}
 use Rattle.ds2_code.specs.CodeRun.{method_result}
 use Rattle.ds2_code.specs.Desk.{Desk, Taken, take_off, constant_value, loaded_value, with_stored}
-use Rattle.ds2_code.specs.InstructionTable.{Kind, Pure, Partial, Loads, Stores, Drops, CallsHash, CallsIterator, Writes, Puts, Ticks, Jumps, Tests, Enters, GoesBack, Raises, Finishes, kind_of, of_operand, from_operands}
+use Rattle.ds2_code.specs.InstructionTable.{Kind, Pure, Partial, Loads, Stores, Drops, CallsHash, CallsIterator, Writes, Puts, Ticks, Jumps, Tests, Enters, GoesBack, Raises, Finishes, kind_of}
 use Rattle.ds2_code.specs.OperandTypes.{OperandTypes, Signature, CodeRole, OfUnit, OfMethod, OperandClass, OneType, AnyDecimal, AnyText, AnyType, TakenTypes, take_classes, with_type, one_for, none_for, always, as_operand, by_scales, part_of_first, both_texts, when_there, stored_type, types_of_parameters, types_of_locals, with_in_out_types, with_result_type, after_call_types, call_types, without_result, with_only_result, return_types, result_types, slot_type, types_behind}
 use Rattle.ds2_code.specs.ValidCode.{constant_allowed, is_char_type}
 use Rattle.ds2_scales.specs.Scales.{is_scaled, AreScaled, types_of_slots}
@@ -146,7 +146,7 @@ module _ (code : ProgramParts) (constants : list_all constant_allowed code.const
   -- one on two decimals
   of_two_decimals : (f : Decimal → Decimal → Result Decimal DecFault) (scale : ℕ → ℕ → ℕ) → ((a b d : Decimal) → f a b ≡ Ok d → d.scale ≡ scale a.scale b.scale) → (types after : OperandTypes)
       → one_for (by_scales scale) (take_classes (AnyDecimal ∷ AnyDecimal ∷ []) [] types) ≡ Some after
-      → (stack : Row) (t : Taken) (v : Value) → AreScaled stack types → take_off 2 [] stack ≡ Some t → from_operands (of_decimals f) t.values ≡ Ok v → AreScaled (v ∷ t.below) after
+      → (stack : Row) (t : Taken) (v : Value) → AreScaled stack types → take_off 2 [] stack ≡ Some t → of_two (of_decimals f) t.values ≡ Ok v → AreScaled (v ∷ t.below) after
   of_two_decimals f scale made types after h stack t v s g e =
       put_scaled v (by_scales scale) t (λ ts u k r. of_decimals_scaled f scale made t.values v ts u e k r) (AnyDecimal ∷ AnyDecimal ∷ []) types after stack h s g
 
@@ -157,9 +157,9 @@ module _ (code : ProgramParts) (constants : list_all constant_allowed code.const
       put_scaled (f t.values) (always u) t (λ ts w k r. subst (λ z. IsTrue (is_scaled (f t.values) z)) (some_is u w r) (made t.values)) cs types after stack h s g
 
   same_sign : (f : Decimal → Decimal) → ((d : Decimal) → (f d).scale ≡ d.scale) → (types after : OperandTypes) → one_for as_operand (take_classes (AnyDecimal ∷ []) [] types) ≡ Some after
-      → (stack : Row) (t : Taken) → AreScaled stack types → take_off 1 [] stack ≡ Some t → AreScaled (of_operand (of_decimal f) t.values ∷ t.below) after
+      → (stack : Row) (t : Taken) → AreScaled stack types → take_off 1 [] stack ≡ Some t → AreScaled (of_one (of_decimal f) t.values ∷ t.below) after
   same_sign f kept types after h stack t s g =
-      put_scaled (of_operand (of_decimal f) t.values) as_operand t (λ ts u k r. of_decimal_scaled f kept t.values ts u k r) (AnyDecimal ∷ []) types after stack h s g
+      put_scaled (of_one (of_decimal f) t.values) as_operand t (λ ts u k r. of_decimal_scaled f kept t.values ts u k r) (AnyDecimal ∷ []) types after stack h s g
 
   pub scales : (i : Instr) (types after : OperandTypes) → types_behind code parameters role i types ≡ Some after → ScalesFor code role (kind_of i) types after
   scales (instr.Const k) types after h = λ d s l g. typed_scaled (constant_value k code.constants) d.stack _ types after h (λ t e. constants_scaled code.constants k t constants e) s
@@ -176,7 +176,7 @@ module _ (code : ProgramParts) (constants : list_all constant_allowed code.const
   scales (instr.LStore n) types after h = λ v stack d s l g.
       let k = stored_type_scaled (slice_get (types_of_locals role) n) v stack types after h s in (k.1, set_scaled d.locals (types_of_locals role) n v l k.0, g)
   scales instr.DropTop types after h = λ v stack s. dropped_scaled (AnyType ∷ []) types after (v ∷ stack) (record { values = v ∷ []; below = stack }) h s refl
-  scales instr.IToD types after h = of_one_type (of_operand widened) (DecimalOf 19 0) widened_scaled (OneType BigInt ∷ []) types after h
+  scales instr.IToD types after h = of_one_type (of_one widened) (DecimalOf 19 0) widened_scaled (OneType BigInt ∷ []) types after h
   scales (instr.Rescale p s) types after h = λ stack t v k g e.
       put_scaled v (always (DecimalOf p s)) t (λ ts u q r. subst (λ z. IsTrue (is_scaled v z)) (some_is (DecimalOf p s) u r) (rescaled p s t.values v e)) (AnyDecimal ∷ []) types after stack (if_some (in_bounds (DecimalOf p s)) _ after h) k g
   scales (instr.Pad n) types after h = plain_value _ (padded_plain n) (always (Char n)) (AnyText ∷ []) types after (if_some (in_bounds (Char n)) _ after h)
@@ -194,8 +194,8 @@ module _ (code : ProgramParts) (constants : list_all constant_allowed code.const
   scales instr.DNeg types after h = same_sign decimal.neg (λ d. refl) types after h
   scales instr.DAbs types after h = same_sign decimal.abs (λ d. refl) types after h
   scales instr.DMod types after h = of_two_decimals decimal.modulo max remainder_scale types after h
-  scales instr.DFloor types after h = of_one_type (of_operand (of_decimal decimal.floor)) (DecimalOf 38 0) (whole_scaled decimal.floor (λ d. refl) 38) (AnyDecimal ∷ []) types after h
-  scales instr.DCeil types after h = of_one_type (of_operand (of_decimal decimal.ceil)) (DecimalOf 38 0) (whole_scaled decimal.ceil (λ d. refl) 38) (AnyDecimal ∷ []) types after h
+  scales instr.DFloor types after h = of_one_type (of_one (of_decimal decimal.floor)) (DecimalOf 38 0) (whole_scaled decimal.floor (λ d. refl) 38) (AnyDecimal ∷ []) types after h
+  scales instr.DCeil types after h = of_one_type (of_one (of_decimal decimal.ceil)) (DecimalOf 38 0) (whole_scaled decimal.ceil (λ d. refl) 38) (AnyDecimal ∷ []) types after h
   scales (instr.ICmp c) types after h = plain_value _ (compared_plain c) (always BigInt) (OneType BigInt ∷ OneType BigInt ∷ []) types after h
   scales (instr.DCmp c) types after h = plain_value _ (compared_plain c) (always BigInt) (AnyDecimal ∷ AnyDecimal ∷ []) types after h
   scales (instr.TCmp c) types after h = plain_value _ (compared_plain c) (always BigInt) (AnyText ∷ AnyText ∷ []) types after h

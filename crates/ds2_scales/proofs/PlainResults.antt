@@ -7,7 +7,7 @@ use Rattle.ds2_base.specs.Bytes.{Bytes}
 use Rattle.ds2_base.specs.Characters.{char_count}
 use Rattle.ds2_value.specs.Functions.{is_null_of, length_of, trim_of, joined_texts, concat_of, part_of, substr_of}
 use Rattle.ds2_value.specs.Texts.{cut_to, after_characters}
-use Rattle.ds2_value.specs.Operations.{truth_value, or_null_at_fault, line_value}
+use Rattle.ds2_value.specs.Operations.{truth_value, or_null_at_fault, line_value, of_one, of_one_or_fault, of_two}
 use Rattle.ds2_value.specs.Row.{Row}
 use Rattle.ds2_value.specs.Types.{assign_of}
 use Rattle.ds2_value.specs.Value.{fits_bigint, bigint_of, sum_of, difference_of, product_of, negative_of, absolute_of, remainder_of, holds_for, compared_as, compare_of, compared_of, truth_of, and_of, or_of, not_of, is_null}
@@ -21,7 +21,7 @@ use Rattle.ds2_value.specs.declared.ty.Ty.{Ty}
 use Rattle.ds2_value.specs.declared.ty.Ty.TheVariants.{Char, Varchar}
 use Rattle.ds2_value.specs.declared.value.Value.{Value}
 use Rattle.ds2_value.specs.declared.value.Value.TheVariants.{Null, Int, Dec, Txt}
-use Rattle.ds2_code.specs.InstructionTable.{of_operand, of_operands, from_operand, from_operands}
+use Rattle.ds2_code.specs.InstructionTable.{of_operands}
 use Rattle.ds2_scales.specs.Scales.{is_scaled}
 
 -- no decimal
@@ -54,7 +54,7 @@ if_plain_value false x y h k = k
 bigint_plain : (z : ℤ) → IsTrue (is_plain_result (bigint_of z))
 bigint_plain z = if_plain (fits_bigint z) (Ok (Int z)) (Err Overflow) refl refl
 
-pub sum_plain : (vs : Row) → IsTrue (is_plain_result (from_operands sum_of vs))
+pub sum_plain : (vs : Row) → IsTrue (is_plain_result (of_two sum_of vs))
 unfolding sum_of
 sum_plain [] = refl
 sum_plain (a ∷ []) = refl
@@ -67,7 +67,7 @@ sum_plain (Int x ∷ Txt t ∷ []) = refl
 sum_plain (Int x ∷ Int y ∷ []) = bigint_plain (x +ℤ y)
 sum_plain (a ∷ b ∷ c ∷ vs) = refl
 
-pub difference_plain : (vs : Row) → IsTrue (is_plain_result (from_operands difference_of vs))
+pub difference_plain : (vs : Row) → IsTrue (is_plain_result (of_two difference_of vs))
 unfolding difference_of
 difference_plain [] = refl
 difference_plain (a ∷ []) = refl
@@ -80,7 +80,7 @@ difference_plain (Int x ∷ Txt t ∷ []) = refl
 difference_plain (Int x ∷ Int y ∷ []) = bigint_plain (x -ℤ y)
 difference_plain (a ∷ b ∷ c ∷ vs) = refl
 
-pub product_plain : (vs : Row) → IsTrue (is_plain_result (from_operands product_of vs))
+pub product_plain : (vs : Row) → IsTrue (is_plain_result (of_two product_of vs))
 unfolding product_of
 product_plain [] = refl
 product_plain (a ∷ []) = refl
@@ -93,7 +93,7 @@ product_plain (Int x ∷ Txt t ∷ []) = refl
 product_plain (Int x ∷ Int y ∷ []) = bigint_plain (x *ℤ y)
 product_plain (a ∷ b ∷ c ∷ vs) = refl
 
-pub remainder_plain : (vs : Row) → IsTrue (is_plain_result (from_operands remainder_of vs))
+pub remainder_plain : (vs : Row) → IsTrue (is_plain_result (of_two remainder_of vs))
 unfolding remainder_of
 remainder_plain [] = refl
 remainder_plain (a ∷ []) = refl
@@ -106,7 +106,7 @@ remainder_plain (Int x ∷ Txt t ∷ []) = refl
 remainder_plain (Int x ∷ Int y ∷ []) = if_plain (is_zero y) (Err DivideByZero) (Ok (Int (int_rem x y))) refl refl
 remainder_plain (a ∷ b ∷ c ∷ vs) = refl
 
-pub negative_plain : (vs : Row) → IsTrue (is_plain_result (from_operand negative_of vs))
+pub negative_plain : (vs : Row) → IsTrue (is_plain_result (of_one_or_fault negative_of vs))
 unfolding negative_of
 negative_plain [] = refl
 negative_plain (Null ∷ []) = refl
@@ -115,7 +115,7 @@ negative_plain (Txt t ∷ []) = refl
 negative_plain (Int x ∷ []) = bigint_plain (neg_ℤ x)
 negative_plain (a ∷ b ∷ vs) = refl
 
-pub absolute_plain : (vs : Row) → IsTrue (is_plain_result (from_operand absolute_of vs))
+pub absolute_plain : (vs : Row) → IsTrue (is_plain_result (of_one_or_fault absolute_of vs))
 unfolding absolute_of
 absolute_plain [] = refl
 absolute_plain (Null ∷ []) = refl
@@ -152,12 +152,12 @@ or_plain (a ∷ []) = refl
 or_plain (a ∷ b ∷ []) = truth_plain (or_of (truth_of a) (truth_of b))
 or_plain (a ∷ b ∷ c ∷ vs) = refl
 
-pub not_plain : (vs : Row) → IsTrue (is_plain (of_operand (λ a. truth_value (not_of (truth_of a))) vs))
+pub not_plain : (vs : Row) → IsTrue (is_plain (of_one (λ a. truth_value (not_of (truth_of a))) vs))
 not_plain [] = refl
 not_plain (a ∷ []) = truth_plain (not_of (truth_of a))
 not_plain (a ∷ b ∷ vs) = refl
 
-pub condition_plain : (vs : Row) → IsTrue (is_plain (of_operand (λ a. truth_value (truth_of a)) vs))
+pub condition_plain : (vs : Row) → IsTrue (is_plain (of_one (λ a. truth_value (truth_of a)) vs))
 condition_plain [] = refl
 condition_plain (a ∷ []) = truth_plain (truth_of a)
 condition_plain (a ∷ b ∷ vs) = refl
@@ -218,7 +218,7 @@ substr_plain (Txt t ∷ Int i ∷ Txt u ∷ vs) = refl
 substr_plain (Txt t ∷ Int i ∷ Int k ∷ []) = part_plain t i k
 substr_plain (Txt t ∷ Int i ∷ Int k ∷ v ∷ vs) = refl
 
-pub padded_plain : (n : ℕ) (vs : Row) → IsTrue (is_plain (of_operand (λ v. or_null_at_fault (assign_of v (Char n))) vs))
+pub padded_plain : (n : ℕ) (vs : Row) → IsTrue (is_plain (of_one (λ v. or_null_at_fault (assign_of v (Char n))) vs))
 padded_plain n [] = refl
 padded_plain n (Null ∷ []) = refl
 padded_plain n (Int i ∷ []) = refl
@@ -226,7 +226,7 @@ padded_plain n (Dec d ∷ []) = refl
 padded_plain n (Txt t ∷ []) = refl
 padded_plain n (a ∷ b ∷ vs) = refl
 
-pub cut_plain : (n : ℕ) (vs : Row) → IsTrue (is_plain (of_operand (λ v. or_null_at_fault (assign_of v (Varchar n))) vs))
+pub cut_plain : (n : ℕ) (vs : Row) → IsTrue (is_plain (of_one (λ v. or_null_at_fault (assign_of v (Varchar n))) vs))
 cut_plain n [] = refl
 cut_plain n (Null ∷ []) = refl
 cut_plain n (Int i ∷ []) = refl
@@ -234,7 +234,7 @@ cut_plain n (Dec d ∷ []) = refl
 cut_plain n (Txt t ∷ []) = refl
 cut_plain n (a ∷ b ∷ vs) = refl
 
-pub shown_plain : (vs : Row) → IsTrue (is_plain (of_operand line_value vs))
+pub shown_plain : (vs : Row) → IsTrue (is_plain (of_one line_value vs))
 shown_plain [] = refl
 shown_plain (a ∷ []) = refl
 shown_plain (a ∷ b ∷ vs) = refl

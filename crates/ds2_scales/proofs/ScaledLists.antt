@@ -2,7 +2,7 @@
 use Rattle.std.proofs.Common.{◌≡◌, ℕ, zero, suc, Bool, true, false, ◌&&◌, List, [], ◌∷◌, ◌++◌, length, replicate, Option, Some, None, refl, sym, ap, ◌∙◌, subst, IsTrue, if◌then◌else◌, slice_get, slice_set, ◌==◌}
 use Rattle.std.proofs.lemmas.Bool.{eqb-true}
 use Rattle.ds2_value.specs.Row.{Row}
-use Rattle.ds2_value.specs.Types.{fits}
+use Rattle.ds2_value.specs.Types.{fits, same_ty}
 use Rattle.ds2_value.specs.Value.{or_null}
 use Rattle.ds2_value.specs.declared.ty.Ty.{Ty}
 use Rattle.ds2_value.specs.declared.ty.Ty.TheVariants.{BigInt, Decimal as DecimalOf, Char, Varchar}
@@ -13,7 +13,7 @@ use Rattle.ds2_code.specs.declared.parts.SlotRole.{SlotRole}
 use Rattle.ds2_code.specs.declared.parts.SlotRole.TheVariants.{Cleared, Kept, Column, Flag}
 use Rattle.ds2_code.specs.CodeUnit.{null_where_cleared, without_cleared}
 use Rattle.ds2_code.specs.Desk.{SlotSettings, with_slot_settings}
-use Rattle.ds2_code.specs.OperandTypes.{same_ty, slot_type}
+use Rattle.ds2_code.specs.OperandTypes.{slot_type}
 use Rattle.ds2_scales.specs.Scales.{is_scaled, AreScaled, types_of_slots, AreSettingsScaled}
 
 pub both : (a b : Bool) → (a && b) ≡ true → (a ≡ true) × (b ≡ true)

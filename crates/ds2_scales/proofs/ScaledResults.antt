@@ -10,7 +10,7 @@ use Rattle.ds2_decimal.specs.declared.dec.TheConstants.{MOST_DIGITS}
 use Rattle.ds2_decimal.specs.declared.dec.DecFault.{DecFault}
 use Rattle.ds2_decimal.specs.declared.dec.DecFault.TheVariants.{Overflow, DivideByZero}
 use Rattle.ds2_value.specs.Functions.{first_of, lesser_of, greater_of}
-use Rattle.ds2_value.specs.Operations.{of_decimals, of_decimal, widened}
+use Rattle.ds2_value.specs.Operations.{of_decimals, of_decimal, widened, of_one, of_one_or_fault, of_two}
 use Rattle.ds2_value.specs.Order.{key_order}
 use Rattle.ds2_value.specs.Row.{Row}
 use Rattle.ds2_value.specs.Types.{assign_of, decimal_value, whole_decimal}
@@ -20,7 +20,6 @@ use Rattle.ds2_value.specs.declared.ty.Ty.{Ty}
 use Rattle.ds2_value.specs.declared.ty.Ty.TheVariants.{BigInt, Decimal as DecimalOf, Char, Varchar}
 use Rattle.ds2_value.specs.declared.value.Value.{Value}
 use Rattle.ds2_value.specs.declared.value.Value.TheVariants.{Null, Int, Dec, Txt}
-use Rattle.ds2_code.specs.InstructionTable.{of_operand, from_operand, from_operands}
 use Rattle.ds2_code.specs.OperandTypes.{decimal_of_scale, by_scales, as_operand}
 use Rattle.ds2_scales.specs.Scales.{is_type_of_scale, is_scaled, AreScaled, is_scale_of_product}
 use Rattle.ds2_scales.proofs.ScaledLists.{if_some, some_is}
@@ -86,8 +85,8 @@ two_scales a b (DecimalOf p s ∷ DecimalOf q t ∷ []) h =
 two_scales a b (t ∷ u ∷ w ∷ ts) h = absurd h.1.1
 
 module _ (f : Decimal → Decimal → Result Decimal DecFault) (scale : ℕ → ℕ → ℕ) (made : (a b d : Decimal) → f a b ≡ Ok d → d.scale ≡ scale a.scale b.scale) where
-  of_two : (a b : Decimal) (v : Value) (ts : List Ty) (u : Ty) → decimal_value (f a b) ≡ Ok v → AreScaled (Dec a ∷ Dec b ∷ []) ts → by_scales scale ts ≡ Some u → IsTrue (is_scaled v u)
-  of_two a b v ts u h k g =
+  two_scaled : (a b : Decimal) (v : Value) (ts : List Ty) (u : Ty) → decimal_value (f a b) ≡ Ok v → AreScaled (Dec a ∷ Dec b ∷ []) ts → by_scales scale ts ≡ Some u → IsTrue (is_scaled v u)
+  two_scaled a b v ts u h k g =
       let d = decimal_is (f a b) v h in
       let s = two_scales a b ts k in
       let n = scale a.scale b.scale in
@@ -95,7 +94,7 @@ module _ (f : Decimal → Decimal → Result Decimal DecFault) (scale : ℕ → 
       let is : DecimalOf 38 n ≡ u = some_is (DecimalOf 38 n) u (if_some (nat_le n 38) (Some (DecimalOf 38 n)) u at) in
       subst (λ z. IsTrue (is_scaled z u)) (sym d.2) (subst (λ z. IsTrue (is_type_of_scale d.0.scale z)) is (eq-eqb d.0.scale n (made a b d.0 d.1)))
 
-  pub of_decimals_scaled : (vs : Row) (v : Value) (ts : List Ty) (u : Ty) → from_operands (of_decimals f) vs ≡ Ok v → AreScaled vs ts → by_scales scale ts ≡ Some u → IsTrue (is_scaled v u)
+  pub of_decimals_scaled : (vs : Row) (v : Value) (ts : List Ty) (u : Ty) → of_two (of_decimals f) vs ≡ Ok v → AreScaled vs ts → by_scales scale ts ≡ Some u → IsTrue (is_scaled v u)
   of_decimals_scaled [] v ts u h k g = null_scaled v u h
   of_decimals_scaled (a ∷ []) v ts u h k g = null_scaled v u h
   of_decimals_scaled (Null ∷ b ∷ []) v ts u h k g = null_scaled v u h
@@ -104,12 +103,12 @@ module _ (f : Decimal → Decimal → Result Decimal DecFault) (scale : ℕ → 
   of_decimals_scaled (Dec a ∷ Null ∷ []) v ts u h k g = null_scaled v u h
   of_decimals_scaled (Dec a ∷ Int i ∷ []) v ts u h k g = null_scaled v u h
   of_decimals_scaled (Dec a ∷ Txt t ∷ []) v ts u h k g = null_scaled v u h
-  of_decimals_scaled (Dec a ∷ Dec b ∷ []) v ts u h k g = of_two a b v ts u h k g
+  of_decimals_scaled (Dec a ∷ Dec b ∷ []) v ts u h k g = two_scaled a b v ts u h k g
   of_decimals_scaled (a ∷ b ∷ c ∷ vs) v ts u h k g = null_scaled v u h
 
 -- an operation on one decimal that keeps its scale
 module _ (f : Decimal → Decimal) (kept : (d : Decimal) → (f d).scale ≡ d.scale) where
-  pub of_decimal_scaled : (vs : Row) (ts : List Ty) (u : Ty) → AreScaled vs ts → as_operand ts ≡ Some u → IsTrue (is_scaled (of_operand (of_decimal f) vs) u)
+  pub of_decimal_scaled : (vs : Row) (ts : List Ty) (u : Ty) → AreScaled vs ts → as_operand ts ≡ Some u → IsTrue (is_scaled (of_one (of_decimal f) vs) u)
   of_decimal_scaled [] ts u h g = refl
   of_decimal_scaled (Null ∷ []) ts u h g = refl
   of_decimal_scaled (Int i ∷ []) ts u h g = refl
@@ -123,7 +122,7 @@ module _ (f : Decimal → Decimal) (kept : (d : Decimal) → (f d).scale ≡ d.s
 
 -- one that gives whole numbers
 module _ (f : Decimal → Decimal) (whole : (d : Decimal) → (f d).scale ≡ 0) (p : ℕ) where
-  pub whole_scaled : (vs : Row) → IsTrue (is_scaled (of_operand (of_decimal f) vs) (DecimalOf p 0))
+  pub whole_scaled : (vs : Row) → IsTrue (is_scaled (of_one (of_decimal f) vs) (DecimalOf p 0))
   whole_scaled [] = refl
   whole_scaled (Null ∷ []) = refl
   whole_scaled (Int i ∷ []) = refl
@@ -131,7 +130,7 @@ module _ (f : Decimal → Decimal) (whole : (d : Decimal) → (f d).scale ≡ 0)
   whole_scaled (Dec d ∷ []) = eq-eqb (f d).scale 0 (whole d)
   whole_scaled (a ∷ b ∷ vs) = refl
 
-pub widened_scaled : (vs : Row) → IsTrue (is_scaled (of_operand widened vs) (DecimalOf 19 0))
+pub widened_scaled : (vs : Row) → IsTrue (is_scaled (of_one widened vs) (DecimalOf 19 0))
 widened_scaled [] = refl
 widened_scaled (Null ∷ []) = refl
 widened_scaled (Int i ∷ []) = refl
@@ -144,7 +143,7 @@ rescaled_by p s d v h =
     let e = decimal_is (decimal.rescale p s d) v h in
     subst (λ z. IsTrue (is_scaled z (DecimalOf p s))) (sym e.2) (eq-eqb e.0.scale s (within_scale p (if nat_le d.scale s then units_at s d else round d.units (10 ^ (d.scale - s))) s e.0 e.1))
 
-pub rescaled : (p s : ℕ) (vs : Row) (v : Value) → from_operand (λ w. assign_of w (DecimalOf p s)) vs ≡ Ok v → IsTrue (is_scaled v (DecimalOf p s))
+pub rescaled : (p s : ℕ) (vs : Row) (v : Value) → of_one_or_fault (λ w. assign_of w (DecimalOf p s)) vs ≡ Ok v → IsTrue (is_scaled v (DecimalOf p s))
 rescaled p s [] v h = null_scaled v (DecimalOf p s) h
 rescaled p s (Null ∷ []) v h = null_scaled v (DecimalOf p s) h
 rescaled p s (Txt t ∷ []) v h = null_scaled v (DecimalOf p s) h

@@ -140,5 +140,5 @@ module _ (may_output returns inside : Bool) where
 
       by : (c : code_control.DoControl) (t : Bool) → misplaced_within may_output returns t (Do k (control_tree c) p (statements_of ss) e end) ≡ body (t || is_loop c)
       by control.Block t = both t
-      by (control.Counted variable p start to_keyword stop step) t = loops t
-      by (control.Tested keyword p condition q) t = loops t
+      by (control.Counted count) t = loops t
+      by (control.Tested test) t = loops t

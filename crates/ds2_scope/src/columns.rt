@@ -16,8 +16,8 @@ use std::collections::HashSet;
 /// A set of names.
 pub type NameSet = HashSet<Bytes>;
 
-// Adds a name; true exactly where it was not there.
-fn add_name(alloc: Global, set: &mut NameSet, name: &[u8]) -> Result<bool, OutOfMemory>
+/// Adds a name; true exactly where it was not there.
+pub fn add_name(alloc: Global, set: &mut NameSet, name: &[u8]) -> Result<bool, OutOfMemory>
     ensures new { IfOk result (λ added. added ≡ not (contains (pointwise nat_eq) set.old name.now)) }
     ensures names { OnOk result ((other : Items ℕ) → contains (pointwise nat_eq) set.new other ≡ (bytes_eq name.now other || contains (pointwise nat_eq) set.old other)) }
 {

@@ -19,7 +19,7 @@ mod refusal;
 mod repeated;
 
 pub use collected::{declared_names, local_names, method_names, output_names, renamed_names};
-pub use columns::{NameSet, add_columns, column_set, columns_of, name_set};
+pub use columns::{NameSet, add_columns, add_name, column_set, columns_of, name_set};
 pub use duplicates::{repeated_local, repeated_method, repeated_output, repeated_renaming};
 pub use earliest::{earlier, earlier_of, is_earlier, place_unless};
 pub use misplacement::{is_system_name, misplaced};

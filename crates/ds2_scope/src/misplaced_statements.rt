@@ -20,8 +20,8 @@ fn is_loop(control: &DoControl) -> bool
 {
     match control {
         DoControl::Block => false,
-        DoControl::Counted { .. } => true,
-        DoControl::Tested { .. } => true,
+        DoControl::Counted(_) => true,
+        DoControl::Tested(_) => true,
     }
 }
 

@@ -18,7 +18,7 @@ fn small_tree(alloc: Global) -> Result<Tree, OutOfMemory> {
 fn lists(alloc: Global) -> Result<bool, OutOfMemory> {
     let mut list = List::from_slice(alloc, &[1u32, 2])?;
     list.reserve(4)?;
-    list.push(3)?;
+    list.push_sparing(3)?;
     list.append(&[4, 5])?;
     list.append_list(List::from_slice(alloc, &[6])?)?;
     Ok(list.copy(alloc)? == list && list.as_slice() == [1, 2, 3, 4, 5, 6].as_slice())
@@ -27,6 +27,13 @@ fn lists(alloc: Global) -> Result<bool, OutOfMemory> {
 fn texts(alloc: Global) -> Result<bool, OutOfMemory> {
     let text = Text::of(alloc, "Käse")?;
     Ok(Text::from_bytes(alloc, List::from_slice(alloc, text.as_bytes())?)? == Some(text))
+}
+
+// A text of more than 22 bytes, made of its bytes and of its front with blanks behind it.
+fn long_texts(alloc: Global) -> Result<bool, OutOfMemory> {
+    let bytes = List::from_slice(alloc, b"Zwei Pfund Bergkaese      ")?;
+    let filled = Text::filled(alloc, "Zwei Pfund Bergkaese", 6)?;
+    Ok(Text::from_bytes(alloc, bytes)? == Some(filled))
 }
 
 fn names(alloc: Global) -> Result<bool, OutOfMemory> {
@@ -38,7 +45,13 @@ fn names(alloc: Global) -> Result<bool, OutOfMemory> {
 }
 
 fn all_hold(alloc: Global) -> Result<bool, OutOfMemory> {
-    Ok(lists(alloc)? && texts(alloc)? && names(alloc)? && small_tree(alloc)? == small_tree(alloc)?)
+    Ok(
+        lists(alloc)?
+            && texts(alloc)?
+            && long_texts(alloc)?
+            && names(alloc)?
+            && small_tree(alloc)? == small_tree(alloc)?,
+    )
 }
 
 #[test]

@@ -20,9 +20,13 @@ mod decimal;
 #[cfg(test)]
 mod hashes;
 #[cfg(test)]
+mod layouts;
+#[cfg(test)]
 mod lexer;
 #[cfg(test)]
 mod outside;
+#[cfg(test)]
+mod readings;
 #[cfg(test)]
 mod schedule;
 #[cfg(test)]

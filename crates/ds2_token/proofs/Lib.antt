@@ -10,3 +10,4 @@ pub mod OneAnswer
 pub mod Pieces
 pub mod Runs
 pub mod ValueLemmas
+pub mod ReservedWords

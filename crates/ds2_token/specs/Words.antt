@@ -111,6 +111,10 @@ names_word word t = is_word word t || quoted_kind t.kind && spells (between_quot
 abbrev pub is_package_name : Token → Bool
 is_package_name t = is_name_token t && not (names_word (codes "hash") t) && not (names_word (codes "hiter") t)
 
+-- the name of a table: a word in lower case that is not reserved
+abbrev pub is_table_name : List ℕ → Bool
+is_table_name name = (is_word_form name && bytes_eq (map to_ascii_lowercase name) name) && not (spells_reserved name)
+
 -- a text that spells a table
 abbrev pub spells_table : Token → Bool
 spells_table t =

@@ -23,3 +23,4 @@ mod words;
 pub use kinds::{LexKind, TokenKind};
 pub use lexer::{end_place, tokens};
 pub use token::Token;
+pub use words::is_table_name;

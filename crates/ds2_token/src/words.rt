@@ -1,65 +1,12 @@
 //! What a token is to the grammar.
-ghost use Rattle.std.specs.Prelude.{◌≡◌};
+ghost use Rattle.std.specs.Prelude.{◌≡◌, bytes_eq, map};
+ghost use Rattle.std.specs.Char.{to_ascii_lowercase};
 ghost use Rattle.std.specs.List.{list_all, list_any};
 ghost use Rattle.ds2_token.specs.Forms as forms;
 ghost use Rattle.ds2_token.specs.Words as words;
 
 use crate::{Token, TokenKind};
 use ds2_base::NAME_CHARACTERS;
-
-/// The words that are no names, in lower case.
-const RESERVED: [&str; 50] = [
-    "and",
-    "bigint",
-    "by",
-    "char",
-    "continue",
-    "data",
-    "dcl",
-    "decimal",
-    "declare",
-    "descending",
-    "do",
-    "drop",
-    "else",
-    "end",
-    "enddata",
-    "endpackage",
-    "endthread",
-    "eq",
-    "from",
-    "ge",
-    "gt",
-    "if",
-    "in_out",
-    "keep",
-    "le",
-    "leave",
-    "lt",
-    "merge",
-    "method",
-    "ne",
-    "not",
-    "null",
-    "numeric",
-    "or",
-    "otherwise",
-    "output",
-    "package",
-    "put",
-    "retain",
-    "return",
-    "returns",
-    "select",
-    "set",
-    "then",
-    "thread",
-    "to",
-    "until",
-    "varchar",
-    "when",
-    "while",
-];
 
 /// Whether letters are this word, which is in lower case, without regard to their own case.
 fn spells(letters: &[u8], word: &[u8]) -> bool
@@ -93,11 +40,48 @@ fn spells_one_of(letters: &[u8], list: &[&str]) -> bool
     false
 }
 
-/// Whether letters are a reserved word.
+/// Whether letters are a reserved word, of those that begin with their first letter.
 fn spells_reserved(letters: &[u8]) -> bool
     ensures { result ≡ words.spells_reserved letters.now }
 {
-    spells_one_of(letters, &RESERVED)
+    let [first, ..] = letters else { return false };
+    match first.to_ascii_lowercase() {
+        b'a' => spells_one_of(letters, &["and"]),
+        b'b' => spells_one_of(letters, &["bigint", "by"]),
+        b'c' => spells_one_of(letters, &["char", "continue"]),
+        b'd' => spells_one_of(
+            letters,
+            &[
+                "data",
+                "dcl",
+                "decimal",
+                "declare",
+                "descending",
+                "do",
+                "drop",
+            ],
+        ),
+        b'e' => spells_one_of(
+            letters,
+            &["else", "end", "enddata", "endpackage", "endthread", "eq"],
+        ),
+        b'f' => spells_one_of(letters, &["from"]),
+        b'g' => spells_one_of(letters, &["ge", "gt"]),
+        b'i' => spells_one_of(letters, &["if", "in_out"]),
+        b'k' => spells_one_of(letters, &["keep"]),
+        b'l' => spells_one_of(letters, &["le", "leave", "lt"]),
+        b'm' => spells_one_of(letters, &["merge", "method"]),
+        b'n' => spells_one_of(letters, &["ne", "not", "null", "numeric"]),
+        b'o' => spells_one_of(letters, &["or", "otherwise", "output"]),
+        b'p' => spells_one_of(letters, &["package", "put"]),
+        b'r' => spells_one_of(letters, &["retain", "return", "returns"]),
+        b's' => spells_one_of(letters, &["select", "set"]),
+        b't' => spells_one_of(letters, &["then", "thread", "to"]),
+        b'u' => spells_one_of(letters, &["until"]),
+        b'v' => spells_one_of(letters, &["varchar"]),
+        b'w' => spells_one_of(letters, &["when", "while"]),
+        _ => false,
+    }
 }
 
 /// What stands between the quotes of a spelling that has some.
@@ -139,6 +123,27 @@ fn is_word_form(letters: &[u8]) -> bool
         [] => false,
         [first, rest @ ..] => is_word_letter(*first) && are_word_parts(rest),
     }
+}
+
+/// No letter in upper case.
+fn is_in_lower_case(letters: &[u8]) -> bool
+    ensures { result ≡ bytes_eq (map to_ascii_lowercase letters.now) letters.now }
+{
+    let mut rest = letters;
+    'letters: while let [c, after @ ..] = rest {
+        if c.to_ascii_lowercase() != *c {
+            return false;
+        }
+        rest = after;
+    }
+    true
+}
+
+/// Whether letters are the name of a table: a word in lower case that is not reserved.
+pub fn is_table_name(letters: &[u8]) -> bool
+    ensures { result ≡ words.is_table_name letters.now }
+{
+    is_word_form(letters) && is_in_lower_case(letters) && !spells_reserved(letters)
 }
 
 impl Token {

@@ -45,11 +45,11 @@ chain_begins e kind a os p h b =
 pub comparison_begins : (a : Expression) (rest : List Token) (p : Place) → BeginsAt (expression_spelling a) p → BeginsAt (expression_spelling a ++ rest) p
 comparison_begins a rest p b = begins_in_front (expression_spelling a) rest p b
 
-pub call_begins : (e : code_expression.Expression) (callee : Callee) (o : Place) (xs : List code_argument.Argument) (q : Place) (p : Place)
-    → e ≡ expression.Call callee o xs q → BeginsAt (callee_spelling callee) p → BeginsAt (expression_spelling (expression_tree e)) p
+pub call_begins : (e : code_expression.Expression) (callee : Box Callee Global) (o : Place) (xs : List code_argument.Argument) (q : Place) (p : Place)
+    → e ≡ expression.Call callee o xs q → BeginsAt (callee_spelling callee.value) p → BeginsAt (expression_spelling (expression_tree e)) p
 call_begins e callee o xs q p h b =
-    expression_at (expression_tree e) (Call callee o (arguments_of xs) q) p (call_is e callee o xs q h)
-    (begins_in_front (callee_spelling callee) (open_mark o ∷ (arguments_spelling (arguments_of xs) ++ (close_mark q ∷ []))) p b)
+    expression_at (expression_tree e) (Call callee.value o (arguments_of xs) q) p (call_is e callee o xs q h)
+    (begins_in_front (callee_spelling callee.value) (open_mark o ∷ (arguments_spelling (arguments_of xs) ++ (close_mark q ∷ []))) p b)
 
 pub if_begins : (x : code.Statement) (k : Token) (e : code_expression.Expression) (t : Token) (s : Box code.Statement Global) (others : List code_else_if.ElseIf) (o : Option code_otherwise.Otherwise)
     → x ≡ statement.If k e t s others o → BeginsAt (statement_spelling (statement_tree x)) k.place

@@ -41,10 +41,10 @@ pub chain_is : (e : code.Expression) (kind : ChainKind) (a : Box code.Expression
 chain_is e kind a os h = ap expression_tree h ∙ chain_tree kind a os
 
 -- a call
-pub call_tree : (callee : Callee) (p : Place) (xs : List code_argument.Argument) (q : Place) → expression_tree (expression.Call callee p xs q) ≡ Call callee p (arguments_of xs) q
+pub call_tree : (callee : Box Callee Global) (p : Place) (xs : List code_argument.Argument) (q : Place) → expression_tree (expression.Call callee p xs q) ≡ Call callee.value p (arguments_of xs) q
 call_tree callee p xs q =
     let row = arguments_in (expression.Call callee p xs q) in
-    ap (λ k. Call callee p k q) (arguments_items row.0 row.1 ∙ ap arguments_of (items_hidden-the_row-Argument-0 xs))
+    ap (λ k. Call callee.value p k q) (arguments_items row.0 row.1 ∙ ap arguments_of (items_hidden-the_row-Argument-0 xs))
 
-pub call_is : (e : code.Expression) (callee : Callee) (p : Place) (xs : List code_argument.Argument) (q : Place) → e ≡ expression.Call callee p xs q → expression_tree e ≡ Call callee p (arguments_of xs) q
+pub call_is : (e : code.Expression) (callee : Box Callee Global) (p : Place) (xs : List code_argument.Argument) (q : Place) → e ≡ expression.Call callee p xs q → expression_tree e ≡ Call callee.value p (arguments_of xs) q
 call_is e callee p xs q h = ap expression_tree h ∙ call_tree callee p xs q

@@ -13,8 +13,8 @@ abbrev mutual
   expression_tree (expression.Constant t) = Constant t
   expression_tree (expression.Null t) = Null t
   expression_tree (expression.Variable t) = Variable t
-  expression_tree (expression.Member object p member) = Member object p member
-  expression_tree (expression.Call' callee p n row q) = Call callee p (arguments_row row) q
+  expression_tree (expression.Member object p member) = Member object p member.value
+  expression_tree (expression.Call' callee p n row q) = Call callee.value p (arguments_row row) q
   expression_tree (expression.Parenthesis' p r e q) = Parenthesis p (expression_tree e) q
   expression_tree (expression.Sign' o p e) = Sign o (expression_tree e)
   expression_tree (expression.Chain' kind p first n row) = Chain kind (expression_tree first) (operands_row row)

@@ -1,5 +1,6 @@
 -- Parts that may be left out, and parts in a list.
 use Rattle.std.specs.Prelude.{◌≡◌, Bool, List, [], ◌∷◌, ◌++◌, Option, Some, None, IsTrue}
+use Rattle.std.specs.List.{flat_map, AllByRecursion}
 use Rattle.ds2_base.specs.declared.place.Place.{Place}
 use Rattle.ds2_token.specs.declared.token.Token.{Token}
 use Rattle.ds2_tree.specs.Marks.{comma_mark}
@@ -15,8 +16,7 @@ if_any spelling (Some x) = spelling x
 
 -- the spellings of the items, one behind the other
 abbrev pub all_spelled : {A : Type 0} → (A → List Token) → List A → List Token
-all_spelled spelling [] = []
-all_spelled spelling (x ∷ xs) = spelling x ++ all_spelled spelling xs
+all_spelled spelling xs = flat_map spelling xs
 
 -- a comma, where there is one
 abbrev pub comma_spelling : Option Place → List Token
@@ -36,8 +36,7 @@ IfAny P (Some x) = P x
 
 -- each item is of the grammar
 abbrev pub Each : {A : Type 0} → (A → Type 0) → List A → Type 0
-Each P [] = Unit {0}
-Each P (x ∷ xs) = P x × Each P xs
+Each P xs = AllByRecursion P xs
 
 -- one item at least, and each is of the grammar
 abbrev pub SomeOf : {A : Type 0} → (A → Type 0) → List A → Type 0

@@ -7,6 +7,8 @@ use Rattle.ds2_tree.specs.declared.statements.When as code_when
 use Rattle.ds2_tree.specs.declared.statements.Otherwise as code_otherwise
 use Rattle.ds2_tree.specs.declared.statements.Selector as code_selector
 use Rattle.ds2_tree.specs.declared.statements.Step as code_step
+use Rattle.ds2_tree.specs.declared.statements.CountedControl as code_counted
+use Rattle.ds2_tree.specs.declared.statements.TestedControl as code_tested
 use Rattle.ds2_tree.specs.declared.statements.DoControl as code_control
 use Rattle.ds2_tree.specs.declared.statements.DoControl.TheVariants as control
 use Rattle.ds2_tree.specs.declared.statements.Statement as code
@@ -18,17 +20,25 @@ use Rattle.ds2_tree.specs.Statements.{Selector, Step, DoControl, Block, Counted,
 
 -- the tree of what stands in parentheses behind `select`
 abbrev pub selector_tree : code_selector.Selector → Selector
-selector_tree s = record { opening = s.opening; value = expression_tree s.value; closing = s.closing }
+selector_tree s = record { opening = s.opening; value = expression_tree s.value.value; closing = s.closing }
 
 -- the tree of a step
 abbrev pub step_tree : code_step.Step → Step
 step_tree s = record { keyword = s.keyword; value = expression_tree s.value }
 
+-- the tree of a count
+abbrev pub counted_tree : code_counted.CountedControl → DoControl
+counted_tree c = Counted c.variable c.equals (expression_tree c.start) c.to_keyword (expression_tree c.stop) (option_map step_tree c.step)
+
+-- the tree of a tested condition
+abbrev pub tested_tree : code_tested.TestedControl → DoControl
+tested_tree c = Tested c.keyword c.opening (expression_tree c.condition) c.closing
+
 -- the tree of what stands between `do` and its `;`
 abbrev pub control_tree : code_control.DoControl → DoControl
 control_tree control.Block = Block
-control_tree (control.Counted variable p start to_keyword stop step) = Counted variable p (expression_tree start) to_keyword (expression_tree stop) (option_map step_tree step)
-control_tree (control.Tested keyword p condition q) = Tested keyword p (expression_tree condition) q
+control_tree (control.Counted c) = counted_tree c.value
+control_tree (control.Tested c) = tested_tree c.value
 
 -- an `if` with what stands behind its `else`, where it has one
 abbrev pub if_else : Token → Expression → Token → Statement → Otherwise → Statement

@@ -8,8 +8,10 @@ use crate::tokens::{Added, push_comma, push_mark, push_token};
 use ds2_base::{List, Place};
 use ds2_token::Token;
 use std::alloc::Global;
+use std::mem::size_of;
 
 /// An expression. A chain of operators of one level stands in a list, so that no walk goes deeper than the source is nested.
+/// What is large and seldom there stands in a box, since a parser moves many expressions.
 #[derive(Drop)]
 #[cycle(expression)]
 pub enum Expression {
@@ -23,11 +25,11 @@ pub enum Expression {
     Member {
         object: Token,
         dot: Place,
-        member: Token,
+        member: Box<Token>,
     },
     /// `call = (name | "null") "(" [args] ")" | name "." word "(" [args] ")"`, with `args = expr { "," expr }`.
     Call {
-        callee: Callee,
+        callee: Box<Callee>,
         opening: Place,
         arguments: List<Argument>,
         closing: Place,
@@ -61,6 +63,9 @@ pub enum Expression {
         operand: Box<Expression>,
     },
 }
+
+// A source has many expressions, and reading one moves it from level to level.
+const _: () = prove!(size_of::<Expression>() <= 64);
 
 /// The operators of a chain.
 #[derive(Clone, Copy, Debug, PartialEq, Eq)]

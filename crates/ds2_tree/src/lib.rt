@@ -26,7 +26,10 @@ pub use globals::{
 };
 pub use laws::tree_examples;
 pub use readings::{By, ByVariable, Input, InputFlag, MergeRetain, Reading, Threads};
-pub use statements::{DoControl, ElseIf, Otherwise, PutItem, Selector, Statement, Step, When};
+pub use statements::{
+    CountedControl, DoControl, ElseIf, Otherwise, PutItem, Selector, Statement, Step,
+    TestedControl, When,
+};
 pub use units::{
     DataProgram, OutputOption, OutputOptions, OutputTable, Package, Renaming, Source, SourcePart,
     Thread,

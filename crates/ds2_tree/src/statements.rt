@@ -6,7 +6,7 @@ ghost use Rattle.ds2_tree.specs.Marks.{semicolon_mark};
 ghost use Rattle.ds2_tree.specs.Expressions.{expression_spelling};
 ghost use Rattle.ds2_tree.specs.ExpressionViews.{expression_tree};
 ghost use Rattle.ds2_tree.specs.Statements.{item_spelling, selector_spelling, step_spelling, control_spelling, statement_spelling, statements_spelling, whens_spelling};
-ghost use Rattle.ds2_tree.specs.StatementViews.{selector_tree, step_tree, control_tree, statement_tree, statements_of, whens_of, else_if_spelling};
+ghost use Rattle.ds2_tree.specs.StatementViews.{selector_tree, step_tree, counted_tree, tested_tree, control_tree, statement_tree, statements_of, whens_of, else_if_spelling};
 
 use crate::expressions::{spell_arguments, spell_call, spell_expression};
 use crate::tokens::{Added, push_mark, push_token, push_tokens};
@@ -14,6 +14,7 @@ use crate::{Argument, Callee, Expression};
 use ds2_base::{List, Place};
 use ds2_token::Token;
 use std::alloc::Global;
+use std::mem::size_of;
 
 /// A statement. `end` is the place of the `;` that ends it. The parts of a chain of `if` and `else if` stand in a list, so that no
 /// walk goes deeper than the source is nested.
@@ -97,6 +98,9 @@ pub enum Statement {
     },
 }
 
+// A source has many statements, and each has the room of the largest.
+const _: () = prove!(size_of::<Statement>() <= 240);
+
 /// `item = text | name ["="] | name "." word`
 #[derive(Drop)]
 pub enum PutItem {
@@ -130,7 +134,7 @@ pub struct ElseIf {
 #[derive(Drop)]
 pub struct Selector {
     pub opening: Place,
-    pub value: Expression,
+    pub value: Box<Expression>,
     pub closing: Place,
 }
 
@@ -158,22 +162,30 @@ pub struct Otherwise {
 pub enum DoControl {
     /// Nothing: a block.
     Block,
-    /// `name "=" expr "to" expr ["by" expr]`
-    Counted {
-        variable: Token,
-        equals: Place,
-        start: Expression,
-        to_keyword: Token,
-        stop: Expression,
-        step: Option<Step>,
-    },
-    /// `("while" | "until") "(" expr ")"`
-    Tested {
-        keyword: Token,
-        opening: Place,
-        condition: Expression,
-        closing: Place,
-    },
+    /// A count.
+    Counted(Box<CountedControl>),
+    /// A tested condition.
+    Tested(Box<TestedControl>),
+}
+
+/// `name "=" expr "to" expr ["by" expr]`
+#[derive(Drop)]
+pub struct CountedControl {
+    pub variable: Token,
+    pub equals: Place,
+    pub start: Expression,
+    pub to_keyword: Token,
+    pub stop: Expression,
+    pub step: Option<Step>,
+}
+
+/// `("while" | "until") "(" expr ")"`
+#[derive(Drop)]
+pub struct TestedControl {
+    pub keyword: Token,
+    pub opening: Place,
+    pub condition: Expression,
+    pub closing: Place,
 }
 
 /// `"by" expr`
@@ -285,38 +297,36 @@ fn spell_step(alloc: Global, out: &mut List<Token>, step: &Option<Step>) -> Adde
     }
 }
 
+// Adds the tokens of a count.
+fn spell_count(alloc: Global, out: &mut List<Token>, count: &CountedControl) -> Added
+    ensures { OnOk result (out.new ≡ out.old ++ control_spelling (counted_tree count.now)) }
+{
+    push_token(alloc, out, &count.variable)?;
+    push_mark(alloc, out, "=", count.equals)?;
+    spell_expression(alloc, out, &count.start)?;
+    push_token(alloc, out, &count.to_keyword)?;
+    spell_expression(alloc, out, &count.stop)?;
+    spell_step(alloc, out, &count.step)
+}
+
+// Adds the tokens of a tested condition.
+fn spell_test(alloc: Global, out: &mut List<Token>, test: &TestedControl) -> Added
+    ensures { OnOk result (out.new ≡ out.old ++ control_spelling (tested_tree test.now)) }
+{
+    push_token(alloc, out, &test.keyword)?;
+    push_mark(alloc, out, "(", test.opening)?;
+    spell_expression(alloc, out, &test.condition)?;
+    push_mark(alloc, out, ")", test.closing)
+}
+
 // Adds the tokens between `do` and its `;`.
 fn spell_control(alloc: Global, out: &mut List<Token>, control: &DoControl) -> Added
     ensures { OnOk result (out.new ≡ out.old ++ control_spelling (control_tree control.now)) }
 {
     match control {
         DoControl::Block => Ok(()),
-        DoControl::Counted {
-            variable,
-            equals,
-            start,
-            to_keyword,
-            stop,
-            step,
-        } => {
-            push_token(alloc, out, variable)?;
-            push_mark(alloc, out, "=", *equals)?;
-            spell_expression(alloc, out, start)?;
-            push_token(alloc, out, to_keyword)?;
-            spell_expression(alloc, out, stop)?;
-            spell_step(alloc, out, step)
-        }
-        DoControl::Tested {
-            keyword,
-            opening,
-            condition,
-            closing,
-        } => {
-            push_token(alloc, out, keyword)?;
-            push_mark(alloc, out, "(", *opening)?;
-            spell_expression(alloc, out, condition)?;
-            push_mark(alloc, out, ")", *closing)
-        }
+        DoControl::Counted(count) => spell_count(alloc, out, count),
+        DoControl::Tested(test) => spell_test(alloc, out, test),
     }
 }
 

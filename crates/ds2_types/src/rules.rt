@@ -1,6 +1,6 @@
 //! Rules that several forms have.
 ghost use Rattle.std.specs.Prelude.{◌≡◌};
-ghost use Rattle.ds2_elaboration.specs.SourceTypes.{is_one_type};
+ghost use Rattle.ds2_value.specs.Types.{same_ty};
 ghost use Rattle.ds2_elaboration.specs.Typings.{is_numeric_type, is_characters, is_integer_type, are_comparable, is_assigned_from, clash_unless, null_clash, operand_clash};
 ghost use Rattle.ds2_types.specs.Judgements.{typing_of, passes, first_type_refusal, truth_clash, assigned_clash, comparison_clash};
 
@@ -48,7 +48,7 @@ pub fn is_integer(ty: Ty) -> bool
 
 /// Two types are the same one.
 pub fn is_one(a: Ty, b: Ty) -> bool
-    ensures { result ≡ is_one_type a b }
+    ensures { result ≡ same_ty a b }
 {
     match a {
         Ty::BigInt => matches!(b, Ty::BigInt),

@@ -1,5 +1,6 @@
 -- Whose code it is: one number for methods with equal signatures, and another one for others.
 use Rattle.std.proofs.Common.{◌≡◌, ℕ, zero, suc, ◌<◌, Bool, true, false, ◌&&◌, List, [], ◌∷◌, length, Option, Some, None, refl, sym, ap, ◌∙◌, subst, arith}
+use Rattle.ds2_value.specs.Types.{same_ty}
 use Rattle.std.specs.Prelude.{◌==◌, slice_get, slice_set, unwrap_or, if◌then◌else◌}
 use Rattle.std.specs.Option.{option_map}
 use Rattle.std.proofs.lemmas.Bool.{eq-eqb, eqb-true, eqb-false}
@@ -10,7 +11,7 @@ use Rattle.ds2_code.specs.declared.instr.Instr.{Instr}
 use Rattle.ds2_code.specs.declared.parts.MethodPart.{MethodPart}
 use Rattle.ds2_code.specs.declared.parts.ParameterPart.{ParameterPart}
 use Rattle.ds2_code.specs.declared.parts.ProgramParts.{ProgramParts}
-use Rattle.ds2_code.specs.OperandTypes.{CodeRole, OfUnit, OfMethod, Signature, signature_of, same_ty}
+use Rattle.ds2_code.specs.OperandTypes.{CodeRole, OfUnit, OfMethod, Signature, signature_of}
 use Rattle.ds2_code.specs.ValidCode.{unit_entries, unit_entry_role, method_entry_role, entry_role}
 use Rattle.ds2_valid_code.specs.declared.owner.CodeOwner.{CodeOwner}
 use Rattle.ds2_valid_code.specs.declared.owner.CodeOwner.TheVariants.{Unit as UnitCode, Method as MethodCode}

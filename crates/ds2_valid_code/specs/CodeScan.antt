@@ -1,6 +1,7 @@
 -- Operand types along the list, as a test that goes along it once. Whose code an instruction is, is known by a number.
 use Rattle.std.specs.Prelude.{ℕ, suc, ◌+◌, ◌==◌, Bool, true, false, ◌&&◌, if◌then◌else◌, List, [], ◌∷◌, slice_get, slice_set, Option, Some, None, unwrap_or}
-use Rattle.std.specs.Option.{option_map}
+use Rattle.ds2_value.specs.Types.{same_ty}
+use Rattle.std.specs.Option.{option_and_then, option_flatten, option_map}
 use Rattle.ds2_value.specs.declared.ty.Ty.{Ty}
 use Rattle.ds2_code.specs.declared.instr.Instr.{Instr}
 use Rattle.ds2_code.specs.declared.parts.MethodPart.{MethodPart}
@@ -8,7 +9,7 @@ use Rattle.ds2_code.specs.declared.parts.ParameterPart.{ParameterPart}
 use Rattle.ds2_code.specs.declared.parts.ProgramParts.{ProgramParts}
 use Rattle.ds2_code.specs.CodeBound.{jump_target, falls_through}
 use Rattle.ds2_code.specs.InstructionTable.{kind_of}
-use Rattle.ds2_code.specs.OperandTypes.{OperandTypes, CodeRole, OfUnit, OfMethod, Signature, signature_of, same_ty, types_behind}
+use Rattle.ds2_code.specs.OperandTypes.{OperandTypes, CodeRole, OfUnit, OfMethod, Signature, signature_of, types_behind}
 use Rattle.ds2_code.specs.ValidCode.{unit_entries}
 use Rattle.ds2_valid_code.specs.declared.owner.CodeOwner.{CodeOwner}
 use Rattle.ds2_valid_code.specs.declared.owner.CodeOwner.TheVariants.{Unit as UnitCode, Method as MethodCode}
@@ -103,8 +104,7 @@ entry_table code = with_method_entries code.methods (with_unit_entries (no_entri
 
 -- the entry that was looked up
 abbrev pub entry_found : Option (Option CodeOwner) → Option CodeOwner
-entry_found None = None
-entry_found (Some entry) = entry
+entry_found entry = option_flatten entry
 
 -- ---- along the list
 
@@ -134,18 +134,15 @@ mark_of s = record { owner = s.owner; is_empty = stands_empty s.types }
 
 -- goes on from what stands, where it does
 abbrev pub on_standing : Option Standing → (Standing → Option (List CodeMark)) → Option (List CodeMark)
-on_standing None go = None
-on_standing (Some s) go = go s
+on_standing s go = option_and_then go s
 
 -- goes on with types, where they suffice
 abbrev pub on_types : Option OperandTypes → (OperandTypes → Option (List CodeMark)) → Option (List CodeMark)
-on_types None go = None
-on_types (Some types) go = go types
+on_types types go = option_and_then go types
 
 -- one more mark in front
 abbrev pub with_mark : CodeMark → Option (List CodeMark) → Option (List CodeMark)
-with_mark mark None = None
-with_mark mark (Some marks) = Some (mark ∷ marks)
+with_mark mark marks = option_map (λ l. mark ∷ l) marks
 
 -- the marks of instructions, where each finds what it needs and the last one does not fall through
 abbrev pub scan_code : ProgramParts → List (Option Ty) → List (Option CodeOwner) → ℕ → Bool → Standing → List Instr → Option (List CodeMark)

@@ -1,6 +1,7 @@
 -- A number for each signature by which methods are found: equal signatures have equal ones.
 use Rattle.std.specs.Prelude.{◌≡◌, ℕ, ◌+◌, ◌*◌, ◌%◌, ◌==◌, nat_eq, Bool, true, false, List, [], ◌∷◌, Option, Some, None}
 use Rattle.std.specs.HashMap.{HashMap, get}
+use Rattle.std.specs.Option.{option_or}
 use Rattle.ds2_value.specs.declared.ty.Ty.{Ty}
 use Rattle.ds2_value.specs.declared.ty.Ty.TheVariants.{BigInt, Decimal as DecimalOf, Char, Varchar}
 use Rattle.ds2_code.specs.declared.parts.MethodPart.{MethodPart}
@@ -46,8 +47,7 @@ digest_of s = digest_types (digest_parameters (digest_with 0 (result_number s.re
 
 -- what was found, else another one
 abbrev pub found_or : Option ℕ → Option ℕ → Option ℕ
-found_or None other = other
-found_or (Some n) other = Some n
+found_or found other = option_or found other
 
 -- the first method with each digest is known
 abbrev pub FindsByDigest : {S : Type 0} → HashMap ℕ ℕ S → List MethodPart → Type 0

@@ -1,12 +1,13 @@
 //! Whether slots and layout fit the tables, and the thread program where there is one.
 ghost use Rattle.std.specs.Prelude.{◌≡◌, IfOk, true, false, not, ℕ, List as Items, map, slice_get};
+ghost use Rattle.ds2_value.specs.Types.{same_ty};
 ghost use Rattle.std.specs.List.{list_all};
 ghost use Rattle.std.specs.Option.{option_map, option_map_or, is_some};
 ghost use Rattle.ds2_value.specs.declared.schema.Column.{Column as ColumnModel};
 ghost use Rattle.ds2_value.specs.declared.ty.Ty.TheVariants.{BigInt};
 ghost use Rattle.ds2_code.specs.declared.parts.ByPart.{ByPart as ByPartModel};
 ghost use Rattle.ds2_code.specs.declared.parts.HashPart.{HashPart as HashPartModel};
-ghost use Rattle.ds2_code.specs.OperandTypes.{same_ty, slot_type};
+ghost use Rattle.ds2_code.specs.OperandTypes.{slot_type};
 ghost use Rattle.ds2_code.specs.ValidCode.{joins_to_slot, columns_fit, is_flag_slot, is_among_numbers, read_fits, by_fits, chosen_columns_fit, hash_table_fits, output_fits, output_types, types_fit, one_output_fits, stage_fits, tables_fit, reading_fits, layout_fits, outputs_differ};
 
 use crate::names::{columns_differ, names_differ};

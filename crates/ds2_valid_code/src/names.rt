@@ -1,85 +1,14 @@
-//! Names of tables, and names that differ.
+//! Names that differ.
 ghost use Rattle.std.specs.Prelude.{◌≡◌, ◌||◌, not, ℕ, List as Items, IfOk, OnOk, bytes_eq, map};
-ghost use Rattle.std.specs.List.{list_all};
-ghost use Rattle.std.specs.Char.{to_ascii_lowercase};
 ghost use Rattle.std.specs.HashSet.{contains_text};
-ghost use Rattle.ds2_token.specs.Forms as forms;
-ghost use Rattle.ds2_token.specs.Words.{spells_reserved};
 ghost use Rattle.ds2_value.specs.Schema.{distinct_names};
-ghost use Rattle.ds2_code.specs.ValidCode.{is_table_name, names_differ};
+ghost use Rattle.ds2_code.specs.ValidCode.{names_differ};
 
-use ds2_base::{Name, OutOfMemory, Place, Text};
+use ds2_base::{Name, OutOfMemory};
 use ds2_code::OutputPart;
-use ds2_token::{Token, TokenKind};
 use ds2_value::Column;
 use std::alloc::Global;
 use std::collections::HashSet;
-
-// A letter or `_`.
-fn is_word_letter(c: u8) -> bool
-    ensures { result ≡ forms.is_word_letter c }
-{
-    c.is_ascii_alphabetic() || c == b'_'
-}
-
-// A letter, a digit or `_`.
-fn is_word_part(c: u8) -> bool
-    ensures { result ≡ forms.is_word_part c }
-{
-    is_word_letter(c) || c.is_ascii_digit()
-}
-
-// Letters, digits and `_` alone.
-fn are_word_parts(letters: &[u8]) -> bool
-    ensures { result ≡ list_all forms.is_word_part letters.now }
-{
-    letters.iter().all(|c| is_word_part(*c))
-}
-
-// A letter or `_`, then letters, digits and `_`.
-fn is_word_form(letters: &[u8]) -> bool
-    ensures { result ≡ forms.is_word_form letters.now }
-{
-    match letters {
-        [] => false,
-        [first, rest @ ..] => is_word_letter(*first) && are_word_parts(rest),
-    }
-}
-
-// No letter in upper case.
-fn is_in_lower_case(letters: &[u8]) -> bool
-    ensures { result ≡ bytes_eq (map to_ascii_lowercase letters.now) letters.now }
-{
-    let mut rest = letters;
-    'letters: while let [c, after @ ..] = rest {
-        if c.to_ascii_lowercase() != *c {
-            return false;
-        }
-        rest = after;
-    }
-    true
-}
-
-// A word that names nothing.
-fn is_reserved(alloc: Global, name: &Name) -> Result<bool, OutOfMemory>
-    ensures { IfOk result (λ is. is ≡ spells_reserved name.now) }
-{
-    let word = Token {
-        kind: TokenKind::Word,
-        spelling: Text::of(alloc, name.as_str())?,
-        place: Place::start(),
-    };
-    Ok(word.is_reserved())
-}
-
-// The name of a table: a word in lower case that is not reserved.
-pub(crate) fn is_table_name(alloc: Global, name: &Name) -> Result<bool, OutOfMemory>
-    ensures { IfOk result (λ is. is ≡ is_table_name name.now) }
-{
-    let reserved = is_reserved(alloc, name)?;
-    let letters = name.as_str().as_bytes();
-    Ok(is_word_form(letters) && is_in_lower_case(letters) && !reserved)
-}
 
 // What has a name.
 pub(crate) trait Named {

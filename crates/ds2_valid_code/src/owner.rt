@@ -1,9 +1,10 @@
 //! Whose code an instruction is.
 ghost use Rattle.std.specs.Prelude.{◌≡◌, ◌<◌, ◌^◌, ◌+◌, ◌==◌, ◌&&◌, ℕ, Some, None, OnOk, IfOk, false, slice_get, nat_eq, unwrap_or, if◌then◌else◌};
+ghost use Rattle.ds2_value.specs.Types.{same_ty};
 ghost use Rattle.std.specs.HashMap.{get};
 ghost use Rattle.std.specs.Option.{option_map_or};
 ghost use Rattle.ds2_code.specs.declared.parts.MethodPart.{MethodPart as MethodPartModel};
-ghost use Rattle.ds2_code.specs.OperandTypes.{signature_of, same_ty};
+ghost use Rattle.ds2_code.specs.OperandTypes.{signature_of};
 ghost use Rattle.ds2_valid_code.specs.CodeScan.{same_types, same_flag, same_parameters, same_result, same_signature, first_where, first_like, owner_of, same_owner};
 ghost use Rattle.ds2_valid_code.specs.Digests.{type_number, digest_with, digest_types, flag_number, digest_parameters, result_number, digest_of, found_or, FindsByDigest};
 

@@ -50,11 +50,10 @@ impl ProgramCode {
 }
 
 // Whether the numbers, lists and values of a program's parts are those of valid code.
-fn parts_are_allowed(alloc: Global, code: &ProgramParts) -> Result<bool, OutOfMemory>
-    ensures { IfOk result (λ allowed. allowed ≡ (parts_in_range code.now && (lists_short code.now && values_allowed code.now))) }
+fn parts_are_allowed(code: &ProgramParts) -> bool
+    ensures { result ≡ (parts_in_range code.now && (lists_short code.now && values_allowed code.now)) }
 {
-    let values = values_are_allowed(alloc, code)?;
-    Ok(code.numbers_in_range() && code.lists_are_short() && values)
+    code.numbers_in_range() && code.lists_are_short() && values_are_allowed(code)
 }
 
 // Whether the code of a program is valid beside the thread program that it reads from, the first of `stages`. Numbers come first:
@@ -66,7 +65,7 @@ fn program_passes(
 ) -> Result<bool, OutOfMemory>
     ensures { IfOk result (λ passes. passes ≡ program_passes code.now (slice_get stages.now 0)) }
 {
-    if !parts_are_allowed(alloc, code)? {
+    if !parts_are_allowed(code) {
         return Ok(false);
     }
     let outputs = outputs_are_named_apart(alloc, code)?;

@@ -1,5 +1,5 @@
 //! Whether each value of a program's parts is one that an object file can hold.
-ghost use Rattle.std.specs.Prelude.{◌≡◌, IfOk, true};
+ghost use Rattle.std.specs.Prelude.{◌≡◌, true};
 ghost use Rattle.std.specs.List.{list_all};
 ghost use Rattle.std.specs.Option.{option_map_or};
 ghost use Rattle.ds2_value.specs.Types.{in_bounds};
@@ -10,16 +10,16 @@ ghost use Rattle.ds2_code.specs.declared.parts.OutputPart.{OutputPart as OutputP
 ghost use Rattle.ds2_code.specs.declared.parts.ParameterPart.{ParameterPart as ParameterPartModel};
 ghost use Rattle.ds2_code.specs.declared.parts.ReadPart.{ReadPart as ReadPartModel};
 ghost use Rattle.ds2_code.specs.declared.parts.Slot.{Slot as SlotModel};
-ghost use Rattle.ds2_code.specs.ValidCode.{is_table_name, reference_allowed, is_char_type, constant_allowed, method_allowed, reading_allowed, values_allowed};
+ghost use Rattle.ds2_token.specs.Words.{is_table_name};
+ghost use Rattle.ds2_code.specs.ValidCode.{reference_allowed, is_char_type, constant_allowed, method_allowed, reading_allowed, values_allowed};
 
-use crate::names::is_table_name;
-use ds2_base::OutOfMemory;
+use ds2_base::Name;
 use ds2_code::{
     Constant, HashPart, HashTable, MethodPart, OutputPart, ParameterPart, ProgramParts, ReadPart,
     ReadingPart, Slot, TableReference,
 };
+use ds2_token::is_table_name;
 use ds2_value::{Column, Ty};
-use std::alloc::Global;
 
 fn columns_in_bounds(columns: &[Column]) -> bool
     ensures { result ≡ list_all (λ (c : ColumnModel). in_bounds c.ty) columns.now }
@@ -27,11 +27,18 @@ fn columns_in_bounds(columns: &[Column]) -> bool
     columns.iter().all(|column| column.ty.is_in_bounds())
 }
 
-fn reference_allowed(alloc: Global, reference: &TableReference) -> Result<bool, OutOfMemory>
-    ensures { IfOk result (λ allowed. allowed ≡ reference_allowed reference.now) }
+// The name of a table.
+fn names_table(name: &Name) -> bool
+    ensures { result ≡ is_table_name name.now }
 {
-    let named = is_table_name(alloc, &reference.name)?;
-    Ok(named && columns_in_bounds(reference.columns.as_slice()))
+    is_table_name(name.as_str().as_bytes())
+}
+
+fn reference_allowed(reference: &TableReference) -> bool
+    ensures { result ≡ reference_allowed reference.now }
+{
+    let named = names_table(&reference.name);
+    named && columns_in_bounds(reference.columns.as_slice())
 }
 
 fn is_char(ty: Ty) -> bool
@@ -64,26 +71,19 @@ fn slots_allowed(slots: &[Slot]) -> bool
     slots.iter().all(|slot| slot.ty.is_in_bounds())
 }
 
-fn loaded_allowed(alloc: Global, loaded: &Option<HashTable>) -> Result<bool, OutOfMemory>
-    ensures { IfOk result (λ allowed. allowed ≡ option_map_or (λ (t : HashTableModel). reference_allowed t.table) loaded.now true) }
+fn loaded_allowed(loaded: &Option<HashTable>) -> bool
+    ensures { result ≡ option_map_or (λ (t : HashTableModel). reference_allowed t.table) loaded.now true }
 {
     match loaded {
-        None => Ok(true),
-        Some(table) => reference_allowed(alloc, &table.table),
+        None => true,
+        Some(table) => reference_allowed(&table.table),
     }
 }
 
-fn hashes_allowed(alloc: Global, hashes: &[HashPart]) -> Result<bool, OutOfMemory>
-    ensures { IfOk result (λ allowed. allowed ≡ list_all (λ (h : HashPartModel). option_map_or (λ (t : HashTableModel). reference_allowed t.table) h.loaded true) hashes.now) }
+fn hashes_allowed(hashes: &[HashPart]) -> bool
+    ensures { result ≡ list_all (λ (h : HashPartModel). option_map_or (λ (t : HashTableModel). reference_allowed t.table) h.loaded true) hashes.now }
 {
-    let mut rest = hashes;
-    'hashes: while let [hash, after @ ..] = rest {
-        if !loaded_allowed(alloc, &hash.loaded)? {
-            return Ok(false);
-        }
-        rest = after;
-    }
-    Ok(true)
+    hashes.iter().all(|hash| loaded_allowed(&hash.loaded))
 }
 
 fn parameters_allowed(parameters: &[ParameterPart]) -> bool
@@ -123,57 +123,38 @@ fn methods_allowed(methods: &[MethodPart]) -> bool
     methods.iter().all(|method| method_allowed(method))
 }
 
-fn reads_allowed(alloc: Global, reads: &[ReadPart]) -> Result<bool, OutOfMemory>
-    ensures { IfOk result (λ allowed. allowed ≡ list_all (λ (r : ReadPartModel). reference_allowed r.table) reads.now) }
+fn reads_allowed(reads: &[ReadPart]) -> bool
+    ensures { result ≡ list_all (λ (r : ReadPartModel). reference_allowed r.table) reads.now }
 {
-    let mut rest = reads;
-    'reads: while let [read, after @ ..] = rest {
-        if !reference_allowed(alloc, &read.table)? {
-            return Ok(false);
-        }
-        rest = after;
-    }
-    Ok(true)
+    reads.iter().all(|read| reference_allowed(&read.table))
 }
 
-fn reading_allowed(alloc: Global, reading: &ReadingPart) -> Result<bool, OutOfMemory>
-    ensures { IfOk result (λ allowed. allowed ≡ reading_allowed reading.now) }
+fn reading_allowed(reading: &ReadingPart) -> bool
+    ensures { result ≡ reading_allowed reading.now }
 {
     match reading {
-        ReadingPart::Once => Ok(true),
-        ReadingPart::Nothing => Ok(true),
-        ReadingPart::Set { tables, .. } => reads_allowed(alloc, tables.as_slice()),
-        ReadingPart::Merge { tables, .. } => reads_allowed(alloc, tables.as_slice()),
-        ReadingPart::Stage { threads, .. } => Ok(1 <= *threads && *threads <= 64),
+        ReadingPart::Once => true,
+        ReadingPart::Nothing => true,
+        ReadingPart::Set { tables, .. } => reads_allowed(tables.as_slice()),
+        ReadingPart::Merge { tables, .. } => reads_allowed(tables.as_slice()),
+        ReadingPart::Stage { threads, .. } => 1 <= *threads && *threads <= 64,
     }
 }
 
-fn outputs_named(alloc: Global, outputs: &[OutputPart]) -> Result<bool, OutOfMemory>
-    ensures { IfOk result (λ allowed. allowed ≡ list_all (λ (o : OutputPartModel). is_table_name o.name) outputs.now) }
+fn outputs_named(outputs: &[OutputPart]) -> bool
+    ensures { result ≡ list_all (λ (o : OutputPartModel). is_table_name o.name) outputs.now }
 {
-    let mut rest = outputs;
-    'outputs: while let [output, after @ ..] = rest {
-        if !is_table_name(alloc, &output.name)? {
-            return Ok(false);
-        }
-        rest = after;
-    }
-    Ok(true)
+    outputs.iter().all(|output| names_table(&output.name))
 }
 
 /// Whether each value is one that an object file can hold: types in bounds, constants of their types, names of tables.
-pub fn values_are_allowed(alloc: Global, code: &ProgramParts) -> Result<bool, OutOfMemory>
-    ensures { IfOk result (λ allowed. allowed ≡ values_allowed code.now) }
+pub fn values_are_allowed(code: &ProgramParts) -> bool
+    ensures { result ≡ values_allowed code.now }
 {
-    let hashes = hashes_allowed(alloc, code.hashes.as_slice())?;
-    let reading = reading_allowed(alloc, &code.reading)?;
-    let outputs = outputs_named(alloc, code.outputs.as_slice())?;
-    Ok(
-        slots_allowed(code.slots.as_slice())
-            && constants_allowed(code.constants.as_slice())
-            && hashes
-            && methods_allowed(code.methods.as_slice())
-            && reading
-            && outputs,
-    )
+    slots_allowed(code.slots.as_slice())
+        && constants_allowed(code.constants.as_slice())
+        && hashes_allowed(code.hashes.as_slice())
+        && methods_allowed(code.methods.as_slice())
+        && reading_allowed(&code.reading)
+        && outputs_named(code.outputs.as_slice())
 }

@@ -6,7 +6,7 @@ use Rattle.std.specs.Prelude.{encode_utf8}
 use Rattle.std.specs.Str.{chars, IsUtf8, is_utf8, encode_utf8_all, IsCharBoundary}
 use Rattle.std.proofs.Math.Utf8.{scalars, scalar}
 use Rattle.std.proofs.Math.Seq.{take-append_seam}
-use Rattle.std.proofs.lemmas.List.{take_all, take-append-drop, length-append, length-take, append_assoc, replicate-append-replicate, length-replicate}
+use Rattle.std.proofs.lemmas.List.{append-nil, take_all, take-append-drop, length-append, length-take, append_assoc, replicate-append-replicate, length-replicate}
 use Rattle.std.proofs.lemmas.Str.{encodes-append, encodes-chars, chars-append, scalars-chars, chars-encodes, encode_ascii, length-le-encodes, IsCharBoundary-at_seam, IsUtf8-append, is_utf8-from_IsUtf8}
 use Rattle.ds2_base.specs.Characters.{char_count}
 use Rattle.ds2_value.specs.Texts.{cut_to, after_characters, filled_to}
@@ -104,6 +104,14 @@ filled-is n bytes u =
     rw (cut-chars n bytes u) (sym
     (encodes-append (take n (chars bytes)) (replicate (n - length (take n (chars bytes))) 32)
     ∙ ap (λ (xs : List ℕ). cut_to n bytes ++ xs) (encodes-blanks (n - length (take n (chars bytes))))))
+
+-- a text of n characters is filled already
+pub filled-whole : (n : ℕ) (bytes : List ℕ) → IsUtf8 bytes → char_count bytes ≡ n → bytes ≡ filled_to n bytes
+filled-whole n bytes u h =
+    let whole : cut_to n bytes ≡ bytes = ap encode_utf8_all (take_all n (chars bytes) (omega (arith, h))) ∙ encodes-chars bytes u in
+    let full : n - char_count bytes ≡ 0 = omega (arith, h) in
+    let none : n - char_count (cut_to n bytes) ≡ 0 = ap (λ (b : List ℕ). n - char_count b) whole ∙ full in
+    sym (ap (λ (k : ℕ). cut_to n bytes ++ replicate k 32) none ∙ append-nil (cut_to n bytes) ∙ whole) ∙ filled-is n bytes u
 
 -- filled texts have exactly n characters, and cut ones at most n
 scalars-blanks : (n : ℕ) → scalars (replicate n blank) ≡ true

@@ -54,3 +54,18 @@ line_text (Txt t) = cut_to TEXT_CHARACTERS (trimmed t)
 -- the text of a value in a line of the log, as a value
 abbrev pub line_value : Value → Value
 line_value v = Txt (line_text v)
+
+-- a function of one value; other numbers of arguments give null
+abbrev pub of_one : (Value → Value) → List Value → Value
+of_one f (a ∷ []) = f a
+of_one f _ = Null
+
+-- a function of one value that may fault; other numbers of arguments give null
+abbrev pub of_one_or_fault : (Value → Result Value Fault) → List Value → Result Value Fault
+of_one_or_fault f (a ∷ []) = f a
+of_one_or_fault f _ = Ok Null
+
+-- a function of two values that may fault; other numbers of arguments give null
+abbrev pub of_two : (Value → Value → Result Value Fault) → List Value → Result Value Fault
+of_two f (a ∷ b ∷ []) = f a b
+of_two f _ = Ok Null

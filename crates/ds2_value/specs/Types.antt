@@ -1,5 +1,6 @@
 -- Types: their bounds, the values of a type, the join of two types, assignment to a type.
 use Rattle.std.specs.Prelude.{◌≡◌, IsTrue, ℕ, ℤ, ◌+◌, ◌-◌, ◌==◌, max, nat_le, Bool, true, false, ◌&&◌, if◌then◌else◌, Option, Some, None, Result, Ok, Err}
+use Rattle.std.specs.Int.{is_in_range}
 use Rattle.std.specs.Str.{is_utf8}
 use Rattle.ds2_base.specs.Characters.{char_count}
 use Rattle.ds2_decimal.specs.Arithmetic.{rescale}
@@ -19,7 +20,7 @@ use Rattle.ds2_value.specs.declared.value.Value.TheVariants.{Null, Int, Dec, Txt
 
 -- at least 1, and at most a limit
 abbrev pub is_from_one : ℕ → ℕ → Bool
-is_from_one n limit = nat_le 1 n && nat_le n limit
+is_from_one n limit = is_in_range 1 limit n
 
 -- 1 to 38 digits, no more of them after the point than there are; 1 to 1,024 characters
 abbrev pub in_bounds : Ty → Bool
@@ -108,3 +109,11 @@ TakesItself = (a : Ty) → IsTrue (takes a a)
 -- what takes the values of a type takes the values that this type takes, as where a column is joined over several tables
 abbrev pub TakesOnward : Type 0
 TakesOnward = (a b c : Ty) → IsTrue (takes b a) → IsTrue (takes c b) → IsTrue (takes c a)
+
+-- two types are equal
+abbrev pub same_ty : Ty → Ty → Bool
+same_ty BigInt BigInt = true
+same_ty (DecimalOf p s) (DecimalOf q t) = (p == q) && (s == t)
+same_ty (Char n) (Char m) = n == m
+same_ty (Varchar n) (Varchar m) = n == m
+same_ty _ _ = false

@@ -3,7 +3,7 @@ ghost use Rattle.std.specs.Prelude.{IfOk, IsTrue};
 ghost use Rattle.ds2_base.specs.Says.{Says};
 ghost use Rattle.ds2_value.specs.Types.{in_bounds, fits, assign_of};
 
-use crate::texts::{cut_to, filled_to, shortened_to};
+use crate::texts::{cut_to, filled_to, kept_or_filled, shortened_to};
 use crate::{Fault, Ty, Value, decimal_value, whole_decimal};
 use ds2_base::{Stop, Text, refusing};
 use std::alloc::Global;
@@ -32,8 +32,8 @@ pub fn assign(alloc: Global, v: &Value, to: Ty) -> Result<Value, Stop<Fault>>
     }
 }
 
-/// [`assign`] of a value that is given away: for VARCHAR a text is cut where it stands and takes no memory; a CHAR of more than
-/// 22 bytes is made anew.
+/// [`assign`] of a value that is given away: for VARCHAR a text is cut where it stands, and for CHAR one that has the type's
+/// characters stays as it is, so that neither takes memory; any other CHAR of more than 22 bytes is made anew.
 pub fn assign_owned(alloc: Global, v: Value, to: Ty) -> Result<Value, Stop<Fault>>
     requires { IsTrue (in_bounds to) }
     ensures value { Says result (assign_of v to) }
@@ -41,7 +41,7 @@ pub fn assign_owned(alloc: Global, v: Value, to: Ty) -> Result<Value, Stop<Fault
 {
     match v {
         Value::Txt(t) => match to {
-            Ty::Char { n } => Ok(Value::Txt(filled_to(alloc, t.as_str(), n as usize)?)),
+            Ty::Char { n } => Ok(Value::Txt(kept_or_filled(alloc, t, n as usize)?)),
             Ty::Varchar { n } => Ok(Value::Txt(shortened_to(t, n as usize))),
             Ty::BigInt | Ty::Decimal { .. } => Ok(Value::Null),
         },

@@ -61,3 +61,16 @@ pub(crate) fn filled_to(alloc: Global, s: &str, n: usize) -> Result<Text, OutOfM
     let kept = cut_to(s, n);
     Text::filled(alloc, kept, n - char_count(kept))
 }
+
+// The same of a text that is given away: one of n characters stays as it is.
+pub(crate) fn kept_or_filled(alloc: Global, t: Text, n: usize) -> Result<Text, OutOfMemory>
+    ensures text { IfOk result (λ text. text ≡ filled_to n t) }
+    ensures utf8 { IsUtf8 t }
+{
+    let _bytes = t.as_bytes();
+    let count = char_count(t.as_str());
+    if count == n {
+        return Ok(t);
+    }
+    filled_to(alloc, t.as_str(), n)
+}

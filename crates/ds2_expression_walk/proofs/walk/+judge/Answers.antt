@@ -6,12 +6,14 @@ use Rattle.ds2_types.specs.Judgements.{Judges}
 use Rattle.std.specs.Option.{option_copied}
 use Rattle.ds2_tree.specs.ExpressionViews.{expression_tree, operands_of, arguments_of}
 use Rattle.ds2_names.specs.Uses.{first_place}
+use Rattle.ds2_token.specs.declared.token.Token.{Token}
+use Rattle.ds2_tree.specs.declared.expressions.Callee.{Callee}
 use Rattle.ds2_tree.specs.declared.expressions.Expression as code
 use Rattle.ds2_tree.specs.declared.expressions.Operand as code_operand
 use Rattle.ds2_tree.specs.declared.expressions.Argument as code_argument
 use Rattle.ds2_meaning.specs.declared.methods.Parameter.{Parameter}
 use Rattle.ds2_tree.proofs.Rows.{chain_is, call_is}
-use Rattle.ds2_elaboration.specs.ExpressionTypes.{is_truth_chain, elaborated, elaborated_arguments, arguments_for, elaborated_call}
+use Rattle.ds2_elaboration.specs.ExpressionTypes.{is_truth_chain, elaborated, elaborated_arguments, elaborated_flag, arguments_for, elaborated_call}
 use Rattle.ds2_expression_walk.specs.ArgumentTrees.{argument_in}
 use Rattle.ds2_expression_walk.specs.Passing.{AreAllPassed}
 use Rattle.ds2_expression_walk.proofs.ArgumentWalk.{next_argument, last_argument, none_judged, one_judged, all_judged, HasPassed, none_passed, one_passed, too_many, at_their_end}
@@ -190,18 +192,21 @@ pub judge-returns-in-Variable : goal.judge-returns-in-Variable
 judge-returns-in-Variable t c = λ types s. told types (expression_tree c.args.e.now) _ c.variable.result (ap expression_tree c.in-Variable.is) (c.variable.ensures types s)
 
 pub judge-returns-in-Member : goal.judge-returns-in-Member
-judge-returns-in-Member t c = λ types s. told types (expression_tree c.args.e.now) _ c.flag.result (ap expression_tree c.in-Member.is) (c.flag.ensures types s)
+judge-returns-in-Member t c = λ types s.
+    told types (expression_tree c.args.e.now) _ c.flag.result (ap expression_tree c.in-Member.is)
+    (subst (λ (member : Token). Judges (elaborated_flag types c.in-Member.object member) c.flag.result) c.deref.ensures (c.flag.ensures types s))
 
 pub judge-returns-in-Call : goal.judge-returns-in-Call
 judge-returns-in-Call t c = λ types s.
-    let callee = c.in-Call.callee in
     told types (expression_tree c.args.e.now) _ c.call.result (call_is _ _ _ _ _ c.in-Call.is)
-    (subst (λ (l : List code_argument.Argument). Judges (elaborated_call types callee (elaborated_arguments types (arguments_of l))) c.call.result) c.as_slice.ensures (c.call.ensures types s))
+    (subst (λ (callee : Callee). Judges (elaborated_call types callee (elaborated_arguments types (arguments_of c.in-Call.arguments))) c.call.result) c.deref-in-Call.ensures
+    (subst (λ (l : List code_argument.Argument). Judges (elaborated_call types c.deref-in-Call.result.now (elaborated_arguments types (arguments_of l))) c.call.result) c.as_slice.ensures
+    (c.call.ensures types s)))
 
 pub judge-returns-in-Parenthesis : goal.judge-returns-in-Parenthesis
 judge-returns-in-Parenthesis t c = λ types s.
     told types (expression_tree c.args.e.now) _ c.judge.result (ap expression_tree c.in-Parenthesis.is)
-    (subst (λ (x : code.Expression). Judges (elaborated types (expression_tree x)) c.judge.result) c.deref.ensures (c.judge.ensures types s))
+    (subst (λ (x : code.Expression). Judges (elaborated types (expression_tree x)) c.judge.result) c.deref-in-Parenthesis.ensures (c.judge.ensures types s))
 
 pub judge-returns-in_ok-x-in-Sign : goal.judge-returns-in_ok-x-in-Sign
 judge-returns-in_ok-x-in-Sign t c = λ types s.

@@ -3,7 +3,7 @@ use Rattle.std.specs.Option.{option_map}
 use Rattle.ds2_grammar.specs.Parsers.{Read, to}
 use Rattle.ds2_tree.specs.Statements.{Counted}
 use Rattle.ds2_tree.specs.ExpressionViews.{expression_tree}
-use Rattle.ds2_tree.specs.StatementViews.{control_tree}
+use Rattle.ds2_tree.specs.StatementViews.{counted_tree, control_tree}
 use Rattle.ds2_parse_rules.specs.GrammarTokens.{mark_rule, word_rule}
 use Rattle.ds2_parse_rules.specs.ExpressionGrammar.{expression}
 use Rattle.ds2_parse_rules.specs.StatementGrammar.{step_of}
@@ -46,3 +46,4 @@ returns-clause-exact c m lt =
     let end = c.args.end in let n = c.args.levels in let ts = c.args.tokens.now in
     read_5 (λ x. Counted c.args.variable x.0 x.1.0 x.1.1.0 x.1.1.1.0 (step_of x.1.1.1.1)) (mark_rule (codes "=")) (expression m n) (word_rule (codes "to")) (expression m n) (step_rule (expression m n)) ts c.in_ok-equals.equals c.in_ok-equals.rest.now c.in_ok-equals.ensures.exact (expression_tree c.in_ok-start.start) c.in_ok-start.rest.now (c.in_ok-start.ensures.exact m (omega (arith, lt, c.in_ok-equals.ensures.shorter))) c.in_ok-to_keyword.to_keyword c.in_ok-to_keyword.rest.now c.in_ok-to_keyword.ensures.exact (expression_tree c.in_ok-stop.stop) c.in_ok-stop.rest.now (c.in_ok-stop.ensures.exact m (omega (arith, lt, c.in_ok-equals.ensures.shorter, c.in_ok-start.ensures.shorter, c.in_ok-to_keyword.ensures.shorter))) (option_map step_parts c.in_ok-step.step) c.in_ok-step.rest.now (c.in_ok-step.ensures.exact m (omega (arith, lt, c.in_ok-equals.ensures.shorter, c.in_ok-start.ensures.shorter, c.in_ok-to_keyword.ensures.shorter, c.in_ok-stop.ensures.shorter)))
     ∙ ap (λ s. Read (Counted c.args.variable c.in_ok-equals.equals (expression_tree c.in_ok-start.start) c.in_ok-to_keyword.to_keyword (expression_tree c.in_ok-stop.stop) s) c.in_ok-step.rest.now) (sym (step_same c.in_ok-step.step))
+    ∙ ap (λ d. Read (counted_tree d) c.in_ok-step.rest.now) (sym c.in_ok-boxed.ensures.ok)

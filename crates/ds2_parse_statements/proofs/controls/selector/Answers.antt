@@ -1,6 +1,6 @@
-use Rattle.std.proofs.Common.{codes, Some, sym, ◌∙◌, arith}
+use Rattle.std.proofs.Common.{codes, Some, sym, ap, ◌∙◌, arith}
 use Rattle.std.specs.Option.{option_map}
-use Rattle.ds2_grammar.specs.Parsers.{first, seq, optional}
+use Rattle.ds2_grammar.specs.Parsers.{Read, first, seq, optional}
 use Rattle.ds2_tree.specs.ExpressionViews.{expression_tree}
 use Rattle.ds2_parse_rules.specs.GrammarTokens.{mark_rule, is_open_mark, enclosed}
 use Rattle.ds2_parse_rules.specs.ExpressionGrammar.{expression}
@@ -37,3 +37,4 @@ returns-then-at_mark-clause-exact c m lt =
     let end = c.args.end in let n = c.args.levels in let ts = c.args.tokens.now in
     optional_read is_open_mark (enclosed (expression m n)) ts (open_is (first ts) ∙ (sym c.at_mark.ensures ∙ c.if-at_mark.true)) (Some (c.in_ok-opening.opening, (expression_tree c.in_ok-value.value, c.in_ok-closing.closing))) c.in_ok-closing.rest.now
     (three_read Some (mark_rule (codes "(")) (expression m n) (mark_rule (codes ")")) ts c.in_ok-opening.opening c.in_ok-opening.rest.now c.in_ok-opening.ensures.exact (expression_tree c.in_ok-value.value) c.in_ok-value.rest.now (c.in_ok-value.ensures.exact m (omega (arith, lt, c.in_ok-opening.ensures.shorter))) c.in_ok-closing.closing c.in_ok-closing.rest.now c.in_ok-closing.ensures.exact)
+    ∙ ap (λ e. Read (Some (c.in_ok-opening.opening, (expression_tree e, c.in_ok-closing.closing))) c.in_ok-closing.rest.now) (sym c.in_ok-boxed.ensures.ok)

@@ -13,7 +13,7 @@ use Rattle.ds2_parse_statements.specs.ExpressionParts.{compared_rule, unary_rule
 use Rattle.ds2_parse_rules.proofs.RuleSteps.{exit, loop_step, loop_fails, loop_ends, none_yet}
 use Rattle.ds2_parse_rules.proofs.FrontSteps.{fronted_when, comma_is}
 use Rattle.ds2_parse_statements.proofs.TreeSteps.{operands_grown, further_grown, further_all}
-use Rattle.ds2_parse_statements.proofs.ExpressionSteps.{expression_at, expression_stops, chain_further_stops, link_stops, link_read, compared_is, right_stops, right_read, not_compared, unsigned, sign_deep, sign_stops, sign_read, affirmed, not_deep, not_stops, not_read, null_stops, null_read, name_read, paren_read, call_stops, call_read, word_stops, member_stops, member_read, there_stops, inner_stops, closing_stops, closed_read, inner_arguments, list_stops, list_read, value_list, first_stops, first_read, further_stops, further_read}
+use Rattle.ds2_parse_statements.proofs.ExpressionSteps.{expression_at, expression_stops, chain_further_stops, chain_alone, link_stops, link_read, compared_is, right_stops, right_read, not_compared, unsigned, sign_deep, sign_stops, sign_read, affirmed, not_deep, not_stops, not_read, null_stops, null_read, name_read, paren_read, call_stops, call_read, word_stops, member_stops, member_read, there_stops, inner_stops, closing_stops, closed_read, inner_arguments, list_stops, list_read, value_list, first_stops, first_read, further_stops, further_read}
 use Rattle.ds2_parse_statements.proofs.expressions.+expressions.Goals as goal
 
 pub argument_list-returns-in_err-arguments-clause-exact : goal.argument_list-returns-in_err-arguments-clause-exact
@@ -64,6 +64,12 @@ chain-returns-in_err-further-clause-exact t c m lt =
     exit end (λ x. (expression_tree x.0, x.1.now)) c.from_residual-in_err-further.result e (operators m c.args.kind p ts) c.from_residual-in_err-further.ensures.1
     (chain_further_stops m c.args.kind p ts end e (expression_tree c.in_ok-first.first) c.in_ok-first.rest.now (c.in_ok-first.ensures.exact m lt) (c.in_err-further.ensures.exact m (omega (arith, lt, c.in_ok-first.ensures.shorter))))
 
+pub chain-returns-then-not-at_operator-clause-exact : goal.chain-returns-then-not-at_operator-clause-exact
+chain-returns-then-not-at_operator-clause-exact t c m lt =
+    let n = c.args.levels in let ts = c.args.tokens.now in let r = c.in_ok-first.rest.now in
+    chain_alone m c.args.kind (operand_rule m n c.args.kind) ts (expression_tree c.in_ok-first.first) r (c.in_ok-first.ensures.exact m lt)
+    (omega (arith, lt, c.in_ok-first.ensures.shorter)) (sym c.at_operator.ensures ∙ c.if-not-at_operator.true)
+
 pub operands-loop-operator-init : goal.operands-loop-operator-init
 operands-loop-operator-init t c = record {
   same = λ m lt. (m, lt, none_yet (many_of m (is_operator c.args.kind) (link_rule m c.args.levels c.args.kind) c.args.tokens.now) (map operand_pair c.new-found.result) (ap (map operand_pair) c.new-found.ensures));
@@ -91,8 +97,8 @@ operands-loop-operator-preserved t c =
           (c.in_ok-operator.operator, expression_tree c.in_ok-value.value) c.in_ok-value.after.now
           (link_read (is_operator kind) p rest c.in-Some.operator.now c.in-Some.after.now c.in-Some.ensures c.in_ok-operator.operator c.in_ok-operator.ensures (expression_tree c.in_ok-value.value) c.in_ok-value.after.now
           (c.in_ok-value.ensures.exact m (omega (arith, lt, short, ap length c.in-Some.ensures.0))))
-          (omega (arith, c.in_ok-value.ensures.shorter, ap length c.in-Some.ensures.0)) (λ l. map operand_pair c.push.new.self ++ l)
-          (operands_grown c.loop-operator.found c.push.new.self (record { operator = c.in_ok-operator.operator; value = c.in_ok-value.value }) c.in_ok-push.ensures.ok);
+          (omega (arith, c.in_ok-value.ensures.shorter, ap length c.in-Some.ensures.0)) (λ l. map operand_pair c.push_sparing.new.self ++ l)
+          (operands_grown c.loop-operator.found c.push_sparing.new.self (record { operator = c.in_ok-operator.operator; value = c.in_ok-value.value }) c.in_ok-push_sparing.ensures.ok);
       shorter = omega (arith, short, c.in_ok-value.ensures.shorter, ap length c.in-Some.ensures.0);
     }
 
@@ -188,12 +194,12 @@ primary-returns-in_err-arguments-clause-exact t c m lt =
     exit end (λ x. (expression_tree x.0, x.1.now)) c.from_residual-in_err-arguments.result e (primary args paren ts) c.from_residual-in_err-arguments.ensures.1
     (null_stops args paren ts c.in_default.ensures c.in-Some-null_at.keyword.now c.in-Some-null_at.rest.now c.in-Some-null_at.ensures end e (c.in_err-arguments.ensures.exact m (omega (arith, lt, ap length c.in-Some-null_at.ensures.0))))
 
-pub primary-returns-in-Some-null_at-clause-exact : goal.primary-returns-in-Some-null_at-clause-exact
-primary-returns-in-Some-null_at-clause-exact t c m lt =
+pub primary-returns-in_ok-null-clause-exact : goal.primary-returns-in_ok-null-clause-exact
+primary-returns-in_ok-null-clause-exact t c m lt =
     let end = c.args.end in let n = c.args.levels in let ts = c.args.tokens.now in
     let args = argument_list m n in let paren = parenthesis_rule m n in
     null_read args paren ts c.in_default.ensures c.in-Some-null_at.keyword.now c.in-Some-null_at.rest.now c.in-Some-null_at.ensures c.in_ok-keyword.keyword c.in_ok-keyword.ensures (option_map argument_parts c.in_ok-arguments.arguments) c.in_ok-arguments.rest.now (c.in_ok-arguments.ensures.exact m (omega (arith, lt, ap length c.in-Some-null_at.ensures.0)))
-    ∙ ap (λ e. Read e c.in_ok-arguments.rest.now) (sym c.null.ensures)
+    ∙ ap (λ e. Read e c.in_ok-arguments.rest.now) (sym c.in_ok-null.ensures)
 
 pub primary-returns-in_ok-copy-in-Some-name_at-clause-exact : goal.primary-returns-in_ok-copy-in-Some-name_at-clause-exact
 primary-returns-in_ok-copy-in-Some-name_at-clause-exact t c m lt =
@@ -216,12 +222,12 @@ named-returns-in_err-arguments-clause-exact t c m lt =
     exit end (λ x. (expression_tree x.0, x.1.now)) c.from_residual.result e (to (named_of name) (name_tail args) ts) c.from_residual.ensures.1
     (call_stops name args ts (sym c.at_mark.ensures ∙ c.if-at_mark.true) end e (c.in_err-arguments.ensures.exact m lt))
 
-pub named-returns-then-at_mark-clause-exact : goal.named-returns-then-at_mark-clause-exact
-named-returns-then-at_mark-clause-exact t c m lt =
+pub named-returns-in_ok-call-clause-exact : goal.named-returns-in_ok-call-clause-exact
+named-returns-in_ok-call-clause-exact t c m lt =
     let end = c.args.end in let n = c.args.levels in let ts = c.args.tokens.now in
     let args = argument_list m n in let name = c.args.name in
     call_read name args ts (sym c.at_mark.ensures ∙ c.if-at_mark.true) (argument_parts c.in_ok-arguments.arguments) c.in_ok-arguments.rest.now (c.in_ok-arguments.ensures.exact m lt)
-    ∙ ap (λ e. Read e c.in_ok-arguments.rest.now) (sym c.call.ensures)
+    ∙ ap (λ e. Read e c.in_ok-arguments.rest.now) (sym c.in_ok-call.ensures)
 
 pub named-returns-in_err-word-in-Some-clause-exact : goal.named-returns-in_err-word-in-Some-clause-exact
 named-returns-in_err-word-in-Some-clause-exact t c m lt =
@@ -239,12 +245,12 @@ named-returns-in_err-arguments-in-Some-clause-exact t c m lt =
     exit end (λ x. (expression_tree x.0, x.1.now)) c.from_residual-in_err-arguments-in-Some.result e (to (named_of name) (name_tail args) ts) c.from_residual-in_err-arguments-in-Some.ensures.1
     (member_stops name args ts (sym c.at_mark.ensures ∙ c.if-at_mark.false) c.in-Some.dot c.in-Some.rest.now c.in-Some.ensures.exact c.in_ok-word-in-Some.word c.in_ok-word-in-Some.rest.now c.in_ok-word-in-Some.ensures.exact end e (c.in_err-arguments-in-Some.ensures.exact m (omega (arith, lt, c.in-Some.ensures.shorter, c.in_ok-word-in-Some.ensures.shorter))))
 
-pub named-returns-in_ok-arguments-in-Some-clause-exact : goal.named-returns-in_ok-arguments-in-Some-clause-exact
-named-returns-in_ok-arguments-in-Some-clause-exact t c m lt =
+pub named-returns-in_ok-member-in-Some-clause-exact : goal.named-returns-in_ok-member-in-Some-clause-exact
+named-returns-in_ok-member-in-Some-clause-exact t c m lt =
     let end = c.args.end in let n = c.args.levels in let ts = c.args.tokens.now in
     let args = argument_list m n in let name = c.args.name in
     member_read name args ts (sym c.at_mark.ensures ∙ c.if-at_mark.false) c.in-Some.dot c.in-Some.rest.now c.in-Some.ensures.exact c.in_ok-word-in-Some.word c.in_ok-word-in-Some.rest.now c.in_ok-word-in-Some.ensures.exact (option_map argument_parts c.in_ok-arguments-in-Some.arguments) c.in_ok-arguments-in-Some.rest.now (c.in_ok-arguments-in-Some.ensures.exact m (omega (arith, lt, c.in-Some.ensures.shorter, c.in_ok-word-in-Some.ensures.shorter)))
-    ∙ ap (λ e. Read e c.in_ok-arguments-in-Some.rest.now) (sym c.member.ensures)
+    ∙ ap (λ e. Read e c.in_ok-arguments-in-Some.rest.now) (sym c.in_ok-member-in-Some.ensures)
 
 pub optional_arguments-returns-in_err-arguments-clause-exact : goal.optional_arguments-returns-in_err-arguments-clause-exact
 optional_arguments-returns-in_err-arguments-clause-exact t c m lt =
@@ -266,7 +272,7 @@ values-returns-clause-exact t c m lt =
     let end = c.args.end in let n = c.args.levels in let ts = c.args.tokens.now in
     let E = expression m n in let r = c.in_ok-value.rest.now in let item : code_argument.Argument = record { comma = None; value = c.in_ok-value.value } in
     subst (Gives end (λ x. (arguments_of x.0, x.1.now)) c.further_values.result)
-    (ap (λ xs. and_then (many_of m is_comma_mark (seq (mark_rule (codes ",")) E) r) (λ l. pure (and_further (arguments_of xs) l))) (c.in_ok-push.ensures.ok ∙ ap (λ xs. xs ++ item ∷ []) c.new-found.ensures)
+    (ap (λ xs. and_then (many_of m is_comma_mark (seq (mark_rule (codes ",")) E) r) (λ l. pure (and_further (arguments_of xs) l))) (c.in_ok-push_sparing.ensures.ok ∙ ap (λ xs. xs ++ item ∷ []) c.new-found.ensures)
     ∙ sym (first_read m E ts (expression_tree c.in_ok-value.value) r (expression_at m n ts ∙ c.in_ok-value.ensures.exact m lt)))
     (c.further_values.ensures.exact m (omega (arith, lt, c.in_ok-value.ensures.shorter)))
 

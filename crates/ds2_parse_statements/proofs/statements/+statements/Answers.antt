@@ -418,7 +418,7 @@ else_parts-loop-alloc-preserved t c =
     record {
       same = λ m lt k lk.
           let inv = c.loop-alloc.invariant.same m lt k lk in let rest = c.loop-alloc.rest.now in
-          arm_read (expression m n) (within_rule m n) (to otherwise_of (else_rule k (expression m n) (within_rule m n)) ts) c.loop-alloc.others rest inv.0 inv.2 (sym c.at_word.ensures ∙ c.loop-alloc-test.true) c.in_ok-else_keyword.else_keyword c.in_ok-else_keyword.after.now c.in_ok-else_keyword.ensures.exact (sym c.at_word-in-loop-alloc.ensures ∙ c.if-not-at_word.false) (omega (arith, inv.1, c.in_ok-else_keyword.ensures.shorter)) part c.push.new.self (ap (λ (x : code_else_if.ElseIf). x.else_keyword) c.else_if.ensures) c.in_ok-push.ensures.ok c.in_ok-next.after.now
+          arm_read (expression m n) (within_rule m n) (to otherwise_of (else_rule k (expression m n) (within_rule m n)) ts) c.loop-alloc.others rest inv.0 inv.2 (sym c.at_word.ensures ∙ c.loop-alloc-test.true) c.in_ok-else_keyword.else_keyword c.in_ok-else_keyword.after.now c.in_ok-else_keyword.ensures.exact (sym c.at_word-in-loop-alloc.ensures ∙ c.if-not-at_word.false) (omega (arith, inv.1, c.in_ok-else_keyword.ensures.shorter)) part c.push_sparing.new.self (ap (λ (x : code_else_if.ElseIf). x.else_keyword) c.else_if.ensures) c.in_ok-push_sparing.ensures.ok c.in_ok-next.after.now
           (c.in_ok-next.ensures.exact m (omega (arith, lt, short, c.in_ok-else_keyword.ensures.shorter))
           ∙ ap (λ (x : code_else_if.ElseIf). Read (x.keyword, (expression_tree x.condition, (x.then_keyword, statement_tree x.then))) c.in_ok-next.after.now) (sym c.else_if.ensures))
           c.in_ok-next.ensures.shorter;

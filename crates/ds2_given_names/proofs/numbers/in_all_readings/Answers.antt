@@ -1,0 +1,12 @@
+use Rattle.std.proofs.Common.{◌+◌, drop, arith}
+use Rattle.std.proofs.lemmas.Grind.{common_steps}
+use Rattle.std.specs.Prelude.{map}
+use Rattle.ds2_tree.specs.UnitViews.{global_tree}
+use Rattle.ds2_given_names.specs.TypeNumbers.{bad_in_reading}
+use Rattle.ds2_scope.proofs.CollectedLemmas.{one_more_global}
+use Rattle.ds2_given_names.proofs.numbers.in_all_readings.Goals as goal
+
+pub globals-preserved : goal.globals-preserved
+globals-preserved c =
+    let k = one_more_global bad_in_reading c.globals.found (global_tree c.global-item.result) (map global_tree (drop (c.globals.global-index + 1) c.args.globals.now)) in
+    grind (arith, common_steps, k, c.globals.invariant)

@@ -1,0 +1,30 @@
+//! Units of codes, run in the machine.
+//!
+//! Standard input holds cases, an empty line between two of them. A case is a code, as `ds2_code_text` tells, and lines that begin with
+//! `> `:
+//!
+//! - `> open PROGRAM PARAMETERS`, the program whose units are run (0 for the data program, k for the k-th thread program below it), and
+//!   the number of parameters of the thread program that it reads from; `open 0 0` where no line says it;
+//! - `> table` and below it `> row VALUES`, the tables of the hash objects that name one, in their order; values have `|` between them;
+//! - `> init BUDGET`, `> run BUDGET`, `> term BUDGET`, a unit; `> run BUDGET SLOT INTEGER` sets a slot by its load;
+//! - `> parameters`, what was set for the parameters of the thread program.
+//!
+//! Standard output gets each line of the case again, and below each unit its ending, with the budget left and the number of instructions,
+//! the rows and lines that it wrote, and whether the machine is spent. A block that begins with `##` is a heading.
+#![tactic(auto)]
+
+mod case;
+mod lines;
+mod units;
+
+use crate::case::run_case;
+use std::io;
+
+fn main(rt: HostRuntime) -> anyhow::Result<()> {
+    let input = io::read_to_string(rt.alloc(), rt.reader())?;
+    for block in input.as_str().split("\n\n") {
+        run_case(&rt, block.trim_end())?;
+        println!(rt; "")?;
+    }
+    Ok(())
+}

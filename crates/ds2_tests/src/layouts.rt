@@ -1,0 +1,213 @@
+//! The layouts of a data program and of a thread program, once with ample memory.
+use ds2_base::{List, Name, OutOfMemory, Place, Stop};
+use ds2_layout::{Layout, LayoutSlot, SlotRole, lay_out, lay_out_thread};
+use ds2_meaning::{
+    ByVariable, Global as Named, Input, MentionedTable, OutputColumn, OutputTable, Program,
+    Reading, SystemMethod, TypedData, TypedThread, Variable,
+};
+use ds2_value::{Column, Ty};
+use std::alloc::Global;
+use std::test::Fail;
+
+fn name(alloc: Global, word: &str) -> Result<Name, OutOfMemory> {
+    match Name::new(alloc, word) {
+        Ok(name) => Ok(name),
+        Err(Stop::Refused(_)) => Err(OutOfMemory),
+        Err(Stop::OutOfMemory) => Err(OutOfMemory),
+    }
+}
+
+// A BIGINT variable.
+fn variable(alloc: Global, word: &str) -> Result<Variable, OutOfMemory> {
+    Ok(Variable {
+        name: name(alloc, word)?,
+        ty: Ty::BigInt,
+    })
+}
+
+// What the two programs have in common: `kept` and `cleared` are declared, of which the first is retained, and the second is written.
+#[derive(Drop)]
+struct CommonParts {
+    declared: List<Variable>,
+    retained: List<Name>,
+    outputs: List<OutputTable>,
+}
+
+fn parts(alloc: Global) -> Result<CommonParts, OutOfMemory> {
+    let mut declared = List::new(alloc);
+    declared.push(variable(alloc, "kept")?)?;
+    declared.push(variable(alloc, "cleared")?)?;
+    let mut retained = List::new(alloc);
+    retained.push(name(alloc, "kept")?)?;
+    let mut outputs = List::new(alloc);
+    outputs.push(output(alloc, "cleared")?)?;
+    Ok(CommonParts {
+        declared,
+        retained,
+        outputs,
+    })
+}
+
+// A program of these parts, with a `run` that does nothing.
+fn program(
+    alloc: Global,
+    parts: CommonParts,
+    columns: List<Variable>,
+    reading: Reading,
+) -> Program {
+    let CommonParts {
+        declared,
+        retained,
+        outputs,
+    } = parts;
+    let run = SystemMethod {
+        place: Place::start(),
+        locals: List::new(alloc),
+        body: List::new(alloc),
+    };
+    Program {
+        declared,
+        columns,
+        retained,
+        instances: List::new(alloc),
+        hashes: List::new(alloc),
+        iterators: List::new(alloc),
+        threads: List::new(alloc),
+        reading,
+        outputs,
+        methods: List::new(alloc),
+        init: None,
+        run: Some(run),
+        term: None,
+    }
+}
+
+// One variable.
+fn variables(alloc: Global, word: &str) -> Result<List<Variable>, OutOfMemory> {
+    let mut variables = List::new(alloc);
+    variables.push(variable(alloc, word)?)?;
+    Ok(variables)
+}
+
+// `set s(in=here); by k;` over a table with the column `k`.
+fn reading(alloc: Global) -> Result<Reading, OutOfMemory> {
+    let by = ByVariable {
+        name: name(alloc, "k")?,
+        is_descending: false,
+    };
+    let mut bys = List::new(alloc);
+    bys.push(by)?;
+    let mut inputs = List::new(alloc);
+    inputs.push(input(alloc)?)?;
+    Ok(Reading::Set { inputs, bys })
+}
+
+fn input(alloc: Global) -> Result<Input, OutOfMemory> {
+    let column = Column {
+        name: name(alloc, "k")?,
+        ty: Ty::BigInt,
+    };
+    let mut columns = List::new(alloc);
+    columns.push(column)?;
+    let table = MentionedTable {
+        name: name(alloc, "s")?,
+        maker: 0,
+    };
+    Ok(Input {
+        table,
+        present: Some(name(alloc, "here")?),
+        columns,
+    })
+}
+
+// An output whose one column has the value of a variable.
+fn output(alloc: Global, source: &str) -> Result<OutputTable, OutOfMemory> {
+    let column = OutputColumn {
+        name: name(alloc, "renamed")?,
+        source: name(alloc, source)?,
+        ty: Ty::BigInt,
+    };
+    let mut columns = List::new(alloc);
+    columns.push(column)?;
+    Ok(OutputTable {
+        name: name(alloc, "o")?,
+        overwrites: false,
+        columns,
+    })
+}
+
+// The data program, with a reading statement and its column.
+fn data_layout(alloc: Global) -> Result<Layout, OutOfMemory> {
+    let columns = variables(alloc, "k")?;
+    let parts = parts(alloc)?;
+    let reading = reading(alloc)?;
+    let typed = TypedData {
+        program: program(alloc, parts, columns, reading),
+        stage: None,
+    };
+    lay_out(alloc, &typed)
+}
+
+// The thread program, with a parameter.
+fn thread_layout(alloc: Global) -> Result<Layout, OutOfMemory> {
+    let name = name(alloc, "t")?;
+    let parameters = variables(alloc, "n")?;
+    let parts = parts(alloc)?;
+    let typed = TypedThread {
+        name,
+        parameters,
+        program: program(alloc, parts, List::new(alloc), Reading::Once),
+        stage: None,
+    };
+    lay_out_thread(alloc, &typed)
+}
+
+// What a slot is for, and the name of its variable.
+fn said(slot: &LayoutSlot) -> (&str, &str) {
+    match &slot.global {
+        Named::Named(name) => ("variable", name.as_str()),
+        Named::First(name) => ("first", name.as_str()),
+        Named::Last(name) => ("last", name.as_str()),
+        Named::Present(name) => ("in", name.as_str()),
+        Named::Parameter(name) => ("parameter", name.as_str()),
+    }
+}
+
+// Whether these are the slots, each a BIGINT of the program itself.
+fn are(slots: &[LayoutSlot], wanted: &[(&str, &str, SlotRole)]) -> bool {
+    let mut hold = slots.len() == wanted.len();
+    for (slot, (sort, name, role)) in slots.iter().zip(wanted) {
+        hold = hold && said(slot) == (*sort, *name) && slot.role == *role;
+        hold = hold && slot.ty == Ty::BigInt && slot.instance.is_none();
+    }
+    hold
+}
+
+#[test]
+fn lays_out_a_data_program(rt: HostRuntime) -> Result<(), Fail> {
+    let layout = data_layout(rt.alloc())?;
+    let wanted = [
+        ("variable", "kept", SlotRole::Kept),
+        ("variable", "cleared", SlotRole::Cleared),
+        ("variable", "k", SlotRole::Column),
+        ("in", "here", SlotRole::Flag),
+        ("first", "k", SlotRole::Flag),
+        ("last", "k", SlotRole::Flag),
+    ];
+    assert!(rt; are(layout.slots.as_slice(), &wanted));
+    let projection = layout.projections.get(0).ok_or("no projection")?;
+    assert!(rt; projection.as_slice() == [1].as_slice() && layout.projections.len() == 1);
+    Ok(())
+}
+
+#[test]
+fn lays_out_a_thread_program(rt: HostRuntime) -> Result<(), Fail> {
+    let layout = thread_layout(rt.alloc())?;
+    let wanted = [
+        ("variable", "kept", SlotRole::Kept),
+        ("variable", "cleared", SlotRole::Cleared),
+        ("parameter", "n", SlotRole::Kept),
+    ];
+    assert!(rt; are(layout.slots.as_slice(), &wanted));
+    Ok(())
+}
