@@ -1,0 +1,5 @@
+pub mod TypeBounds
+pub mod OperandLeads
+pub mod RunPieces
+pub mod PlainStatements
+pub mod StatementOperands

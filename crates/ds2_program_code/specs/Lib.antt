@@ -1,0 +1,14 @@
+pub mod CodeConstants
+pub mod CodeMethods
+pub mod CodeParts
+pub mod ProgramCode
+pub mod ProgramCodeLaws
+pub mod ProgramCodeExamples
+pub mod LoadSettings
+pub mod ProgramRuns
+pub mod ValidParts
+pub mod StageRows
+pub mod LayoutsFit
+pub mod TypedCode
+pub mod ValidProgram
+pub mod Opening
