@@ -1,0 +1,12 @@
+pub mod Bits
+pub mod FirstLeft
+pub mod FlagLemmas
+pub mod Flagged
+pub mod Keys
+pub mod Parts
+pub mod Ranges
+pub mod RowCounts
+pub mod RowPlaces
+pub mod SortedNumbers
+pub mod Starts
+pub mod Unique

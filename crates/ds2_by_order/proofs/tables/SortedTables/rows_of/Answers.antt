@@ -1,0 +1,17 @@
+use Rattle.std.proofs.Common.{◌≡◌, ◌∙◌, [], length, sym, ap, subst}
+use Rattle.std.specs.Prelude.{get_or}
+use Rattle.std.proofs.lemmas.Option.{get_or_from_slice_get}
+use Rattle.ds2_by_order.specs.KeyOrder.{InputKeys}
+use Rattle.ds2_by_order.proofs.Keys.{no_rows}
+use Rattle.ds2_by_order.proofs.tables.SortedTables.rows_of.Goals as goal
+
+pub returns-in-None : goal.returns-in-None
+returns-in-None c =
+    let P : InputKeys → Type 0 = λ k. 0 ≡ length (get_or k.tables c.args.table []) in
+    subst P c.self.view_is (no_rows c.self.inside.tables c.args.table (sym c.in-None.ensures))
+
+pub returns-in-Some : goal.returns-in-Some
+returns-in-Some c =
+    let P : InputKeys → Type 0 = λ k. c.len.result ≡ length (get_or k.tables c.args.table []) in
+    subst P c.self.view_is
+    (c.len.ensures ∙ ap length (sym (get_or_from_slice_get c.self.inside.tables c.args.table c.in-Some.keyed.now [] (sym c.in-Some.ensures))))

@@ -1,0 +1,7 @@
+pub mod CursorState
+pub mod GroupStarts
+pub mod KeyOrder
+pub mod LoadMeaning
+pub mod Places
+pub mod ReadingKeys
+pub mod RowsLeft

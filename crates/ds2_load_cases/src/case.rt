@@ -1,0 +1,115 @@
+//! One case.
+ghost use Rattle.std.specs.Prelude.{◌≤◌};
+ghost use Rattle.ds2_by_order.specs.CursorState.{group_count};
+
+use crate::lines::grain;
+use crate::loads::line_of;
+use crate::mistake::Mistake;
+use crate::statement::{Statement, statement_of};
+use ds2_base::OutOfMemory;
+use ds2_reading::Load;
+use ds2_rows::SetCursor;
+use std::alloc::{AllocError, Global};
+use std::io;
+
+// How many tables and BY variables a statement has.
+#[derive(Clone, Copy)]
+struct Width {
+    tables: usize,
+    bys: usize,
+}
+
+// The cursor of a statement.
+fn open(alloc: Global, statement: &Statement, grain: u32) -> Result<SetCursor, Mistake> {
+    if !statement.reading.fits(&statement.tables) {
+        return Err(Mistake::NoFit);
+    }
+    if grain as usize > statement.reading.bys.len() {
+        return Err(Mistake::GrainTooFine);
+    }
+    Ok(SetCursor::open(alloc, &statement.reading, &statement.tables, grain)?)
+}
+
+// A load behind some words, or that there is none.
+fn show_load(rt: &HostRuntime, words: &str, load: Option<Load>, width: Width) -> io::Result<()> {
+    let Some(load) = load else {
+        return println!(rt; "    {words}none");
+    };
+    match line_of(rt.alloc(), &load, width.tables, width.bys) {
+        Ok(line) => println!(rt; "    {words}{line}"),
+        Err(AllocError) => println!(rt; "    want of memory"),
+    }
+}
+
+// All loads, and that there is none behind the last one.
+fn show_loads(rt: &HostRuntime, cursor: &mut SetCursor, width: Width) -> io::Result<()> {
+    for _ in 0..u64::MAX {
+        let load = cursor.next_load();
+        if load.is_none() {
+            break;
+        }
+        show_load(rt, "", load, width)?;
+    }
+    show_load(rt, "", cursor.next_load(), width)
+}
+
+// Where the groups begin, and where the loads end.
+fn show_starts(rt: &HostRuntime, cursor: &SetCursor) -> io::Result<()> {
+    let groups = cursor.groups();
+    for g in 0..groups {
+        let start = cursor.group_start(g);
+        println!(rt; "    group at {start}")?;
+    }
+    let end = cursor.group_start(groups);
+    println!(rt; "    end at {end}")
+}
+
+// The load that a copy gives, set before a group.
+fn load_from(alloc: Global, cursor: &SetCursor, g: u64) -> Result<Option<Load>, OutOfMemory>
+    requires { g ≤ group_count cursor.now }
+{
+    let mut copy = cursor.copy(alloc)?;
+    copy.seek(g);
+    Ok(copy.next_load())
+}
+
+fn show_from(rt: &HostRuntime, cursor: &SetCursor, g: u64, width: Width) -> io::Result<()>
+    requires { g ≤ group_count cursor.now }
+{
+    match load_from(rt.alloc(), cursor, g) {
+        Ok(load) => show_load(rt, "from there ", load, width),
+        Err(OutOfMemory) => println!(rt; "    want of memory"),
+    }
+}
+
+// The first load of each group, and that there is none behind the last one.
+fn show_groups(rt: &HostRuntime, cursor: &SetCursor, width: Width) -> io::Result<()> {
+    let groups = cursor.groups();
+    for g in 0..groups {
+        show_from(rt, cursor, g, width)?;
+    }
+    show_from(rt, cursor, groups, width)
+}
+
+fn cursor_of(alloc: Global, block: &str) -> Result<(SetCursor, Width), Mistake> {
+    let statement = statement_of(alloc, block)?;
+    let cursor = open(alloc, &statement, grain(block)?)?;
+    let width = Width {
+        tables: statement.reading.tables.len(),
+        bys: statement.reading.bys.len(),
+    };
+    Ok((cursor, width))
+}
+
+/// Prints the loads of a case, and its groups.
+pub fn run_case(rt: &HostRuntime, block: &str) -> io::Result<()> {
+    match cursor_of(rt.alloc(), block) {
+        Err(mistake) => println!(rt; "    {mistake}"),
+        Ok((cursor, width)) => {
+            let mut cursor = cursor;
+            show_loads(rt, &mut cursor, width)?;
+            show_starts(rt, &cursor)?;
+            show_groups(rt, &cursor, width)
+        }
+    }
+}

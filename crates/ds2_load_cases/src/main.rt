@@ -1,0 +1,35 @@
+//! The loads of `set` over small tables.
+//!
+//! Standard input holds cases, an empty line between two of them. A case is a statement and its tables:
+//!
+//! - `by NAME` and `by NAME descending`, its BY variables in order;
+//! - `grain P`, by how many of them loads are in one group; 0 where no line says it;
+//! - `table`, and below it a table as a CSV file has it.
+//!
+//! Standard output gets the case again and, below it, its loads in order: for each table the number of its row, from 1, or `-`; `fresh`
+//! where the load opens a key; the flags `first` and `last` of the BY variables and those of `in=`. Behind them stand the numbers of the
+//! loads that open groups, from 0, and that of all loads; then for each group, and behind the last one, the load that a copy of the
+//! cursor gives that was set there. A block that begins with `##` is a heading.
+#![tactic(auto)]
+
+mod case;
+mod lines;
+mod loads;
+mod mistake;
+mod statement;
+
+use crate::case::run_case;
+use std::io;
+
+fn main(rt: HostRuntime) -> anyhow::Result<()> {
+    let input = io::read_to_string(rt.alloc(), rt.reader())?;
+    for block in input.as_str().split("\n\n") {
+        let block = block.trim_end();
+        println!(rt; "{block}")?;
+        if !block.starts_with("##") {
+            run_case(&rt, block)?;
+        }
+        println!(rt; "")?;
+    }
+    Ok(())
+}

@@ -1,0 +1,5 @@
+pub mod GroupPlaces
+pub mod LoadMeans
+pub mod NextLoad
+pub mod Opening
+pub mod SetLoads

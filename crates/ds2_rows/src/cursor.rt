@@ -1,0 +1,122 @@
+//! The cursor over the loads of `set`.
+ghost use Rattle.std.specs.Prelude.{◌≡◌, ◌≤◌, IsTrue, IfOk, length};
+ghost use Rattle.std.specs.Option.{option_map};
+ghost use Rattle.ds2_table.specs.Loads.{set_loads};
+ghost use Rattle.ds2_reading.specs.ReadingFits.{reading_fits_tables};
+ghost use Rattle.ds2_by_order.specs.CursorState.{cursor_at_start, next_load_of, behind_next, group_count, start_of_group, before_group};
+ghost use Rattle.ds2_by_order.specs.LoadMeaning.{load_meaning};
+ghost use Rattle.ds2_by_order.specs.ReadingKeys.{directions_of, keys_of_reading};
+
+use crate::groups::group_places;
+use crate::row_load::next_load;
+use ds2_base::{List, OutOfMemory};
+use ds2_by_order::{Place, SortedTables};
+use ds2_reading::{Load, Reading, Tables};
+use std::alloc::Global;
+use std::marker::Model;
+
+/// A cursor over the loads of `set`. All its memory is taken at opening.
+#[derive(Drop)]
+pub struct SetCursor {
+    tables: SortedTables,
+    grain: u32,
+    place: Place,
+    // where each group begins, and behind the last one
+    groups: List<Place>,
+}
+
+impl Model for SetCursor {
+    ghost use Rattle.std.specs.Prelude.{length};
+    ghost use Rattle.ds2_table.specs.Loads.{set_loads};
+    ghost use Rattle.ds2_by_order.specs.CursorState.{Cursor};
+    ghost use Rattle.ds2_rows.specs.SetPlaces.{IsReady, StandAtGroups};
+
+    ghost Value = { Cursor };
+
+    ghost view = { λ c. record {
+      tables = length c.tables.tables;
+      bys = length c.tables.descending;
+      grain = c.grain;
+      loads = set_loads c.tables.descending c.tables.tables;
+      given = c.place.loads;
+    } };
+
+    ghost invariant = { λ c. IsReady c.tables c.place × StandAtGroups c.tables c.grain c.groups };
+}
+
+impl SetCursor {
+    /// Sorts the rows of the tables and finds where the groups of this grain begin.
+    pub fn open(
+        alloc: Global,
+        reading: &Reading,
+        tables: &Tables,
+        grain: u32,
+    ) -> Result<SetCursor, OutOfMemory>
+        requires fits { IsTrue (reading_fits_tables tables.now reading.now) }
+        requires grain { grain ≤ length reading.now.bys }
+        ensures { IfOk result (λ cursor. cursor
+            ≡ cursor_at_start (length reading.now.tables) (length reading.now.bys) grain
+            (set_loads (directions_of reading.now.bys) (keys_of_reading tables.now reading.now))) }
+    {
+        let tables = SortedTables::open(alloc, reading, tables)?;
+        let _ = tables.count_rows()?;
+        tables.have_keys();
+        let groups = group_places(alloc, &tables, grain as usize)?;
+        let place = Place::start();
+        Ok(SetCursor {
+            tables,
+            grain,
+            place,
+            groups,
+        })
+    }
+
+    /// The next load; None exactly behind the last one. Takes no memory.
+    pub fn next_load(&mut self) -> Option<Load>
+        ensures load { option_map (load_meaning self.old.tables self.old.bys) result ≡ next_load_of self.old }
+        ensures left { self.new ≡ behind_next self.old }
+    {
+        next_load(&self.tables, &mut self.place)
+    }
+
+    /// The number of groups: at grain p > 0 of loads with equal values of the first p BY variables, at grain 0 of loads.
+    pub fn groups(&self) -> u64
+        ensures { result ≡ group_count self.now }
+    {
+        (self.groups.len() - 1) as u64
+    }
+
+    /// The number of the load that opens a group, from 0; behind the last group the number of all loads.
+    pub fn group_start(&self, g: u64) -> u64
+        requires { g ≤ group_count self.now }
+        ensures { result ≡ start_of_group self.now g }
+    {
+        match self.groups.get(g as usize) {
+            None => unreachable!(),
+            Some(place) => place.loads as u64,
+        }
+    }
+
+    /// Goes before the first load of a group, or behind the last load. Takes no memory.
+    pub fn seek(&mut self, g: u64)
+        requires { g ≤ group_count self.old }
+        ensures { self.new ≡ before_group g self.old }
+    {
+        match self.groups.get(g as usize) {
+            None => unreachable!(),
+            Some(place) => self.place = *place,
+        }
+    }
+
+    /// A cursor over the same loads, at the same load; the tables are shared.
+    pub fn copy(&self, alloc: Global) -> Result<SetCursor, OutOfMemory>
+        ensures { IfOk result (λ cursor. cursor ≡ self.now) }
+    {
+        Ok(SetCursor {
+            tables: self.tables.copy(alloc)?,
+            grain: self.grain,
+            place: self.place,
+            groups: self.groups.copy(alloc)?,
+        })
+    }
+}

@@ -1,0 +1,16 @@
+//! The loads of a `set` statement, one after the other.
+//!
+//! A [`SetCursor`] gives them lazily: it keeps for each table the numbers of its rows in BY order, and where its groups begin. A
+//! contract sees all loads, how many were given, and the grain of the groups.
+//!
+//! ```text
+//! let mut cursor = SetCursor::open(alloc, &reading, &tables, 1)?;
+//! while let Some(load) = cursor.next_load() { .. }
+//! ```
+#![tactic(auto)]
+
+mod cursor;
+mod groups;
+mod row_load;
+
+pub use cursor::SetCursor;
