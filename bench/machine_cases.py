@@ -93,8 +93,9 @@ def rescaled(d, p, s):
 
 
 def aligned(a, b):
+    """The units of both at the greater scale, at which each has room."""
     s = max(a.scale, b.scale)
-    return a.units * 10 ** (s - a.scale), b.units * 10 ** (s - b.scale), s
+    return within(a.units * 10 ** (s - a.scale), s).units, within(b.units * 10 ** (s - b.scale), s).units, s
 
 
 def remainder(a, b):
@@ -105,19 +106,17 @@ def remainder(a, b):
 
 
 def decimal_operation(name, a, b):
-    x, y, s = aligned(a, b)
-    if name == "DADD":
-        return within(x + y, s)
-    if name == "DSUB":
-        return within(x - y, s)
     if name == "DMUL":
         return within(a.units * b.units, a.scale + b.scale)
+    if name in ("DDIV", "DMOD") and b.units == 0:
+        raise Broken("DivideByZero")
+    if name == "DDIV":
+        s = max(6, a.scale, b.scale)
+        return within(halves_away(a.units * 10 ** (s + b.scale - a.scale), b.units), s)
+    x, y, s = aligned(a, b)
     if name == "DMOD":
         return within(remainder(x, y), s)
-    if y == 0:
-        raise Broken("DivideByZero")
-    s = max(6, s)
-    return within(halves_away(x * 10**s, y), s)
+    return within(x + y if name == "DADD" else x - y, s)
 
 
 def exact(v):

@@ -1,5 +1,5 @@
 -- What a number gives, and the groups of its run.
-use Rattle.std.proofs.Common.{◌≡◌, ℕ, ◌+◌, ◌-◌, ◌*◌, ◌<◌, ◌≤◌, List, [], Bool, false, sym, ap, subst, ◌∙◌, arith, inl, inr}
+use Rattle.std.proofs.Common.{◌≡◌, ℕ, ◌+◌, ◌-◌, ◌*◌, ◌<◌, ◌≤◌, List, [], ◌++◌, Bool, false, sym, ap, subst, ◌∙◌, arith, inl, inr}
 use Rattle.std.specs.List.{range_with_len}
 use Rattle.std.specs.Prelude.{min, if◌then◌else◌}
 use Rattle.std.proofs.lemmas.Bool.{cases_lt}
@@ -8,8 +8,10 @@ use Rattle.ds2_dealer.specs.declared.tickets.Tickets.{Tickets}
 use Rattle.ds2_dealer.specs.declared.tickets.Draw.{Draw}
 use Rattle.ds2_dealer.specs.declared.tickets.Draw.TheVariants.{Run, NoMore}
 use Rattle.ds2_dealer.specs.Runs.{run_count, run_groups}
-use Rattle.ds2_dealer.specs.Seats.{draw_of, groups_drawn, IsRun, IsInside}
+use Rattle.ds2_dealer.specs.Seats.{draw_of, groups_drawn, IsRun, IsInside, IsDrawStep}
+use Rattle.ds2_dealer.specs.Stage.{Draws, changed_at}
 use Rattle.ds2_dealer.proofs.Counts.{lt_true, lt_false}
+use Rattle.ds2_dealer.proofs.Legal.{is_legal_of}
 use Rattle.ds2_dealer.proofs.Runs.{enough, begins_inside}
 
 answered : (t : Tickets) (d : ℕ) → Bool → Draw
@@ -56,3 +58,10 @@ is_inside t d one is = elim (cases_lt d t.runs) [
       subst (IsInside t) (sym (ap {B = Draw} (answered t d) (lt_true d t.runs low))) (omega (arith, begins, one), omega arith))
   | inr high ↦ subst (IsInside t) (sym (ap {B = Draw} (answered t d) (lt_false d t.runs high))) tt
 ]
+
+-- a draw that gives the groups of its run is a step of the stage machine
+pub is_draw_step : (t : Tickets) (d : ℕ) (answer : Draw) → groups_drawn answer ≡ run_groups t.groups t.length d → IsDrawStep t d answer
+is_draw_step t d answer e workers w s there next = (
+  is_legal_of workers s (Draws w d) (there, sym next),
+  λ i. record { drawn = next i + 1; left = changed_at (λ gs. gs ++ sym e i) s.left w; handed = s.handed },
+)

@@ -79,10 +79,31 @@ no_fault : (o : Option ℕ) (es : List HandIn) → least_fault o es ≡ None →
 no_fault o [] e s = cc
 no_fault o (x ∷ xs) e s = elim (or_true x.faulted (some_fault xs) s) [ inl t ↦ head_or_rest o x xs e t | inr t ↦ no_fault (lesser_fault o x.group x.faulted) xs e t ]
 
+false_of : (b : Bool) → (b ≡ true → ⊥) → b ≡ false
+false_of true h = absurd (h refl)
+false_of false h = refl
+
+both_false : (a b : Bool) → (a || b) ≡ false → (a ≡ false) × (b ≡ false)
+both_false true b e = absurd (cc)
+both_false false b e = (refl, e)
+
+lesser_calm : (o : Option ℕ) (g : ℕ) (faulted : Bool) → faulted ≡ false → lesser_fault o g faulted ≡ o
+lesser_calm o g true e = absurd (cc)
+lesser_calm None g false e = refl
+lesser_calm (Some f) g false e = refl
+
+-- hand-ins without a fault leave the answer as it was
+calm : (o : Option ℕ) (es : List HandIn) → some_fault es ≡ false → least_fault o es ≡ o
+calm o [] e = refl
+calm o (x ∷ xs) e =
+    let b = both_false x.faulted (some_fault xs) e in
+    ap (λ (z : Option ℕ). least_fault z xs) (lesser_calm o x.group x.faulted b.0) ∙ calm o xs b.1
+
 pub fault_is_least : FaultIsLeast
 fault_is_least es = (
   λ f e. (none_below None f es e, elim (one_of None f es e) [ inl t ↦ absurd (cc) | inr t ↦ t ]),
-  no_fault None es,
+  λ e. false_of (some_fault es) (no_fault None es e),
+  calm None es,
 )
 
 rows_more : (es : List HandIn) (e : HandIn) → rows_handed (es ++ e ∷ []) ≡ rows_handed es + e.rows

@@ -1,5 +1,5 @@
 -- How the groups of a stage are cut into runs.
-use Rattle.std.specs.Prelude.{◌≡◌, ℕ, zero, suc, ◌+◌, ◌-◌, ◌*◌, ◌/◌, ◌≤◌, List, [], ◌∷◌, min, max, if◌then◌else◌, ◌==◌, nat_lt}
+use Rattle.std.specs.Prelude.{◌≡◌, ℕ, ◌+◌, ◌-◌, ◌*◌, ◌/◌, ◌≤◌, List, [], ◌∷◌, min, max, if◌then◌else◌, ◌==◌, nat_lt}
 use Rattle.std.specs.List.{range_with_len}
 
 -- How many groups a run has: a quarter of a worker's share, but at least 1 and at most 64.

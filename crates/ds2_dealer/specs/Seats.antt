@@ -1,5 +1,5 @@
 -- What the calls on tickets and their seats give.
-use Rattle.std.specs.Prelude.{◌≡◌, ℕ, ◌+◌, ◌-◌, ◌*◌, ◌<◌, ◌≤◌, List, [], min, if◌then◌else◌, nat_lt}
+use Rattle.std.specs.Prelude.{◌≡◌, ℕ, ◌+◌, ◌-◌, ◌*◌, ◌<◌, ◌≤◌, List, [], ◌++◌, true, min, if◌then◌else◌, nat_lt}
 use Rattle.std.specs.List.{range_with_len}
 use Rattle.ds2_dealer.specs.declared.rule.SeatView.{SeatView}
 use Rattle.ds2_dealer.specs.declared.tickets.Tickets.{Tickets}
@@ -7,6 +7,7 @@ use Rattle.ds2_dealer.specs.declared.tickets.TicketSeat.{TicketSeat}
 use Rattle.ds2_dealer.specs.declared.tickets.Draw.{Draw}
 use Rattle.ds2_dealer.specs.declared.tickets.Draw.TheVariants.{Run, NoMore}
 use Rattle.ds2_dealer.specs.Runs.{run_groups}
+use Rattle.ds2_dealer.specs.Stage.{Stage, Draws, changed_at, is_legal_step, after_step}
 use Rattle.ds2_dealer.specs.Rule.{shown, past, most_past, with_number, IsAbove, ShowsAll}
 
 -- What a seat shows.
@@ -37,6 +38,12 @@ abbrev pub IsInside : Tickets → Draw → Type 0
 IsInside t (Run from to) = (from < to) × (to ≤ t.groups)
 IsInside t (NoMore d) = Unit {0}
 
+-- A draw is one step of the stage machine: where as many runs were drawn as the number says, any party's draw of it is legal, and puts the groups that it gives behind those left for the party.
+abbrev pub IsDrawStep : Tickets → ℕ → Draw → Type 0
+IsDrawStep t number answer = (workers w : ℕ) (s : Stage) → w ≤ workers → s.drawn ≡ number →
+    (is_legal_step workers s (Draws w number) ≡ true)
+    × (after_step t.groups t.length workers s (Draws w number) ≡ record { drawn = number + 1; left = changed_at (λ gs. gs ++ groups_drawn answer) s.left w; handed = s.handed })
+
 -- One draw: a number above all that the seat showed, which is the next one where the seat shows all; the answer is what that number gives, the groups of its run.
 pub record HasDrawn (t : Tickets) (before after : SeatView) (answer : Draw) : Type 0 where
   pub number : ℕ
@@ -45,3 +52,4 @@ pub record HasDrawn (t : Tickets) (before after : SeatView) (answer : Draw) : Ty
   pub all : ShowsAll number before
   pub gives : answer ≡ draw_of t number
   pub groups : groups_drawn answer ≡ run_groups t.groups t.length number
+  pub step : IsDrawStep t number answer

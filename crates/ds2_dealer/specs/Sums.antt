@@ -1,5 +1,5 @@
 -- The sums over the hand-ins of a stage, and its least fault.
-use Rattle.std.specs.Prelude.{◌≡◌, ℕ, ◌+◌, ◌≤◌, length, List, [], ◌∷◌, Bool, true, Option, Some, None, ◌&&◌, if◌then◌else◌, ◌==◌, nat_lt}
+use Rattle.std.specs.Prelude.{◌≡◌, ℕ, ◌+◌, ◌≤◌, length, List, [], ◌∷◌, Bool, true, false, Option, Some, None, ◌&&◌, if◌then◌else◌, ◌==◌, nat_lt}
 use Rattle.std.specs.List.{list_any}
 use Rattle.ds2_dealer.specs.Stage.{HandIn, some_fault}
 
@@ -37,7 +37,8 @@ NoFaultBelow f (e ∷ es) = (e.faulted ≡ true → f ≤ e.group) × NoFaultBel
 abbrev pub has_fault_at : ℕ → List HandIn → Bool
 has_fault_at g handed = list_any (λ (e : HandIn). e.faulted && e.group == g) handed
 
--- Whatever the order of the hand-ins, the answer is a group that faulted and none below it did; it is None only where none did.
+-- Whatever the order of the hand-ins, the answer is a group that faulted and none below it did; it is None exactly where none did.
 abbrev pub FaultIsLeast : Type 0
 FaultIsLeast = (es : List HandIn) →
-    ((f : ℕ) → least_fault None es ≡ Some f → NoFaultBelow f es × (has_fault_at f es ≡ true)) × (least_fault None es ≡ None → some_fault es ≡ true → ⊥)
+    ((f : ℕ) → least_fault None es ≡ Some f → NoFaultBelow f es × (has_fault_at f es ≡ true))
+    × (least_fault None es ≡ None → some_fault es ≡ false) × (some_fault es ≡ false → least_fault None es ≡ None)

@@ -4,7 +4,7 @@ ghost use Rattle.ds2_meaning.specs.IsTyped.{expression_type, chain_type};
 ghost use Rattle.ds2_meaning.specs.TypedExpression.{Links, NoLink, TypedArguments, NoArgument};
 ghost use Rattle.ds2_meaning.specs.View.{in_a_row, all_expressions, typed_expression, call_tree, link_tree, argument_tree};
 ghost use Rattle.ds2_code.specs.declared.instr.Instr.{Instr as InstrModel};
-ghost use Rattle.ds2_emitter.specs.Emit.{with_expression, with_expressions, with_links, with_arguments, with_back, with_method_call};
+ghost use Rattle.ds2_emitter.specs.Emit.{with_instruction, with_expression, with_expressions, with_links, with_arguments, with_back, with_method_call};
 
 use crate::Numbering;
 use crate::runs::{
@@ -84,7 +84,7 @@ fn emit_argument<N: Numbering>(
             emit_expression(names, code, e)?;
             Ok(())
         }
-        Argument::InOut(variable) => emit(code, names.load(variable, Ty::BigInt)),
+        Argument::InOut(variable) => emit(code, names.load(variable, Ty::BigInt)?),
     }
 }
 
@@ -115,7 +115,7 @@ fn emit_back_one<N: Numbering>(
 {
     match argument {
         Argument::Value(_) => Ok(()),
-        Argument::InOut(variable) => emit(code, names.store(variable)),
+        Argument::InOut(variable) => emit(code, names.store(variable)?),
     }
 }
 
@@ -146,7 +146,21 @@ pub fn emit_call<N: Numbering>(
 {
     let arguments = call.arguments.as_slice();
     emit_arguments(names, code, arguments)?;
-    emit(code, names.call(&call.instance, call.method))?;
+    emit(code, names.call(&call.instance, call.method)?)?;
+    emit_back(names, code, arguments)
+}
+
+/// Adds the code of a call by an instruction, with these arguments, and of what it hands back.
+pub fn emit_called<N: Numbering>(
+    names: &N,
+    code: &mut List<Instr>,
+    call: Instr,
+    arguments: &[Argument],
+) -> Result<(), OutOfMemory>
+    ensures { let all = in_a_row (map argument_tree arguments.now) NoArgument in OnOk result (code.new ≡ with_back (N.numbers names.now) all (with_instruction call (with_arguments (N.numbers names.now) all code.old))) }
+{
+    emit_arguments(names, code, arguments)?;
+    emit(code, call)?;
     emit_back(names, code, arguments)
 }
 
@@ -163,11 +177,11 @@ pub fn emit_expression<N: Numbering>(
 {
     match e {
         Expression::Constant { value, ty } => {
-            emit(code, names.constant(value, *ty))?;
+            emit(code, names.constant(value, *ty)?)?;
             Ok(*ty)
         }
         Expression::Variable { variable, ty } => {
-            emit(code, names.load(variable, *ty))?;
+            emit(code, names.load(variable, *ty)?)?;
             Ok(*ty)
         }
         Expression::Widen { operand } => {
@@ -217,11 +231,11 @@ pub fn emit_expression<N: Numbering>(
             Ok(*ty)
         }
         Expression::HashCalled { hash, function } => {
-            emit(code, names.hash_call(hash, *function))?;
+            emit(code, names.hash_call(hash, *function)?)?;
             Ok(Ty::BigInt)
         }
         Expression::IteratorCalled { iterator, function } => {
-            emit(code, names.iterator_call(iterator, *function))?;
+            emit(code, names.iterator_call(iterator, *function)?)?;
             Ok(Ty::BigInt)
         }
     }

@@ -6,7 +6,10 @@
 
 mod expressions;
 mod numbering;
+mod returning;
 mod runs;
 
-pub use expressions::{emit_call, emit_expression};
+pub use expressions::{emit_call, emit_called, emit_expression};
 pub use numbering::Numbering;
+pub use returning::Returning;
+pub use runs::{comparison_instr, emit, emit_truth};

@@ -24,13 +24,18 @@ fn place_of(names: &[Name], name: &str) -> usize {
     names.len()
 }
 
+// A place as a number of a slot or a table.
+fn number_of(place: usize) -> Result<u32, Mistake> {
+    u32::try_from(place).map_err(|_| Mistake::NoFit)
+}
+
 // The slot of a column: the same for columns of one name.
 fn slot(alloc: Global, names: &mut List<Name>, name: &Name) -> Result<u32, Mistake> {
     let place = place_of(names.as_slice(), name.as_str());
     if place == names.len() {
         names.push(name.copy(alloc)?)?;
     }
-    Ok(place as u32)
+    number_of(place)
 }
 
 // The slots of the columns of a table.
@@ -47,7 +52,7 @@ fn by_keys(alloc: Global, names: &[Name], lines: &[ByLine<'_>]) -> Result<List<B
     let mut bys = List::new(alloc);
     for line in lines {
         bys.push(ByKey {
-            slot: place_of(names, line.name) as u32,
+            slot: number_of(place_of(names, line.name))?,
             is_descending: line.is_descending,
             first: 0,
             last: 0,
@@ -64,7 +69,7 @@ fn read(
     table: &Table,
 ) -> Result<ReadTable, Mistake> {
     Ok(ReadTable {
-        table: number as u32,
+        table: number_of(number)?,
         slots: slots(alloc, names, table)?,
         in_flag: None,
     })

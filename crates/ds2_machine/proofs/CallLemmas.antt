@@ -1,17 +1,19 @@
--- Arguments, nulls and in_out parameters, one after the other.
-use Rattle.std.proofs.Common.{◌≡◌, ℕ, zero, suc, ◌+◌, ◌-◌, ◌<◌, true, false, List, [], ◌∷◌, Option, Some, None, refl, ap, length, take, drop, arith, sym, ◌∙◌, add-one}
+-- Operands that are taken off, arguments and in_out parameters, one after the other.
+use Rattle.std.proofs.Common.{◌≡◌, ℕ, zero, suc, ◌+◌, ◌-◌, ◌<◌, ◌≤◌, true, false, List, [], ◌∷◌, Option, Some, None, refl, ap, length, take, drop, arith, sym, ◌∙◌, add-one}
 use Rattle.std.specs.Prelude.{replicate, slice_get, if◌then◌else◌}
 use Rattle.ds2_value.specs.declared.value.Value.{Value}
 use Rattle.ds2_value.specs.declared.value.Value.TheVariants.{Null}
 use Rattle.ds2_code.specs.declared.parts.ParameterPart.{ParameterPart}
 use Rattle.ds2_code.specs.CodeRun.{with_in_outs}
-use Rattle.ds2_code.specs.Desk.{take_off}
-use Rattle.ds2_machine.specs.declared.frames.Waiting.{Waiting}
+use Rattle.ds2_code.specs.Desk.{Taken, take_off}
+use Rattle.ds2_frames.specs.declared.frames.Waiting.{Waiting}
 use Rattle.ds2_machine.specs.MachineView.{waiting_frames}
 
-pub nulls_next : (n : ℕ) → 0 < n → replicate n Null ≡ Null ∷ replicate (n - 1) Null
-nulls_next zero h = absurd (omega (arith, h))
-nulls_next (suc n) h = ap (λ k. Null ∷ replicate k Null) (omega arith)
+-- two values that were taken off were there
+pub two_there : (stack : List Value) (t : Taken) → take_off 2 [] stack ≡ Some t → 2 ≤ length stack
+two_there [] t h = absurd cc
+two_there (a ∷ []) t h = absurd cc
+two_there (a ∷ b ∷ stack) t h = omega arith
 
 pub take_next : (n : ℕ) (v : Value) (arguments stack : List Value) → 0 < n → take_off n arguments (v ∷ stack) ≡ take_off (n - 1) (v ∷ arguments) stack
 take_next zero v arguments stack h = absurd (omega (arith, h))

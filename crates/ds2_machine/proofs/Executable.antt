@@ -17,7 +17,7 @@ use Rattle.ds2_code.specs.ValidCode.{CodePoint, point, behind_instruction, Along
 use Rattle.ds2_slots.specs.LoadedHashes.{AreSlotTypesInBounds}
 use Rattle.ds2_machine.specs.AtRest.{IsProgramOfValid}
 use Rattle.ds2_operations.specs.OperationKinds.{has_type_in_bounds}
-use Rattle.ds2_machine.specs.Shapes.{IsExecutable}
+use Rattle.ds2_machine.specs.Executable.{IsExecutable}
 
 -- each program of a chain is valid beside some thread program or none
 pub valid_in_chain : (code : ProgramParts) (stages : List ProgramParts) → IsValidChain code stages → (k : ℕ) (c : ProgramParts) → slice_get (code ∷ stages) k ≡ Some c → (s : Option ProgramParts) × IsValidProgram c s

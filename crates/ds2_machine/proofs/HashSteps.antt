@@ -13,7 +13,7 @@ use Rattle.ds2_code.specs.HashCalls.{with_copied, all_shifted, hash_called, iter
 use Rattle.ds2_slots.specs.SlotHashes.{answer_of_object, HasCalledHash, answer_of_hiter, HasMovedHiter}
 use Rattle.ds2_slots.specs.declared.objects.HashObjects.{HashObjects}
 use Rattle.ds2_machine.specs.MachineView.{UnitTold, desk_of_state, machine_of_state, progress_of_state, waiting_frames, IsQuietStep}
-use Rattle.ds2_machine.specs.PileView.{PileView}
+use Rattle.ds2_frames.specs.PileView.{PileView}
 use Rattle.ds2_machine.specs.declared.state.State.{State}
 use Rattle.ds2_machine.proofs.Steps.{quiet_goes}
 

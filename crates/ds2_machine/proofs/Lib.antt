@@ -1,6 +1,5 @@
 pub mod CallLemmas
 pub mod Executable
-pub mod PileLemmas
 pub mod ProgramLemmas
 pub mod Runs
 pub mod RunScales

@@ -22,7 +22,7 @@ use Rattle.ds2_scales.specs.Scales.{AreScaled, AreGivenScaled, AreSettingsScaled
 use Rattle.ds2_operations.specs.OperationKinds.{operation_operands, has_scales_for}
 use Rattle.ds2_machine.specs.AtRest.{MachineAtRest, staged_program, IsProgramOfValid, IsEndingAt, is_early}
 use Rattle.ds2_machine.specs.MachineView.{UnitTold, nothing_told, machine_of_state, data_of_state, progress_of_state, next_of_state, way_of_next, IsStateScaled, IsSunkStep}
-use Rattle.ds2_machine.specs.Shapes.{HasScalesFor}
+use Rattle.ds2_machine.specs.Executable.{HasScalesFor}
 use Rattle.ds2_machine.specs.declared.state.Halt.{Halt}
 use Rattle.ds2_machine.specs.declared.state.Halt.TheVariants as halt
 use Rattle.ds2_machine.specs.declared.state.State.{State}

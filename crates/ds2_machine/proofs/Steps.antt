@@ -16,15 +16,13 @@ use Rattle.ds2_machine.specs.MachineView.{UnitTold, desk_of_state, machine_of_st
 use Rattle.ds2_code.specs.declared.parts.OutputPart.{OutputPart}
 use Rattle.ds2_machine.specs.Sink.{SinkTakes}
 use Rattle.ds2_machine.proofs.Runs.{nothing_taken}
-use Rattle.ds2_machine.specs.PileView.{PileView}
+use Rattle.ds2_frames.specs.PileView.{PileView}
 use Rattle.ds2_operations.specs.OperationKinds.{operation_operands, operation_result}
-use Rattle.ds2_machine.specs.Shapes.{HasQuietShape}
-use Rattle.ds2_machine.specs.declared.shape.Quiet.{Quiet}
 use Rattle.ds2_machine.specs.declared.state.Halt.{Halt}
 use Rattle.ds2_machine.specs.declared.state.Halt.TheVariants as halt
 use Rattle.ds2_machine.specs.declared.state.State.{State}
 
--- ---- by the shape of an instruction
+-- ---- by the kind of an instruction
 
 pub quiet_of_kind : {E : Type 0} (code : ProgramParts) (kind k : Kind) (old new : State) (r : Result (Option Halt) E) → kind ≡ k
     → IfOk r (λ h. (told : UnitTold) → IsQuietStep (perform code k (machine_of_state old told)) told new h)
@@ -39,9 +37,6 @@ pub sunk_of_kind : {S E : Type 0} (has_taken : S → S → List Written → List
 sunk_of_kind has_taken before after code kind k old new r is q =
     let P : Kind → Type 0 = λ z. IfOk r (λ h. IsSunkStep has_taken before after (λ told. perform code z (machine_of_state old told)) new h) in
     subst P (sym is) q
-
-pub shape_at : (q now : Quiet) (kind : Kind) → q ≡ now → HasQuietShape q kind → HasQuietShape now kind
-shape_at q now kind is h = let P : Quiet → Type 0 = λ z. HasQuietShape z kind in subst P is h
 
 -- ---- operations
 

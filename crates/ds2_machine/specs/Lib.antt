@@ -1,7 +1,5 @@
 pub mod AtRest
 pub mod MachineView
-pub mod PileView
-pub mod Results
-pub mod Shapes
+pub mod Executable
 pub mod Sink
 pub mod Kept

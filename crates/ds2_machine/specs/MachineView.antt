@@ -9,7 +9,7 @@ use Rattle.ds2_code.specs.CodeRun.{CallFrame, MachineState, CodeEnd, EndReached,
 use Rattle.ds2_code.specs.Desk.{ProgramData, Desk, Taken, with_stack}
 use Rattle.ds2_scales.specs.Scales.{IsScaled}
 use Rattle.ds2_machine.specs.Sink.{SinkTakes}
-use Rattle.ds2_machine.specs.declared.frames.Waiting.{Waiting}
+use Rattle.ds2_frames.specs.declared.frames.Waiting.{Waiting}
 use Rattle.ds2_machine.specs.declared.state.Halt.{Halt}
 use Rattle.ds2_machine.specs.declared.state.Halt.TheVariants as halt
 use Rattle.ds2_machine.specs.declared.state.State.{State}

@@ -9,14 +9,10 @@
 //! ```
 #![tactic(auto)]
 
-mod arguments;
-mod frames;
 mod load;
 mod machine;
-mod pile;
 mod program;
 mod record;
-mod shape;
 mod sink;
 mod state;
 mod unit_end;

@@ -5,7 +5,7 @@ ghost use Rattle.ds2_code.specs.ValidCode.{EndsInTime, unit_entries};
 ghost use Rattle.ds2_scales.specs.Scales.{AreGivenScaled, AreSettingsScaled, IsDataScaled};
 ghost use Rattle.ds2_slots.specs.LoadedHashes.{AreSlotTypesInBounds};
 ghost use Rattle.ds2_machine.specs.AtRest.{staged_program, IsProgramOfValid, IsEndingAt, IsUnitEnd, is_early, leaves_spent};
-ghost use Rattle.ds2_machine.specs.Shapes.{IsExecutable};
+ghost use Rattle.ds2_machine.specs.Executable.{IsExecutable};
 ghost use Rattle.ds2_machine.specs.declared.machine.TheConstants.{MOST_BUDGET};
 
 use crate::program::program_of;

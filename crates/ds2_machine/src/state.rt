@@ -1,6 +1,7 @@
 //! The machine between two instructions.
 ghost use Rattle.ds2_base.specs.Says.{Says};
-ghost use Rattle.std.specs.Prelude.{Result as CallResult, ◌≡◌, ◌<◌, ◌^◌, [], IsTrue, Some, IfOk, OnOk, slice_get};
+ghost use Rattle.std.specs.Prelude.{Result as CallResult, ◌≡◌, ◌∷◌, ◌<◌, ◌^◌, [], IsTrue, Some, IfOk, OnOk, false, slice_get};
+ghost use Rattle.std.specs.Option.{is_some};
 ghost use Rattle.ds2_scales.specs.Scales.{IsDataScaled};
 ghost use Rattle.ds2_machine.specs.declared.state.Halt.TheVariants.{Normal as HaltNormal};
 ghost use Rattle.ds2_value.specs.Operations.{is_true};
@@ -8,25 +9,22 @@ ghost use Rattle.ds2_value.specs.Row.{Row};
 ghost use Rattle.ds2_code.specs.CodeBound.{work_left};
 ghost use Rattle.ds2_code.specs.CodeUnit.{unit_begun};
 ghost use Rattle.ds2_code.specs.CodeRun.{perform, goes_to, on_desk, on_texts, on_step, on_condition, place_tested, on_method, on_return, with_in_outs};
-ghost use Rattle.ds2_code.specs.Desk.{IntoSlot, IntoLocal, IntoParameter, top_into, without_top, loaded_value, take_off};
+ghost use Rattle.ds2_code.specs.Desk.{OfConstant, OfSlot, OfLocal, IntoSlot, IntoLocal, IntoParameter, constant_value, top_into, without_top, take_off};
 ghost use Rattle.ds2_code.specs.HashCalls.{hash_called, iterator_moved};
 ghost use Rattle.ds2_code.specs.InstructionTable.{kind_of, Loads, Writes, Enters, GoesBack, CallsHash, CallsIterator};
-ghost use Rattle.ds2_operations.specs.OperationKinds.{has_type_in_bounds, operation_operands};
+ghost use Rattle.ds2_operations.specs.OperationKinds.{goes_by_list, has_type_in_bounds, operation_operands};
 ghost use Rattle.ds2_machine.specs.MachineView.{UnitTold, nothing_told, machine_of_state, desk_of_state, data_of_state, progress_of_state, IsStateScaled, HasRunTo, IsQuietStep, IsSunkStep, AreTaken, with_operands};
-ghost use Rattle.ds2_machine.specs.Results.{as_list};
-ghost use Rattle.ds2_machine.specs.Shapes.{IsExecutable, HasScalesFor, HasQuietShape, load_source_of, store_target_of};
+ghost use Rattle.ds2_frames.specs.Results.{as_list};
+ghost use Rattle.ds2_machine.specs.Executable.{IsExecutable, HasScalesFor, is_writing};
 
 use crate::UnitSink;
-use crate::arguments::Arguments;
-use crate::frames::{Frames, Waiting};
-use crate::pile::Pile;
-use crate::shape::{Quiet, Shape, Source, Target, shape_of};
 use ds2_base::{List, OutOfMemory, Place, Stop};
 use ds2_code::laws::instructions_leave_less;
-use ds2_code::{HashPart, Instr, MethodPart, ParameterPart, ProgramParts};
-use ds2_operations::{computed, write_line};
+use ds2_code::{Constant, HashPart, Instr, MethodPart, ParameterPart, ProgramParts};
+use ds2_frames::{Arguments, Frames, Pile, Waiting};
+use ds2_operations::{computed, computed_from_pair, operands_of, write_line};
 use ds2_scales::laws::{instructions_keep_scales, products_have_scales, units_end_scaled};
-use ds2_slots::{HashObjects, copy_at, set};
+use ds2_slots::{HashObjects, set};
 use ds2_value::{CALL_DEPTH, Fault, HashFunction, IteratorFunction, Truth, Value};
 use std::alloc::Global;
 
@@ -143,7 +141,7 @@ impl State {
     }
 
     /// Executes one instruction, and tells how it ends the unit: None where the machine goes on.
-    #[inline]
+    #[inline(always)]
     pub fn act<S: UnitSink>(
         &mut self,
         alloc: Global,
@@ -156,50 +154,101 @@ impl State {
         requires scales { HasScalesFor instr self.old.operands.stack }
         ensures { IfOk result (λ halt. IsSunkStep S.has_taken sink.old sink.new (λ told. perform code.now (kind_of instr) (machine_of_state self.old told)) self.new halt) }
     {
-        match shape_of(instr) {
-            Shape::Write(number) => self.write(alloc, code, number, sink),
-            Shape::Put(n) => self.put(alloc, n, sink),
-            Shape::Quiet(quiet) => self.act_quietly(alloc, code, instr, quiet),
+        match instr {
+            Instr::Output(number) => self.write(alloc, code, number, sink),
+            Instr::Put(n) => self.put(alloc, n as usize, sink),
+            _ => self.act_quietly(alloc, code, instr),
         }
     }
 
     // Executes one instruction that writes nothing.
-    #[inline]
+    #[inline(always)]
     fn act_quietly(
         &mut self,
         alloc: Global,
         code: &ProgramParts,
         instr: Instr,
-        quiet: Quiet,
     ) -> Result<Option<Halt>, OutOfMemory>
         requires at { self.old.at < 2 ^ 32 }
         requires bounds { IsTrue (has_type_in_bounds instr) }
         requires scales { HasScalesFor instr self.old.operands.stack }
-        requires shape { HasQuietShape quiet (kind_of instr) }
+        requires quiet { is_writing instr ≡ false }
         ensures { IfOk result (λ halt. (told : UnitTold) → IsQuietStep (perform code.now (kind_of instr) (machine_of_state self.old told)) told self.new halt) }
     {
-        match quiet {
-            Quiet::Operation(n) => self.operate(alloc, code, instr, n),
-            Quiet::Load(source) => self.load(alloc, code, source),
-            Quiet::Store(target) => Ok(self.store(target)),
-            Quiet::Discard => Ok(self.discard()),
-            Quiet::Tick(place) => Ok(self.tick(place)),
-            Quiet::Jump(to) => Ok(self.jump(to)),
-            Quiet::Test(wanted, to) => Ok(self.test(wanted, to)),
-            Quiet::Enter(number) => self.call(code, number),
-            Quiet::GoBack(has_result) => self.go_back(alloc, code, has_result),
-            Quiet::CallHash(function, number) => self.call_hash(alloc, code, function, number),
-            Quiet::CallIterator(function, number) => {
-                self.call_iterator(alloc, code, function, number)
+        match instr {
+            Instr::Const(k) => self.load_constant(alloc, code, k),
+            Instr::GLoad(n) => self.load_slot(alloc, code, n),
+            Instr::LLoad(n) => self.load_local(alloc, code, n),
+            Instr::GStore(n) => Ok(self.store_slot(n)),
+            Instr::LStore(n) => Ok(self.store_local(n)),
+            Instr::SetParm(j) => Ok(self.store_parameter(j)),
+            Instr::DropTop => Ok(self.discard()),
+            Instr::Tick(place) => Ok(self.tick(place)),
+            Instr::Jump(to) => Ok(self.jump(to)),
+            Instr::JFalse(to) => Ok(self.test(false, to)),
+            Instr::JTrue(to) => Ok(self.test(true, to)),
+            Instr::Call(number) => self.call(code, number),
+            Instr::Ret => self.go_back(alloc, code, false),
+            Instr::RetV => self.go_back(alloc, code, true),
+            Instr::HCall(number, function) => self.call_hash(alloc, code, function, number),
+            Instr::ICall(number, function) => self.call_iterator(alloc, code, function, number),
+            Instr::NoWhen => Ok(Some(Halt::Faulted(Fault::NoWhen))),
+            Instr::End => Ok(Some(Halt::Normal)),
+            _ => self.operate(alloc, code, instr),
+        }
+    }
+
+    // Puts the result of an operation in the place of its operands; the usual ones on numbers by a way of their own.
+    #[inline(always)]
+    fn operate(
+        &mut self,
+        alloc: Global,
+        code: &ProgramParts,
+        instr: Instr,
+    ) -> Result<Option<Halt>, OutOfMemory>
+        requires at { self.old.at < 2 ^ 32 }
+        requires bounds { IsTrue (has_type_in_bounds instr) }
+        requires scales { HasScalesFor instr self.old.operands.stack }
+        requires operation { IsTrue (is_some (operation_operands (kind_of instr))) }
+        ensures { IfOk result (λ halt. (told : UnitTold) → IsQuietStep (perform code.now (kind_of instr) (machine_of_state self.old told)) told self.new halt) }
+    {
+        match instr {
+            Instr::IAdd => Ok(self.operate_on_pair(code, Instr::IAdd)),
+            Instr::ISub => Ok(self.operate_on_pair(code, Instr::ISub)),
+            Instr::IMul => Ok(self.operate_on_pair(code, Instr::IMul)),
+            Instr::ICmp(comparison) => Ok(self.operate_on_pair(code, Instr::ICmp(comparison))),
+            Instr::DAdd => Ok(self.operate_on_pair(code, Instr::DAdd)),
+            Instr::DSub => Ok(self.operate_on_pair(code, Instr::DSub)),
+            Instr::DCmp(comparison) => Ok(self.operate_on_pair(code, Instr::DCmp(comparison))),
+            _ => self.operate_on_many(alloc, code, instr, operands_of(instr)),
+        }
+    }
+
+    // Puts the result of an operation that goes by each of two values in their place.
+    #[inline(always)]
+    fn operate_on_pair(&mut self, code: &ProgramParts, instr: Instr) -> Option<Halt>
+        requires at { self.old.at < 2 ^ 32 }
+        requires few { goes_by_list instr ≡ false }
+        requires scales { HasScalesFor instr self.old.operands.stack }
+        requires operands { operation_operands (kind_of instr) ≡ Some 2 }
+        ensures { (told : UnitTold) → IsQuietStep (perform code.now (kind_of instr) (machine_of_state self.old told)) told self.new result }
+    {
+        let Some(operands) = self.operands.last(2) else {
+            return Some(Halt::Stuck);
+        };
+        match computed_from_pair(instr, operands) {
+            Err(fault) => Some(Halt::Faulted(fault)),
+            Ok(value) => {
+                self.operands.replace_two(value);
+                self.at += 1;
+                None
             }
-            Quiet::Raise(fault) => Ok(Some(Halt::Faulted(fault))),
-            Quiet::Finish => Ok(Some(Halt::Normal)),
         }
     }
 
     // Puts the result of an operation in the place of its operands.
-    #[inline]
-    fn operate(
+    #[inline(never)]
+    fn operate_on_many(
         &mut self,
         alloc: Global,
         code: &ProgramParts,
@@ -226,54 +275,59 @@ impl State {
         }
     }
 
-    // Puts a value of a constant, a slot or a local on top of the operands.
+    // Puts the value of a constant on top of the operands, null where there is none.
     #[inline]
-    fn load(
+    fn load_constant(
         &mut self,
         alloc: Global,
         code: &ProgramParts,
-        source: Source,
+        number: u32,
     ) -> Result<Option<Halt>, OutOfMemory>
         requires { self.old.at < 2 ^ 32 }
-        ensures { IfOk result (λ halt. (told : UnitTold) → IsQuietStep (perform code.now (Loads (load_source_of source)) (machine_of_state self.old told)) told self.new halt) }
+        ensures { IfOk result (λ halt. (told : UnitTold) → IsQuietStep (perform code.now (Loads (OfConstant number)) (machine_of_state self.old told)) told self.new halt) }
     {
-        let value = self.value_of(alloc, code, source)?;
-        self.operands.push(value)?;
+        push_constant(
+            alloc,
+            &mut self.operands,
+            code.constants.as_slice(),
+            number as usize,
+        )?;
         self.at += 1;
         Ok(None)
     }
 
-    // The value of a constant, a slot or a local, null where there is none.
+    // Puts the value of a slot on top of the operands, null where there is none.
     #[inline]
-    fn value_of(
-        &self,
+    fn load_slot(
+        &mut self,
         alloc: Global,
         code: &ProgramParts,
-        source: Source,
-    ) -> Result<Value, OutOfMemory>
-        ensures { IfOk result (λ value. value ≡ loaded_value code.now.constants (load_source_of source) (desk_of_state self.now)) }
+        number: u32,
+    ) -> Result<Option<Halt>, OutOfMemory>
+        requires { self.old.at < 2 ^ 32 }
+        ensures { IfOk result (λ halt. (told : UnitTold) → IsQuietStep (perform code.now (Loads (OfSlot number)) (machine_of_state self.old told)) told self.new halt) }
     {
-        match source {
-            Source::Constant(k) => match code.constants.get(k as usize) {
-                None => Ok(Value::Null),
-                Some(constant) => constant.value.copy(alloc),
-            },
-            Source::Slot(n) => copy_at(alloc, self.slots.as_slice(), n as usize),
-            Source::Local(n) => copy_at(alloc, self.locals.own(), n as usize),
-        }
+        self.operands
+            .push_at(alloc, self.slots.as_slice(), number as usize)?;
+        self.at += 1;
+        Ok(None)
     }
 
-    // Pops the topmost operand into a slot, a local or a parameter.
+    // Puts the value of a local on top of the operands, null where there is none.
     #[inline]
-    fn store(&mut self, target: Target) -> Option<Halt>
+    fn load_local(
+        &mut self,
+        alloc: Global,
+        code: &ProgramParts,
+        number: u32,
+    ) -> Result<Option<Halt>, OutOfMemory>
         requires { self.old.at < 2 ^ 32 }
-        ensures { (told : UnitTold) → IsQuietStep (on_desk (top_into (store_target_of target) self.old.operands.stack (desk_of_state self.old)) (machine_of_state self.old told)) told self.new result }
+        ensures { IfOk result (λ halt. (told : UnitTold) → IsQuietStep (perform code.now (Loads (OfLocal number)) (machine_of_state self.old told)) told self.new halt) }
     {
-        match target {
-            Target::Slot(n) => self.store_slot(n),
-            Target::Local(n) => self.store_local(n),
-            Target::Parameter(j) => self.store_parameter(j),
-        }
+        self.operands
+            .push_at(alloc, self.locals.own(), number as usize)?;
+        self.at += 1;
+        Ok(None)
     }
 
     // Pops the topmost operand into a slot.
@@ -388,6 +442,7 @@ impl State {
     }
 
     // Calls a method.
+    #[inline(never)]
     fn call(&mut self, code: &ProgramParts, number: u32) -> Result<Option<Halt>, OutOfMemory>
         requires { self.old.at < 2 ^ 32 }
         ensures { IfOk result (λ halt. (told : UnitTold) → IsQuietStep (perform code.now (Enters number) (machine_of_state self.old told)) told self.new halt) }
@@ -428,6 +483,7 @@ impl State {
     }
 
     // Goes back to the last caller.
+    #[inline(never)]
     fn go_back(
         &mut self,
         alloc: Global,
@@ -486,6 +542,7 @@ impl State {
     }
 
     // Calls a hash object.
+    #[inline(never)]
     fn call_hash(
         &mut self,
         alloc: Global,
@@ -528,6 +585,7 @@ impl State {
     }
 
     // Calls an iterator.
+    #[inline(never)]
     fn call_iterator(
         &mut self,
         alloc: Global,
@@ -588,7 +646,7 @@ impl State {
     }
 
     // Gives a row of an output to the sink.
-    #[inline]
+    #[inline(never)]
     fn write<S: UnitSink>(
         &mut self,
         alloc: Global,
@@ -608,6 +666,7 @@ impl State {
     }
 
     // Gives a line of the topmost operands to the sink.
+    #[inline(never)]
     fn put<S: UnitSink>(
         &mut self,
         alloc: Global,
@@ -625,6 +684,23 @@ impl State {
         self.operands.drop_last(n);
         self.at += 1;
         Ok(None)
+    }
+}
+
+// Puts the value of a constant on top of operands, null where there is none.
+#[inline]
+fn push_constant(
+    alloc: Global,
+    operands: &mut Pile,
+    constants: &[Constant],
+    number: usize,
+) -> Result<(), OutOfMemory>
+    ensures stack { OnOk result (operands.new.stack ≡ constant_value number constants.now ∷ operands.old.stack) }
+    ensures below { OnOk result (operands.new.below ≡ operands.old.below) }
+{
+    match constants.get(number) {
+        None => operands.push(Value::Null),
+        Some(constant) => operands.push_copy(alloc, &constant.value),
     }
 }
 

@@ -1,172 +1,36 @@
-//! Runs a loop over BIGINT values and one over decimals of 15 digits in the machine, 100,000 turns each.
+//! Runs a loop over BIGINT values and one over decimals of 15 digits in the machine, 100,000 turns each, and 100,000 units that each
+//! add two columns and write a row as bytes of a table.
 //!
-//! Without words it prints how many instructions each loop executes. With a word, as `time`, it runs each loop 20 times and prints
-//! nanoseconds an instruction.
+//! Without words it prints how many instructions each loop executes, and how many bytes the rows are. With the word `time` it runs each
+//! 20 times and prints nanoseconds an instruction, and a row. With `integers`, `decimals` or `rows` it runs that part alone, as a
+//! profiler wants it.
 #![tactic(auto)]
 
-use ds2_base::{BadName, List, Name, OutOfMemory, Place, Stop};
-use ds2_code::{Constant, Instr, ProgramParts, ReadingPart, Slot, SlotRole, StagedParts};
-use ds2_decimal::Dec;
-use ds2_machine::{Machine, UnitRecord};
-use ds2_valid_code::{ProgramCode, verify};
-use ds2_value::{Comparison, Row, Ty, Value};
+mod loops;
+mod rows;
+
+use crate::loops::{DECIMALS, INTEGERS, code_of, run_all};
+use crate::rows::{ROWS, rows_code, write_rows};
+use ds2_code::Instr;
+use ds2_valid_code::ProgramCode;
 use std::alloc::Global;
 use std::time::Instant;
 use std::{env, io};
 
-/// How many turns a loop has.
-const TURNS: i64 = 100_000;
-
-/// How often a loop is run where it is timed.
+/// How often what is timed is run.
 const TIMED_RUNS: u32 = 20;
 
-/// The steps that a loop may take.
-const BUDGET: u64 = 1_000_000;
-
-/// The amount that is added and taken away.
-const AMOUNT: Ty = Ty::Decimal { p: 15, s: 2 };
-
-/// What each turn of the loop over BIGINT values does: it adds the turn's number to a sum.
-const INTEGERS: [Instr; 4] = [
-    Instr::GLoad(1),
-    Instr::GLoad(0),
-    Instr::IAdd,
-    Instr::GStore(1),
-];
-
-/// What each turn of the loop over decimals does: it adds an amount and takes it away again, twice.
-const DECIMALS: [Instr; 11] = [
-    Instr::GLoad(2),
-    Instr::Const(3),
-    Instr::DAdd,
-    Instr::Const(3),
-    Instr::DSub,
-    Instr::Const(3),
-    Instr::DAdd,
-    Instr::Const(3),
-    Instr::DSub,
-    Instr::Rescale(15, 2),
-    Instr::GStore(2),
-];
-
-fn slot(alloc: Global, name: &str, ty: Ty) -> Result<Slot, Stop<BadName>> {
-    Ok(Slot {
-        name: Name::new(alloc, name)?,
-        ty,
-        role: SlotRole::Kept,
-    })
+// Prints nanoseconds for each of so many things.
+fn show_time(rt: &HostRuntime, name: &str, thing: &str, spent: u128, count: u64) -> io::Result<()> {
+    let hundredths = spent.wrapping_mul(100) / u128::from(count.max(1));
+    println!(rt;
+        "{name}: {}.{:02} ns {thing}",
+        hundredths / 100,
+        hundredths % 100
+    )
 }
 
-// The number of a turn, a sum and an amount.
-fn slots(alloc: Global) -> Result<List<Slot>, Stop<BadName>> {
-    let mut slots = List::new(alloc);
-    slots.push(slot(alloc, "turn", Ty::BigInt)?)?;
-    slots.push(slot(alloc, "total", Ty::BigInt)?)?;
-    slots.push(slot(alloc, "amount", AMOUNT)?)?;
-    Ok(slots)
-}
-
-fn integer(i: i64) -> Constant {
-    Constant {
-        ty: Ty::BigInt,
-        value: Value::Int(i),
-    }
-}
-
-fn constants(alloc: Global) -> Result<List<Constant>, OutOfMemory> {
-    let mut constants = List::new(alloc);
-    constants.push(integer(0))?;
-    constants.push(integer(1))?;
-    constants.push(integer(TURNS))?;
-    if let Some(amount) = Dec::new(123_456_789_012_345, 2) {
-        constants.push(Constant {
-            ty: AMOUNT,
-            value: Value::Dec(amount),
-        })?;
-    }
-    Ok(constants)
-}
-
-// A loop with this body, one step of the budget a turn.
-fn looped(alloc: Global, body: &[Instr]) -> Result<List<Instr>, OutOfMemory> {
-    let end = u32::try_from(body.len()).unwrap_or(0).wrapping_add(17);
-    let step = Instr::Tick(Place::start());
-    let mut instrs = List::from_slice(
-        alloc,
-        &[
-            step,
-            Instr::Const(0),
-            Instr::GStore(0),
-            Instr::Const(0),
-            Instr::GStore(1),
-            Instr::Const(3),
-            Instr::GStore(2),
-            step,
-            Instr::GLoad(0),
-            Instr::Const(2),
-            Instr::ICmp(Comparison::Less),
-            Instr::JFalse(end),
-        ],
-    )?;
-    for instr in body {
-        instrs.push(*instr)?;
-    }
-    for instr in [
-        Instr::GLoad(0),
-        Instr::Const(1),
-        Instr::IAdd,
-        Instr::GStore(0),
-        Instr::Jump(7),
-        Instr::End,
-    ] {
-        instrs.push(instr)?;
-    }
-    Ok(instrs)
-}
-
-fn program(alloc: Global, body: &[Instr]) -> Result<StagedParts, Stop<BadName>> {
-    let slots = slots(alloc)?;
-    let constants = constants(alloc)?;
-    let instrs = looped(alloc, body)?;
-    Ok(StagedParts {
-        program: ProgramParts {
-            name: None,
-            slots,
-            constants,
-            hashes: List::new(alloc),
-            iterators: List::new(alloc),
-            parameters: List::new(alloc),
-            methods: List::new(alloc),
-            reading: ReadingPart::Once,
-            outputs: List::new(alloc),
-            init: 0,
-            run: 0,
-            term: 0,
-            instrs,
-        },
-        stages: List::new(alloc),
-    })
-}
-
-// Runs the loop once, and says how many instructions it executed.
-fn run_once(alloc: Global, code: &ProgramCode) -> Result<u64, OutOfMemory> {
-    let tables: List<List<Row>> = List::new(alloc);
-    let mut machine = Machine::open(alloc, code, 0, &[], &tables, 0)?;
-    let mut written = UnitRecord::new(alloc);
-    let end = machine.call_init(alloc, code, BUDGET, &mut written)?;
-    Ok(end.executed)
-}
-
-// Runs the loop so often, and says how many instructions it executed in all.
-fn run_all(alloc: Global, code: &ProgramCode, runs: u32) -> u64 {
-    let mut executed: u64 = 0;
-    for _ in 0..runs {
-        executed = executed.wrapping_add(run_once(alloc, code).unwrap_or(0));
-    }
-    executed
-}
-
-fn show(rt: &HostRuntime, timed: bool, name: &str, code: &ProgramCode) -> io::Result<()> {
+fn show_loop(rt: &HostRuntime, timed: bool, name: &str, code: &ProgramCode) -> io::Result<()> {
     if !timed {
         let executed = run_all(rt.alloc(), code, 1);
         return println!(rt; "{name}: {executed} instructions");
@@ -174,29 +38,77 @@ fn show(rt: &HostRuntime, timed: bool, name: &str, code: &ProgramCode) -> io::Re
     let start = Instant::now(rt)?;
     let executed = run_all(rt.alloc(), code, TIMED_RUNS);
     let spent = start.elapsed(rt)?.as_nanos();
-    let hundredths = spent.wrapping_mul(100) / u128::from(executed.max(1));
-    println!(rt;
-        "{name}: {}.{:02} ns an instruction",
-        hundredths / 100,
-        hundredths % 100
-    )
+    show_time(rt, name, "an instruction", spent, executed)
 }
 
-// The code of a loop with this body.
-fn code_of(alloc: Global, body: &[Instr]) -> Option<ProgramCode> {
-    let parts = program(alloc, body).ok()?;
-    verify(alloc, parts).ok()?
-}
-
-fn run(rt: &HostRuntime, timed: bool, name: &str, body: &[Instr]) -> io::Result<()> {
+fn run_loop(rt: &HostRuntime, timed: bool, name: &str, body: &[Instr]) -> io::Result<()> {
     match code_of(rt.alloc(), body) {
-        Some(code) => show(rt, timed, name, &code),
+        Some(code) => show_loop(rt, timed, name, &code),
         None => println!(rt; "{name}: no code"),
     }
 }
 
+// Writes the rows so often, and says how many bytes they were.
+fn write_all(alloc: Global, code: &ProgramCode, runs: u32) -> usize {
+    let mut written: usize = 0;
+    for _ in 0..runs {
+        written = write_rows(alloc, code).unwrap_or(0);
+    }
+    written
+}
+
+fn show_rows(rt: &HostRuntime, timed: bool, code: &ProgramCode) -> io::Result<()> {
+    if !timed {
+        let bytes = write_all(rt.alloc(), code, 1);
+        return println!(rt; "rows: {bytes} bytes");
+    }
+    let start = Instant::now(rt)?;
+    let _bytes = write_all(rt.alloc(), code, TIMED_RUNS);
+    let spent = start.elapsed(rt)?.as_nanos();
+    show_time(
+        rt,
+        "rows",
+        "a row",
+        spent,
+        u64::from(ROWS) * u64::from(TIMED_RUNS),
+    )
+}
+
+fn run_rows(rt: &HostRuntime, timed: bool) -> io::Result<()> {
+    match rows_code(rt.alloc()) {
+        Some(code) => show_rows(rt, timed, &code),
+        None => println!(rt; "rows: no code"),
+    }
+}
+
+fn run_integers(rt: &HostRuntime, timed: bool) -> io::Result<()> {
+    run_loop(rt, timed, "integers", &INTEGERS)
+}
+
+fn run_decimals(rt: &HostRuntime, timed: bool) -> io::Result<()> {
+    run_loop(rt, timed, "decimals of 15 digits", &DECIMALS)
+}
+
+fn run_all_parts(rt: &HostRuntime, timed: bool) -> io::Result<()> {
+    run_integers(rt, timed)?;
+    run_decimals(rt, timed)?;
+    run_rows(rt, timed)
+}
+
+fn run_part(rt: &HostRuntime, word: &str) -> io::Result<()> {
+    match word {
+        "time" => run_all_parts(rt, true),
+        "integers" => run_integers(rt, false),
+        "decimals" => run_decimals(rt, false),
+        "rows" => run_rows(rt, false),
+        _ => println!(rt; "no such part"),
+    }
+}
+
 fn main(rt: HostRuntime) -> io::Result<()> {
-    let timed = env::args(&rt)?.count() > 1;
-    run(&rt, timed, "integers", &INTEGERS)?;
-    run(&rt, timed, "decimals of 15 digits", &DECIMALS)
+    let mut words = env::args(&rt)?.skip(1);
+    match words.next() {
+        None => run_all_parts(&rt, false),
+        Some(word) => run_part(&rt, word.as_str()),
+    }
 }

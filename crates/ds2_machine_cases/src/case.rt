@@ -110,7 +110,21 @@ fn run_line(
     match line.strip_prefix("> ") {
         None => Ok(()),
         Some("parameters") => show_parameters(rt, machine),
+        Some("copy") => take_copy(rt, machine),
         Some(words) => run_words(rt, code, machine, words),
+    }
+}
+
+// A copy of the machine goes on in its place.
+fn take_copy(rt: &HostRuntime, machine: &mut Machine) -> io::Result<()>
+    ensures { machine.new ≡ machine.old }
+{
+    match machine.copy(rt.alloc()) {
+        Ok(copy) => {
+            *machine = copy;
+            Ok(())
+        }
+        Err(OutOfMemory) => println!(rt; "    want of memory"),
     }
 }
 

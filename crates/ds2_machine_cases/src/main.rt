@@ -7,7 +7,8 @@
 //!   the number of parameters of the thread program that it reads from; `open 0 0` where no line says it;
 //! - `> table` and below it `> row VALUES`, the tables of the hash objects that name one, in their order; values have `|` between them;
 //! - `> init BUDGET`, `> run BUDGET`, `> term BUDGET`, a unit; `> run BUDGET SLOT INTEGER` sets a slot by its load;
-//! - `> parameters`, what was set for the parameters of the thread program.
+//! - `> parameters`, what was set for the parameters of the thread program;
+//! - `> copy`, from where on a copy of the machine goes on in its place.
 //!
 //! Standard output gets each line of the case again, and below each unit its ending, with the budget left and the number of instructions,
 //! the rows and lines that it wrote, and whether the machine is spent. A block that begins with `##` is a heading.

@@ -1,5 +1,6 @@
 //! What stands in the place of operands.
 ghost use Rattle.std.specs.Prelude.{◌≡◌, ◌∷◌, [], IsTrue, length, Some, Ok, false};
+ghost use Rattle.std.specs.Option.{is_some};
 ghost use Rattle.ds2_base.specs.Says.{Says};
 ghost use Rattle.ds2_value.specs.Operations.{truth_value, or_null_at_fault};
 ghost use Rattle.ds2_value.specs.Types.{in_bounds, assign_of};
@@ -20,6 +21,39 @@ use ds2_value::{
     negative, not, or, product, remainder, substr, sum, trim,
 };
 use std::alloc::Global;
+
+/// How many operands an operation takes.
+#[inline]
+pub fn operands_of(instr: Instr) -> usize
+    requires { IsTrue (is_some (operation_operands (kind_of instr))) }
+    ensures { operation_operands (kind_of instr) ≡ Some result }
+{
+    match instr {
+        Instr::Null(_) => 0,
+        Instr::IToD => 1,
+        Instr::Rescale(_, _) => 1,
+        Instr::Pad(_) => 1,
+        Instr::Cut(_) => 1,
+        Instr::INeg => 1,
+        Instr::IAbs => 1,
+        Instr::DNeg => 1,
+        Instr::DAbs => 1,
+        Instr::DFloor => 1,
+        Instr::DCeil => 1,
+        Instr::Not => 1,
+        Instr::ITruth => 1,
+        Instr::DTruth => 1,
+        Instr::IsNull => 1,
+        Instr::Len => 1,
+        Instr::Trim => 1,
+        Instr::Show => 1,
+        Instr::Substr => 3,
+        Instr::Choose(n) => n as usize,
+        Instr::Least(n) => n as usize,
+        Instr::Greatest(n) => n as usize,
+        _ => 2,
+    }
+}
 
 /// What an operation gives for its operands, the last one on top.
 #[inline]
@@ -83,6 +117,21 @@ fn computed_from_one(alloc: Global, instr: Instr, a: &Value) -> Result<Value, St
         Instr::ITruth => Ok(truth_value(a.truth())),
         Instr::DTruth => Ok(truth_value(a.truth())),
         _ => Ok(Value::Null),
+    }
+}
+
+/// What an operation that goes by each of two values gives for its two operands, the last one on top. Takes no memory.
+#[inline]
+pub fn computed_from_pair(instr: Instr, operands: &[Value]) -> Result<Value, Fault>
+    requires few { goes_by_list instr ≡ false }
+    requires scales { IsTrue (has_scales_for instr operands.now) }
+    requires operands { operation_operands (kind_of instr) ≡ Some 2 }
+    requires two { length operands.now ≡ 2 }
+    ensures { result ≡ operation_result (kind_of instr) operands.now }
+{
+    match operands {
+        [a, b] => computed_from_two(instr, a, b),
+        _ => unreachable!(),
     }
 }
 

@@ -6,10 +6,10 @@ use Rattle.std.proofs.lemmas.Option.{slice_get_within, slice_get_cases}
 use Rattle.ds2_dealer.specs.Runs.{run_length}
 use Rattle.ds2_dealer.specs.Stage.{Stage, StageStep, Draws, HandsIn, Retakes, after_step, opening_stage}
 use Rattle.ds2_dealer.proofs.Legal.{IsLegalStep, AreLegal}
-use Rattle.ds2_schedule.specs.Schedule.{GroupProgram, Agree, IsCarriedStep, carried, AreCarried, IsCarried, in_order, one_thread}
+use Rattle.ds2_schedule.specs.Schedule.{GroupProgram, AgreeAsStates, IsCarriedStep, carried, AreCarried, IsCarried, in_order, one_thread}
 use Rattle.ds2_schedule.specs.Bags.{GroupRun, Bag, worker_draws, caller_draws, run_hand_ins, all_hand_ins, history, handed_by, all_handed, StageHasEnded, AreAnswers, BagsAnswer, answer_from, EndedIsCarried, EndedIsOneThread}
 use Rattle.ds2_dealer.proofs.Steps.{Sound, sound_step, sound_start}
-use Rattle.ds2_schedule.proofs.Schedule.{Free, free_of, StillAgree, agree_step, agree_all, agree_start, every_schedule}
+use Rattle.ds2_schedule.proofs.Schedule.{Free, free_of, itself, StillAgree, agree_step, agree_all, agree_start, every_schedule}
 use Rattle.ds2_dealer.proofs.Counts.{length_changed}
 use Rattle.ds2_schedule.proofs.Bags.{ended_goes, complete_facts}
 
@@ -75,31 +75,31 @@ module _ {S O : Type 0} (agrees : S → S → Type 0) (p : GroupProgram S O) (fr
   true_bags first w [] h = tt
   true_bags first w (b ∷ bs) h = true_append first (run_hand_ins w b.runs) (all_hand_ins (w + 1) bs) (true_hands first w b.runs h.0) (true_bags first (w + 1) bs h.1)
 
-  pub ended_is_carried : (m workers : ℕ) (first : S) (bags : List Bag) (word n : ℕ) (more : List GroupRun) → StageHasEnded m workers bags word n more → BagsAnswer p first bags → AreAnswers p first more
+  pub ended_is_carried : (m workers : ℕ) (first : S) (bags : List Bag) (word n : ℕ) (more : List GroupRun) → agrees first first → StageHasEnded m workers bags word n more → BagsAnswer p first bags → AreAnswers p first more
       → IsCarried p workers first (history workers bags word n more)
-  ended_is_carried m workers first bags word n more h from_first own =
+  ended_is_carried m workers first bags word n more begins h from_first own =
       let l = run_length m workers in
       carried_all m l workers first (replicate (workers + 1) first) (opening_stage workers) (history workers bags word n more) (complete_facts m workers bags word n more h).0
       (true_append first (worker_draws bags 0 word) _ (true_draws first bags 0 word)
       (true_append first (all_hand_ins 0 bags) _ (true_bags first 0 bags from_first)
       (tt, true_append first (caller_draws workers word n) (run_hand_ins workers more) (true_own first workers word n) (true_hands first workers more own))))
-      (sound_start m l workers) (agree_start agrees p free workers first) (length-replicate (workers + 1) first)
+      (sound_start m l workers) (agree_start agrees p free workers first begins) (length-replicate (workers + 1) first)
 
-  pub ended_is_alone : (m workers : ℕ) (first : S) (bags : List Bag) (word n : ℕ) (more : List GroupRun) → StageHasEnded m workers bags word n more → BagsAnswer p first bags → AreAnswers p first more
+  pub ended_is_alone : (m workers : ℕ) (first : S) (bags : List Bag) (word n : ℕ) (more : List GroupRun) → agrees first first → StageHasEnded m workers bags word n more → BagsAnswer p first bags → AreAnswers p first more
       → in_order p.faults (map (answer_from p first) (all_handed 0 bags ++ handed_by workers more)) 0 m ≡ one_thread p first 0 m
-  ended_is_alone m workers first bags word n more h from_first own =
+  ended_is_alone m workers first bags word n more begins h from_first own =
       let l = run_length m workers in
       let xs = history workers bags word n more in
       let done = complete_facts m workers bags word n more h in
-      let told_so = ended_is_carried m workers first bags word n more h from_first own in
-      let all = agree_all agrees p free m l workers first (replicate (workers + 1) first) (opening_stage workers) xs done.0 told_so (agree_start agrees p free workers first) in
+      let told_so = ended_is_carried m workers first bags word n more begins h from_first own in
+      let all = agree_all agrees p free m l workers first (replicate (workers + 1) first) (opening_stage workers) xs done.0 told_so (agree_start agrees p free workers first begins) in
       let g = ended_goes m workers bags word n more h in
       ap (λ (s : Stage). in_order p.faults (map (answer_from p first) s.handed) 0 m) (sym g.ends)
       ∙ ap (λ (t : List (ℕ × O)). in_order p.faults t 0 m) all.1
-      ∙ every_schedule agrees p free m workers first xs done.0 told_so done.1
+      ∙ every_schedule agrees p free m workers first xs begins done.0 told_so done.1
 
 pub ended_is_carried_law : (S K C O : Type 0) → EndedIsCarried S K C O
-ended_is_carried_law S K C O p fixed m workers first bags word n more free h answers own = ended_is_carried (Agree fixed) p (free_of fixed p free) m workers first bags word n more h answers own
+ended_is_carried_law S K C O p is_state fixed m workers first bags word n more free state h answers own = ended_is_carried (AgreeAsStates is_state fixed) p (free_of is_state fixed p free) m workers first bags word n more (itself is_state fixed first state) h answers own
 
 pub ended_is_one_thread : (S K C O : Type 0) → EndedIsOneThread S K C O
-ended_is_one_thread S K C O p fixed m workers first bags word n more free h answers own = ended_is_alone (Agree fixed) p (free_of fixed p free) m workers first bags word n more h answers own
+ended_is_one_thread S K C O p is_state fixed m workers first bags word n more free state h answers own = ended_is_alone (AgreeAsStates is_state fixed) p (free_of is_state fixed p free) m workers first bags word n more (itself is_state fixed first state) h answers own

@@ -2,15 +2,15 @@
 use Rattle.std.proofs.Common.{◌≡◌, ℕ, suc, ◌+◌, List, [], ◌∷◌, ◌++◌, Bool, true, false, refl, sym, ap, ◌∙◌, subst, arith, length}
 use Rattle.std.specs.List.{flat_map}
 use Rattle.std.specs.Prelude.{Option, Some, None, slice_get}
-use Rattle.ds2_schedule.specs.Schedule.{FixedPart, Agree, AreIndependent, up_to_fault, one_thread}
-use Rattle.ds2_schedule.specs.Groups.{UnitRun, Normally, ByFault, StageUnits, IsJoining, with_before, then_from, run_loads, stage_run, IsSameRun, IsSameEnd, SameButEarly, AreSameButEarly, IsGroupIndependent, IsAmongGroups, Given, given_by, state_left, loads_of, stage_program, in_front_of, put_together, EveryStage}
-use Rattle.ds2_schedule.proofs.Schedule.{every_schedule_is}
+use Rattle.ds2_schedule.specs.Schedule.{FixedPart, Agree, AgreeAsStates, AreIndependent, up_to_fault, one_thread}
+use Rattle.ds2_schedule.specs.Groups.{UnitRun, Normally, ByFault, StageUnits, IsJoining, with_before, then_from, run_loads, stage_run, IsSameRun, IsSameEnd, SameButEarly, AreSameButEarly, IsGroupIndependent, IsAmongGroups, Given, given_by, state_left, loads_of, stage_program, in_front_of, put_together, AllAreStates, EveryStage}
+use Rattle.ds2_schedule.proofs.Schedule.{every_schedule_is, itself}
 
-same_load : {K V : Type 0} (early : K → Bool) (l : List (K × V)) → SameButEarly early l l
+same_load : {N V : Type 0} (early : N → Bool) (l : List (N × V)) → SameButEarly early l l
 same_load early [] = tt
 same_load early (x ∷ xs) = (refl, (λ e. refl), same_load early xs)
 
-same_loads : {K V : Type 0} (early : K → Bool) (ls : List (List (K × V))) → AreSameButEarly early ls ls
+same_loads : {N V : Type 0} (early : N → Bool) (ls : List (List (N × V))) → AreSameButEarly early ls ls
 same_loads early [] = tt
 same_loads early (l ∷ ls) = (same_load early l, same_loads early ls)
 
@@ -70,29 +70,29 @@ module _ {S L O : Type 0} (u : StageUnits S L O) (joins : IsJoining u) where
   group_first s (Normally t o) rest last go h = ap (in_front_of u (record { gave = o; faulted = false })) (h t o refl) ∙ given_before o (go t)
   group_first s (ByFault o) rest last go h = refl
 
-module _ {S K C V O : Type 0} (u : StageUnits S (List (K × V)) O) (rows : O → ℕ) (fixed : FixedPart S K C) (early : K → Bool) (budget : ℕ) (groups : List (List (List (K × V)))) (joins : IsJoining u)
-    (free : IsGroupIndependent u (IsAmongGroups groups) early (Agree fixed)) where
-  group_runs : (g : ℕ) (loads : List (List (K × V))) (s t : S) → slice_get groups g ≡ Some loads → Agree fixed s t → IsSameRun (Agree fixed) s t (run_loads u budget loads s) (run_loads u budget loads t)
+module _ {S K C N V O : Type 0} (u : StageUnits S (List (N × V)) O) (rows : O → ℕ) (is_state : S → Bool) (fixed : FixedPart S K C) (early : N → Bool) (budget : ℕ) (groups : List (List (List (N × V)))) (joins : IsJoining u)
+    (free : IsGroupIndependent u (IsAmongGroups groups) early (AgreeAsStates is_state fixed)) where
+  group_runs : (g : ℕ) (loads : List (List (N × V))) (s t : S) → slice_get groups g ≡ Some loads → AgreeAsStates is_state fixed s t → IsSameRun (AgreeAsStates is_state fixed) s t (run_loads u budget loads s) (run_loads u budget loads t)
   group_runs g loads s t at same = free.groups budget loads loads s t (g, at) (g, at) (same_loads early loads) same
 
-  result_same : (g : ℕ) (o : Option (List (List (K × V)))) (s t : S) → slice_get groups g ≡ o → Agree fixed s t → given_by (run_loads u budget (loads_of o) s) ≡ given_by (run_loads u budget (loads_of o) t)
+  result_same : (g : ℕ) (o : Option (List (List (N × V)))) (s t : S) → slice_get groups g ≡ o → AgreeAsStates is_state fixed s t → given_by (run_loads u budget (loads_of o) s) ≡ given_by (run_loads u budget (loads_of o) t)
   result_same g None s t at same = refl
-  result_same g (Some loads) s t at same = same_given (Agree fixed) s t (run_loads u budget loads s) (run_loads u budget loads t) (group_runs g loads s t at same)
+  result_same g (Some loads) s t at same = same_given (AgreeAsStates is_state fixed) s t (run_loads u budget loads s) (run_loads u budget loads t) (group_runs g loads s t at same)
 
-  result_kept : (g : ℕ) (o : Option (List (List (K × V)))) (s : S) → slice_get groups g ≡ o → Agree fixed (state_left s (run_loads u budget (loads_of o) s)) s
-  result_kept g None s at = λ k is. refl
-  result_kept g (Some loads) s at = left_agrees (Agree fixed) s (run_loads u budget loads s) (λ k is. refl) (group_runs g loads s s at (λ k is. refl))
+  result_kept : (g : ℕ) (o : Option (List (List (N × V)))) (s : S) → slice_get groups g ≡ o → AgreeAsStates is_state fixed s s → AgreeAsStates is_state fixed (state_left s (run_loads u budget (loads_of o) s)) s
+  result_kept g None s at state = state
+  result_kept g (Some loads) s at state = left_agrees (AgreeAsStates is_state fixed) s (run_loads u budget loads s) state (group_runs g loads s s at state)
 
-  independent : AreIndependent (Agree fixed) (stage_program u rows budget groups)
+  independent : AreIndependent (AgreeAsStates is_state fixed) (stage_program u rows budget groups)
   independent = record {
     same = λ s t g same. result_same g (slice_get groups g) s t refl same;
-    kept = λ s g calm. result_kept g (slice_get groups g) s refl;
+    kept = λ s g state calm. result_kept g (slice_get groups g) s refl state;
   }
 
-  in_turn : (first s : S) (rest : List (List (List (K × V)))) (g : ℕ) → ((k : ℕ) → slice_get groups (g + k) ≡ slice_get rest k) → Agree fixed s first
+  in_turn : (first s : S) (rest : List (List (List (N × V)))) (g : ℕ) → ((k : ℕ) → slice_get groups (g + k) ≡ slice_get rest k) → AgreeAsStates is_state fixed s first
       → put_together u (one_thread (stage_program u rows budget groups) s g (length rest)) (given_by (u.term budget first)) ≡ given_by (stage_run u budget (flat_map (λ g. g) rest) s)
   in_turn first s [] g at same =
-      same_end (Agree fixed) (u.term budget first) (u.term budget s) (free.terms budget first s (λ k is. sym (same k is)))
+      same_end (AgreeAsStates is_state fixed) (u.term budget first) (u.term budget s) (free.terms budget first s (same.1, same.0, λ k is. sym (same.2 k is)))
       ∙ ap given_by (sym (nothing_before u joins (u.term budget s)))
   in_turn first s (loads ∷ rest) g at same =
       let p = stage_program u rows budget groups in
@@ -101,16 +101,34 @@ module _ {S K C V O : Type 0} (u : StageUnits S (List (K × V)) O) (rows : O →
       let x = run_loads u budget loads s in
       let here : slice_get groups g ≡ Some loads = subst (λ (k : ℕ). slice_get groups k ≡ Some loads) (omega arith) (at 0) in
       let go : S → UnitRun S O = λ t. stage_run u budget (flat_map (λ g. g) rest) t in
-      let kept = result_kept g (Some loads) s here in
-      ap (λ (o : Option (List (List (K × V)))). put_together u (up_to_fault (given_by (run_loads u budget (loads_of o) s)).faulted (given_by (run_loads u budget (loads_of o) s)) (one_thread p (state_left s (run_loads u budget (loads_of o) s)) (g + 1) n)) last) here
+      let kept = result_kept g (Some loads) s here (itself is_state fixed s same.0) in
+      ap (λ (o : Option (List (List (N × V)))). put_together u (up_to_fault (given_by (run_loads u budget (loads_of o) s)).faulted (given_by (run_loads u budget (loads_of o) s)) (one_thread p (state_left s (run_loads u budget (loads_of o) s)) (g + 1) n)) last) here
       ∙ group_first u joins s x (λ t. one_thread p t (g + 1) n) last go (λ t o is.
-      in_turn first t rest (g + 1) (λ k. subst (λ (j : ℕ). slice_get groups j ≡ slice_get rest k) (omega arith) (at (suc k)))
-      (λ k fix. ap (λ (y : UnitRun S O). fixed.content (state_left s y) k) (sym is) ∙ kept k fix ∙ same k fix))
+      in_turn first t rest (g + 1) (λ k. subst (λ (j : ℕ). slice_get groups j ≡ slice_get rest k) (omega arith) (at (suc k))) (
+        ap (λ (y : UnitRun S O). is_state (state_left s y)) (sym is) ∙ kept.0,
+        same.1,
+        λ k fix. ap (λ (y : UnitRun S O). fixed.content (state_left s y) k) (sym is) ∙ kept.2 k fix ∙ same.2 k fix,
+      ))
       ∙ ap given_by (sym (ap (λ (y : UnitRun S O). then_from u y (u.term budget)) (run_append u joins budget loads (flat_map (λ g. g) rest) s) ∙ then_then u joins x (run_loads u budget (flat_map (λ g. g) rest)) (u.term budget)))
 
-pub every_stage : (S K C V O : Type 0) → EveryStage S K C V O
-every_stage S K C V O u rows fixed early budget groups workers first xs joins free legal carried_so complete =
+pub every_stage : (S K C N V O : Type 0) → EveryStage S K C N V O
+every_stage S K C N V O u rows is_state fixed early budget groups workers first xs joins free state legal carried_so complete =
     let p = stage_program u rows budget groups in
     let m = length groups in
-    ap (λ (os : List (Given O)). put_together u os (given_by (u.term budget first))) (every_schedule_is S K C (Given O) p fixed m workers first xs (independent u rows fixed early budget groups joins free) legal carried_so complete)
-    ∙ in_turn u rows fixed early budget groups joins free first first groups 0 (λ k. ap (slice_get groups) (omega arith)) (λ k is. refl)
+    let same = every_schedule_is S K C (Given O) p is_state fixed m workers first xs (independent u rows is_state fixed early budget groups joins free) state legal carried_so complete in (
+      same,
+      ap (λ (os : List (Given O)). put_together u os (given_by (u.term budget first))) same
+          ∙ in_turn u rows is_state fixed early budget groups joins free first first groups 0 (λ k. ap (slice_get groups) (omega arith)) (itself is_state fixed first state),
+    )
+
+as_states : {S K C O : Type 0} (fixed : FixedPart S K C) (s t : S) (x y : UnitRun S O) → IsSameRun (Agree fixed) s t x y → IsSameRun (AgreeAsStates (λ z. true) fixed) s t x y
+as_states fixed s t (Normally u o) (Normally v q) h = (h.0, (refl, refl, h.1), (refl, refl, h.2))
+as_states fixed s t (Normally u o) (ByFault q) h = absurd h
+as_states fixed s t (ByFault o) (Normally v q) h = absurd h
+as_states fixed s t (ByFault o) (ByFault q) h = h
+
+pub all_are_states : (S K C N V O : Type 0) → AllAreStates S K C N V O
+all_are_states S K C N V O u fixed early groups free = record {
+  groups = λ budget ls ks s t a b h same. as_states fixed s t (run_loads u budget ls s) (run_loads u budget ks t) (free.groups budget ls ks s t a b h same.2);
+  terms = λ budget s t same. free.terms budget s t same.2;
+}

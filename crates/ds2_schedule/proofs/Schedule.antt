@@ -12,7 +12,7 @@ use Rattle.ds2_dealer.specs.Stage.{HandIn, Stage, StageStep, Draws, HandsIn, Ret
 use Rattle.ds2_dealer.proofs.Legal.{IsLegalStep, AreLegal, IsCompleteStage, legal_steps, complete_stage, or_true, and_true}
 use Rattle.ds2_dealer.proofs.Steps.{sound_all, sound_start}
 use Rattle.ds2_dealer.proofs.Runs.{enough, one_at_least}
-use Rattle.ds2_schedule.specs.Schedule.{OneThreadAgrees, from_first, left_by_one, GroupProgram, FixedPart, Agree, AreIndependent, IsCarriedStep, carried, with_result, brought, AreCarried, all_brought, IsCarried, results, result_at, up_to_fault, next_result, in_order, one_thread, EverySchedule}
+use Rattle.ds2_schedule.specs.Schedule.{OneThreadAgrees, from_first, left_by_one, GroupProgram, FixedPart, AgreeAsStates, AreIndependent, IsCarriedStep, carried, with_result, brought, AreCarried, all_brought, IsCarried, results, result_at, up_to_fault, next_result, in_order, one_thread, EverySchedule}
 use Rattle.ds2_schedule.specs.Bags.{answer_from}
 
 module _ {A : Type 0} where
@@ -36,21 +36,23 @@ true_and_false : (a b : Bool) → a ≡ true → (a && b) ≡ false → b ≡ fa
 true_and_false true b e f = f
 true_and_false false b e f = absurd (cc)
 
--- independence, with what agreement always has: states that agree with themselves, and both ways, and one after the other
+-- independence, with what agreement always has: both ways, and one after the other
 pub record Free {S O : Type 0} (agrees : S → S → Type 0) (p : GroupProgram S O) : Type 0 where
   pub same : (s t : S) (g : ℕ) → agrees s t → p.result s g ≡ p.result t g
-  pub kept : (s : S) (g : ℕ) → p.faults (p.result s g) ≡ false → agrees (p.leaves s g) s
-  pub itself : (s : S) → agrees s s
+  pub kept : (s t : S) (g : ℕ) → agrees s t → p.faults (p.result s g) ≡ false → agrees (p.leaves s g) s
   pub back : (s t : S) → agrees s t → agrees t s
   pub through : (s t u : S) → agrees s t → agrees t u → agrees s u
 
-pub free_of : {S K C O : Type 0} (fixed : FixedPart S K C) (p : GroupProgram S O) → AreIndependent (Agree fixed) p → Free (Agree fixed) p
-free_of fixed p free = record {
+-- a state agrees with itself
+pub itself : {S K C : Type 0} (is_state : S → Bool) (fixed : FixedPart S K C) (s : S) → is_state s ≡ true → AgreeAsStates is_state fixed s s
+itself is_state fixed s state = (state, state, λ k is. refl)
+
+pub free_of : {S K C O : Type 0} (is_state : S → Bool) (fixed : FixedPart S K C) (p : GroupProgram S O) → AreIndependent (AgreeAsStates is_state fixed) p → Free (AgreeAsStates is_state fixed) p
+free_of is_state fixed p free = record {
   same = free.same;
-  kept = free.kept;
-  itself = λ s k is. refl;
-  back = λ s t e k is. sym (e k is);
-  through = λ s t u e f k is. e k is ∙ f k is;
+  kept = λ s t g e calm. free.kept s g (itself is_state fixed s e.0) calm;
+  back = λ s t e. (e.1, e.0, λ k is. sym (e.2 k is));
+  through = λ s t u e f. (e.0, f.1, λ k is. e.2 k is ∙ f.2 k is);
 }
 
 -- each entry's fault is that of the first state's result
@@ -102,7 +104,7 @@ module _ {S O : Type 0} (agrees : S → S → Type 0) (p : GroupProgram S O) (fr
                     let z = c.1.0 in
                     let i : z ≡ t = some_same (slice_get states w) z t (sym (ap (slice_get states) c.0) ∙ c.1.1) told_so.1 in
                     let normal : p.faults (p.result t g) ≡ false = sym told_so.3 ∙ n.1 c.0 in
-                    subst (λ (y : S). agrees y first) (ap (λ (y : S). p.leaves y g) (sym i) ∙ c.1.2) (free.through (p.leaves t g) t first (free.kept t g normal) same))
+                    subst (λ (y : S). agrees y first) (ap (λ (y : S). p.leaves y g) (sym i) ∙ c.1.2) (free.through (p.leaves t g) t first (free.kept t first g same normal) same))
                 | inr c ↦ h.agree v u c n.0
               ];
           right = right_more first s.handed e h.right (told_so.3 ∙ ap p.faults r);
@@ -157,20 +159,19 @@ module _ {S O : Type 0} (agrees : S → S → Type 0) (p : GroupProgram S O) (fr
         | inl e ↦ ap (λ (k : ℕ). p.faults (p.result first k)) e ∙ ap p.faults (sym r) ∙ normal
         | inr d ↦ calm j (omega (arith, low, d))
       ])
-      (free.through (p.leaves s g) s first (free.kept s g normal) same))
+      (free.through (p.leaves s g) s first (free.kept s first g same normal) same))
 
-  pub agree_start : (workers : ℕ) (first : S) → StillAgree first (replicate (workers + 1) first) []
-  agree_start workers first = record { agree = λ w t at calm. subst (λ (y : S). agrees y first) (sym (get_replicate (workers + 1) w first t at)) (free.itself first); right = tt }
+  pub agree_start : (workers : ℕ) (first : S) → agrees first first → StillAgree first (replicate (workers + 1) first) []
+  agree_start workers first begins = record { agree = λ w t at calm. subst (λ (y : S). agrees y first) (sym (get_replicate (workers + 1) w first t at)) begins; right = tt }
 
-  pub every_schedule : (m workers : ℕ) (first : S) (xs : List StageStep) → AreLegal m (run_length m workers) workers (opening_stage workers) xs → IsCarried p workers first xs → IsCompleteStage m (run_length m workers) (replay m workers xs)
+  pub every_schedule : (m workers : ℕ) (first : S) (xs : List StageStep) → agrees first first → AreLegal m (run_length m workers) workers (opening_stage workers) xs → IsCarried p workers first xs → IsCompleteStage m (run_length m workers) (replay m workers xs)
       → in_order p.faults (results p workers first xs) 0 m ≡ one_thread p first 0 m
-  every_schedule m workers first xs legal told_so complete =
+  every_schedule m workers first xs begins legal told_so complete =
       let l = run_length m workers in
       let s = replay m workers xs in
       let states = replicate (workers + 1) first in
       let sound = sound_all m l workers (opening_stage workers) xs (sound_start m l workers) legal in
-      let opening : StillAgree first states [] = record { agree = λ w t at calm. subst (λ (y : S). agrees y first) (sym (get_replicate (workers + 1) w first t at)) (free.itself first); right = tt } in
-      let all = agree_all m l workers first states (opening_stage workers) xs legal told_so (agree_start workers first) in
+      let all = agree_all m l workers first states (opening_stage workers) xs legal told_so (agree_start workers first begins) in
       in_order_is first first m (results p workers first xs) 0 m (λ k low calm.
       let quiet : (j : ℕ) → j < k → p.faults (p.result first j) ≡ true → ⊥ = (λ j less e. let a = sym e ∙ calm j less in cc) in
       let reached : k < s.drawn * l = elim complete.0 [
@@ -183,14 +184,14 @@ module _ {S O : Type 0} (agrees : S → S → Type 0) (p : GroupProgram S O) (fr
         | inl some ↦ absurd (let f = lower_fault first k s.handed all.0 (complete.1 k (omega (arith, some))) in quiet f.0 f.1 f.2)
       ] in
       ap (result_at k) (sym all.1) ∙ look_told first k s.handed here)
-      (omega arith) (λ j less. absurd (omega (arith, less))) (free.itself first)
+      (omega arith) (λ j less. absurd (omega (arith, less))) begins
 
   pub fold_answers : (first s : S) (g n : ℕ) → agrees s first → one_thread p s g n ≡ from_first p first g n
   fold_answers first s g zero same = refl
   fold_answers first s g (suc n) same =
       let r = free.same s first g same in
       goes_same (p.faults (p.result s g)) (p.faults (p.result first g)) (p.result s g) (p.result first g) _ _ r (ap p.faults r) (λ normal.
-      fold_answers first (p.leaves s g) (g + 1) n (free.through (p.leaves s g) s first (free.kept s g (ap p.faults r ∙ normal)) same))
+      fold_answers first (p.leaves s g) (g + 1) n (free.through (p.leaves s g) s first (free.kept s first g same (ap p.faults r ∙ normal)) same))
 
   goes_calm : (b : Bool) (o : O) (rest : List O) → p.faults o ≡ b → list_any p.faults (up_to_fault b o rest) ≡ false → (b ≡ false) × (list_any p.faults rest ≡ false)
   goes_calm true o rest e calm = absurd (let f = or_false (p.faults o) false calm in let g = f.0 in cc)
@@ -200,14 +201,15 @@ module _ {S O : Type 0} (agrees : S → S → Type 0) (p : GroupProgram S O) (fr
   fold_leaves first s g zero same calm = same
   fold_leaves first s g (suc n) same calm =
       let c = goes_calm (p.faults (p.result s g)) (p.result s g) (one_thread p (p.leaves s g) (g + 1) n) refl calm in
-      fold_leaves first (p.leaves s g) (g + 1) n (free.through (p.leaves s g) s first (free.kept s g c.0) same) c.1
+      fold_leaves first (p.leaves s g) (g + 1) n (free.through (p.leaves s g) s first (free.kept s first g same c.0) same) c.1
 
 pub every_schedule_is : (S K C O : Type 0) → EverySchedule S K C O
-every_schedule_is S K C O p fixed m workers first xs free legal carried_so complete =
+every_schedule_is S K C O p is_state fixed m workers first xs free state legal carried_so complete =
     let l = run_length m workers in
-    every_schedule (Agree fixed) p (free_of fixed p free) m workers first xs (legal_steps m l workers (opening_stage workers) xs legal) carried_so (complete_stage m l (replay m workers xs) complete)
+    every_schedule (AgreeAsStates is_state fixed) p (free_of is_state fixed p free) m workers first xs (itself is_state fixed first state) (legal_steps m l workers (opening_stage workers) xs legal) carried_so (complete_stage m l (replay m workers xs) complete)
 
 pub one_thread_agrees : (S K C O : Type 0) → OneThreadAgrees S K C O
-one_thread_agrees S K C O p fixed first m free =
-    let f = free_of fixed p free in
-    (fold_answers (Agree fixed) p f first first 0 m (f.itself first), λ calm. fold_leaves (Agree fixed) p f first first 0 m (f.itself first) calm)
+one_thread_agrees S K C O p is_state fixed first m free state =
+    let f = free_of is_state fixed p free in
+    let begins = itself is_state fixed first state in
+    (fold_answers (AgreeAsStates is_state fixed) p f first first 0 m begins, λ calm. fold_leaves (AgreeAsStates is_state fixed) p f first first 0 m begins calm)

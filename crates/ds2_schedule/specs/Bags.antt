@@ -4,7 +4,7 @@ use Rattle.std.specs.List.{AllByRecursion, list_any, filter, flat_map, range_wit
 use Rattle.ds2_dealer.specs.Runs.{run_length, run_count, run_groups, times, once_below}
 use Rattle.ds2_dealer.specs.Stage.{HandIn, StageStep, Draws, HandsIn, Retakes, some_fault, is_legal, is_complete}
 use Rattle.ds2_dealer.specs.Sums.{has_fault_at}
-use Rattle.ds2_schedule.specs.Schedule.{GroupProgram, FixedPart, Agree, AreIndependent, IsCarried, in_order, one_thread}
+use Rattle.ds2_schedule.specs.Schedule.{GroupProgram, FixedPart, AgreeAsStates, AreIndependent, IsCarried, in_order, one_thread}
 
 -- A group that a party ran, the number of its rows, and whether it ended in a fault.
 pub record GroupRun : Type 0 where
@@ -148,11 +148,11 @@ EndedIsComplete = (m workers : ℕ) (bags : List Bag) (word n : ℕ) (more : Lis
 
 -- Where groups are independent and each party has what the first state gives, each party carries a state through that history.
 abbrev pub EndedIsCarried : Type 0 → Type 0 → Type 0 → Type 0 → Type 0
-EndedIsCarried S K C O = (p : GroupProgram S O) (fixed : FixedPart S K C) (m workers : ℕ) (first : S) (bags : List Bag) (word n : ℕ) (more : List GroupRun) → AreIndependent (Agree fixed) p
+EndedIsCarried S K C O = (p : GroupProgram S O) (is_state : S → Bool) (fixed : FixedPart S K C) (m workers : ℕ) (first : S) (bags : List Bag) (word n : ℕ) (more : List GroupRun) → AreIndependent (AgreeAsStates is_state fixed) p → is_state first ≡ true
     → StageHasEnded m workers bags word n more → BagsAnswer p first bags → AreAnswers p first more → IsCarried p workers first (history workers bags word n more)
 
 -- What the bags and the caller have, put in order of group up to the least fault, is then what one thread gives.
 abbrev pub EndedIsOneThread : Type 0 → Type 0 → Type 0 → Type 0 → Type 0
-EndedIsOneThread S K C O = (p : GroupProgram S O) (fixed : FixedPart S K C) (m workers : ℕ) (first : S) (bags : List Bag) (word n : ℕ) (more : List GroupRun) → AreIndependent (Agree fixed) p
+EndedIsOneThread S K C O = (p : GroupProgram S O) (is_state : S → Bool) (fixed : FixedPart S K C) (m workers : ℕ) (first : S) (bags : List Bag) (word n : ℕ) (more : List GroupRun) → AreIndependent (AgreeAsStates is_state fixed) p → is_state first ≡ true
     → StageHasEnded m workers bags word n more → BagsAnswer p first bags → AreAnswers p first more
     → in_order p.faults (map (answer_from p first) (all_handed 0 bags ++ handed_by workers more)) 0 m ≡ one_thread p first 0 m

@@ -1,8 +1,8 @@
 -- Units over groups of loads: what a group gives, when groups are independent at a grain, and what a stage gives on one thread and on many.
-use Rattle.std.specs.Prelude.{◌≡◌, ℕ, List, [], ◌∷◌, ◌++◌, Bool, true, false, Option, Some, None, length, slice_get}
+use Rattle.std.specs.Prelude.{◌≡◌, ℕ, List, [], ◌∷◌, Bool, true, false, Option, Some, None, length, slice_get}
 use Rattle.std.specs.List.{flat_map}
 use Rattle.ds2_dealer.specs.Stage.{StageStep, is_legal, is_complete}
-use Rattle.ds2_schedule.specs.Schedule.{GroupProgram, FixedPart, Agree, IsCarried, results, in_order}
+use Rattle.ds2_schedule.specs.Schedule.{GroupProgram, FixedPart, Agree, AgreeAsStates, IsCarried, results, in_order, one_thread}
 
 -- How a unit ended: normally, in a state, or by a fault; and what it gave (its rows, lines, ending and way, or count).
 pub data UnitRun (S O : Type 0) : Type 0 where
@@ -53,21 +53,21 @@ IsSameEnd (Normally u o) (Normally v q) = o ≡ q
 IsSameEnd (ByFault o) (ByFault q) = o ≡ q
 IsSameEnd _ _ = ⊥
 
--- Two loads set the same locations to the same values, but for the values of early locations.
-abbrev pub SameButEarly : {K V : Type 0} → (K → Bool) → List (K × V) → List (K × V) → Type 0
+-- Two loads set the same names to the same values, but for the values of early ones.
+abbrev pub SameButEarly : {N V : Type 0} → (N → Bool) → List (N × V) → List (N × V) → Type 0
 SameButEarly early [] [] = Unit {0}
 SameButEarly early (x ∷ xs) (y ∷ ys) = (x.0 ≡ y.0) × (early x.0 ≡ false → x.1 ≡ y.1) × SameButEarly early xs ys
 SameButEarly early _ _ = ⊥
 
--- Two lists of loads that are the same but for early locations, load by load.
-abbrev pub AreSameButEarly : {K V : Type 0} → (K → Bool) → List (List (K × V)) → List (List (K × V)) → Type 0
+-- Two lists of loads that are the same but for early names, load by load.
+abbrev pub AreSameButEarly : {N V : Type 0} → (N → Bool) → List (List (N × V)) → List (List (N × V)) → Type 0
 AreSameButEarly early [] [] = Unit {0}
 AreSameButEarly early (l ∷ ls) (k ∷ ks) = SameButEarly early l k × AreSameButEarly early ls ks
 AreSameButEarly early _ _ = ⊥
 
--- A stage is group independent at a grain, for every budget: two groups at that grain that are the same but for the flags of the BY variables before it (the early locations) run the same from any two states that agree on the fixed locations, and `term` ends the same from any two such states.
-pub record IsGroupIndependent {S K V O : Type 0} (u : StageUnits S (List (K × V)) O) (IsGroup : List (List (K × V)) → Type 0) (early : K → Bool) (agrees : S → S → Type 0) : Type 0 where
-  pub groups : (budget : ℕ) (ls ks : List (List (K × V))) (s t : S) → IsGroup ls → IsGroup ks → AreSameButEarly early ls ks → agrees s t
+-- A stage is group independent at a grain, for every budget: two groups at that grain that are the same but for the flags of the BY variables before it (the early names) run the same from any two states that agree on the fixed locations, and `term` ends the same from any two such states.
+pub record IsGroupIndependent {S N V O : Type 0} (u : StageUnits S (List (N × V)) O) (IsGroup : List (List (N × V)) → Type 0) (early : N → Bool) (agrees : S → S → Type 0) : Type 0 where
+  pub groups : (budget : ℕ) (ls ks : List (List (N × V))) (s t : S) → IsGroup ls → IsGroup ks → AreSameButEarly early ls ks → agrees s t
       → IsSameRun agrees s t (run_loads u budget ls s) (run_loads u budget ks t)
   pub terms : (budget : ℕ) (s t : S) → agrees s t → IsSameEnd (u.term budget s) (u.term budget t)
 
@@ -118,10 +118,16 @@ abbrev pub put_together : {S L O : Type 0} → StageUnits S L O → List (Given 
 put_together u [] last = last
 put_together u (o ∷ os) last = unless_faulted o.faulted o (in_front_of u o (put_together u os last))
 
--- Many workers give what one thread gives: for every number of workers and every legal and complete history in which each party begins with the first state, the results put together in order of group, up to and with the least fault, and then `term` from the first state, are the stage's own.
-abbrev pub EveryStage : Type 0 → Type 0 → Type 0 → Type 0 → Type 0 → Type 0
-EveryStage S K C V O = (u : StageUnits S (List (K × V)) O) (rows : O → ℕ) (fixed : FixedPart S K C) (early : K → Bool) (budget : ℕ) (groups : List (List (List (K × V)))) (workers : ℕ) (first : S) (xs : List StageStep)
-    → IsJoining u → IsGroupIndependent u (IsAmongGroups groups) early (Agree fixed)
+-- Where every value is a state, groups that are independent between values that agree are independent between states.
+abbrev pub AllAreStates : Type 0 → Type 0 → Type 0 → Type 0 → Type 0 → Type 0 → Type 0
+AllAreStates S K C N V O = (u : StageUnits S (List (N × V)) O) (fixed : FixedPart S K C) (early : N → Bool) (groups : List (List (List (N × V))))
+    → IsGroupIndependent u (IsAmongGroups groups) early (Agree fixed) → IsGroupIndependent u (IsAmongGroups groups) early (AgreeAsStates (λ s. true) fixed)
+
+-- Many workers give what one thread gives: for every number of workers and every legal and complete history in which each party begins with the first state, the results in order of group, up to and with the least fault, are those of one thread; put together, with `term` from the first state behind them, they are the stage's own.
+abbrev pub EveryStage : Type 0 → Type 0 → Type 0 → Type 0 → Type 0 → Type 0 → Type 0
+EveryStage S K C N V O = (u : StageUnits S (List (N × V)) O) (rows : O → ℕ) (is_state : S → Bool) (fixed : FixedPart S K C) (early : N → Bool) (budget : ℕ) (groups : List (List (List (N × V)))) (workers : ℕ) (first : S) (xs : List StageStep)
+    → IsJoining u → IsGroupIndependent u (IsAmongGroups groups) early (AgreeAsStates is_state fixed) → is_state first ≡ true
     → is_legal (length groups) workers xs ≡ true → IsCarried (stage_program u rows budget groups) workers first xs → is_complete (length groups) workers xs ≡ true
-    → let p = stage_program u rows budget groups in
-    put_together u (in_order p.faults (results p workers first xs) 0 (length groups)) (given_by (u.term budget first)) ≡ given_by (stage_run u budget (flat_map (λ g. g) groups) first)
+    → let p = stage_program u rows budget groups in let in_turn = in_order p.faults (results p workers first xs) 0 (length groups) in
+    (in_turn ≡ one_thread p first 0 (length groups))
+    × (put_together u in_turn (given_by (u.term budget first)) ≡ given_by (stage_run u budget (flat_map (λ g. g) groups) first))

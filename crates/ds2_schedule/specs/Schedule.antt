@@ -19,10 +19,14 @@ pub record FixedPart (S K C : Type 0) : Type 0 where
 abbrev pub Agree : {S K C : Type 0} → FixedPart S K C → S → S → Type 0
 Agree {S} {K} f s t = (k : K) → f.is_fixed k ≡ true → f.content s k ≡ f.content t k
 
+-- They agree as states where both are states of the program, as a test says: code promises nothing of other data.
+abbrev pub AgreeAsStates : {S K C : Type 0} → (S → Bool) → FixedPart S K C → S → S → Type 0
+AgreeAsStates is_state f s t = (is_state s ≡ true) × (is_state t ≡ true) × Agree f s t
+
 -- Groups are independent where states that agree give one result, and a run that ends without fault leaves a state that agrees with the one before.
 pub record AreIndependent {S O : Type 0} (agrees : S → S → Type 0) (p : GroupProgram S O) : Type 0 where
   pub same : (s t : S) (g : ℕ) → agrees s t → p.result s g ≡ p.result t g
-  pub kept : (s : S) (g : ℕ) → p.faults (p.result s g) ≡ false → agrees (p.leaves s g) s
+  pub kept : (s : S) (g : ℕ) → agrees s s → p.faults (p.result s g) ≡ false → agrees (p.leaves s g) s
 
 -- A hand-in carries the result from its party's state: its rows and whether it is a fault.
 abbrev pub IsCarriedStep : {S O : Type 0} → GroupProgram S O → List S → StageStep → Type 0
@@ -102,11 +106,11 @@ from_first p first g (suc n) = up_to_fault (p.faults (p.result first g)) (p.resu
 
 -- Where groups are independent, one thread gives what each group gives from the first state, and leaves a state that agrees with that one where none is a fault.
 abbrev pub OneThreadAgrees : Type 0 → Type 0 → Type 0 → Type 0 → Type 0
-OneThreadAgrees S K C O = (p : GroupProgram S O) (fixed : FixedPart S K C) (first : S) (m : ℕ) → AreIndependent (Agree fixed) p
-    → (one_thread p first 0 m ≡ from_first p first 0 m) × (list_any p.faults (one_thread p first 0 m) ≡ false → Agree fixed (left_by_one p first 0 m) first)
+OneThreadAgrees S K C O = (p : GroupProgram S O) (is_state : S → Bool) (fixed : FixedPart S K C) (first : S) (m : ℕ) → AreIndependent (AgreeAsStates is_state fixed) p → is_state first ≡ true
+    → (one_thread p first 0 m ≡ from_first p first 0 m) × (list_any p.faults (one_thread p first 0 m) ≡ false → AgreeAsStates is_state fixed (left_by_one p first 0 m) first)
 
 -- Where groups are independent, the results of every legal and complete history with states, put in order, are those of one thread.
 abbrev pub EverySchedule : Type 0 → Type 0 → Type 0 → Type 0 → Type 0
-EverySchedule S K C O = (p : GroupProgram S O) (fixed : FixedPart S K C) (m workers : ℕ) (first : S) (xs : List StageStep) → AreIndependent (Agree fixed) p
+EverySchedule S K C O = (p : GroupProgram S O) (is_state : S → Bool) (fixed : FixedPart S K C) (m workers : ℕ) (first : S) (xs : List StageStep) → AreIndependent (AgreeAsStates is_state fixed) p → is_state first ≡ true
     → is_legal m workers xs ≡ true → IsCarried p workers first xs → is_complete m workers xs ≡ true
     → in_order p.faults (results p workers first xs) 0 m ≡ one_thread p first 0 m

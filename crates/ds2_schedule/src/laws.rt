@@ -1,6 +1,6 @@
 //! Laws over the definitions alone, for any types of states, locations, contents, loads and results.
 ghost use Rattle.ds2_schedule.specs.Bags.{EndedIsComplete, EndedIsCarried, EndedIsOneThread, WholeBagsHaveAll};
-ghost use Rattle.ds2_schedule.specs.Groups.{EveryStage};
+ghost use Rattle.ds2_schedule.specs.Groups.{AllAreStates, EveryStage};
 ghost use Rattle.ds2_schedule.specs.Histories.{HistoriesReplay};
 ghost use Rattle.ds2_schedule.specs.Numbers.{DrawsTheNext, StillAscends};
 ghost use Rattle.ds2_schedule.specs.Sample.{SampleMeetsPremises};
@@ -17,8 +17,13 @@ pub fn one_thread_agrees<State, Location, Content, Answer>()
 {}
 
 /// A stage whose groups are independent at a grain gives on many workers what its loads in turn and `term` give on one thread.
-pub fn every_stage<State, Location, Content, Field, Answer>()
-    ensures { EveryStage State Location Content Field Answer }
+pub fn every_stage<State, Location, Content, Target, Value, Answer>()
+    ensures { EveryStage State Location Content Target Value Answer }
+{}
+
+/// Where every value of the type is a state of the program, independence between values that agree is independence between states.
+pub fn all_are_states<State, Location, Content, Target, Value, Answer>()
+    ensures { AllAreStates State Location Content Target Value Answer }
 {}
 
 /// The history of a stage that has ended is legal and complete.

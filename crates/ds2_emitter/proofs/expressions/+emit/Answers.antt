@@ -1,8 +1,8 @@
-use Rattle.std.proofs.Common.{◌≡◌, ◌+◌, map, drop, ap, ◌∙◌, arith}
+use Rattle.std.proofs.Common.{◌≡◌, ◌+◌, map, drop, sym, ap, ◌∙◌, arith}
 use Rattle.std.proofs.lemmas.Grind.{common_steps}
 use Rattle.ds2_meaning.specs.TypedExpression.{Constant, Variable, Widen, Convert, Prefixed, Chain, Compared, Applied, NoLink, Link, ByValue, InOut}
 use Rattle.ds2_meaning.specs.View.{in_a_row, all_expressions, typed_expression, call_tree, link_tree, argument_tree}
-use Rattle.ds2_emitter.specs.Emit.{with_expression, with_arguments, with_links}
+use Rattle.ds2_emitter.specs.Emit.{with_instruction, with_expression, with_arguments, with_links}
 use Rattle.ds2_emitter.proofs.Appended.{on_ok, constant_emitted, variable_emitted, widen_emitted, convert_emitted, prefixed_emitted, chain_emitted, compared_emitted, applied_emitted, called_emitted, hash_emitted, iterator_emitted, value_emitted, in_out_emitted, link_emitted, no_expression_emitted, then_emitted, no_link_emitted, no_argument_emitted}
 use Rattle.ds2_emitter.proofs.Trees.{value_is, in_out_is, constant_is, variable_is, widen_is, convert_is, prefixed_is, chain_is, compared_is, applied_is, called_is, hash_is, iterator_is, link_is}
 use Rattle.ds2_emitter.proofs.expressions.+emit.Goals as goal
@@ -14,26 +14,26 @@ emit_argument-returns-in_ok-emit_expression-in-Value g t c rest =
     let whole = ap (λ x. with_arguments n x c.args.code.now) same ∙ value_emitted n (typed_expression c.in-Value.e) rest c.args.code.now in
     cc (whole, c.in_ok-emit_expression-in-Value.ensures.code)
 
-pub emit_argument-returns-in-InOut : goal.emit_argument-returns-in-InOut
-emit_argument-returns-in-InOut g t c rest =
+pub emit_argument-returns-in_ok-load-in-InOut : goal.emit_argument-returns-in_ok-load-in-InOut
+emit_argument-returns-in_ok-load-in-InOut g t c rest =
     let n = g.N.Numbering.numbers c.args.names.now in
     let same : argument_tree c.args.argument.now rest ≡ InOut c.in-InOut.variable rest = in_out_is c.args.argument.now c.in-InOut.variable rest c.in-InOut.is in
     let whole = ap (λ x. with_arguments n x c.args.code.now) same ∙ in_out_emitted n c.in-InOut.variable rest c.args.code.now in
-    on_ok c.emit.result c.emit.ensures (λ e. cc (e, whole, c.load.ensures))
+    on_ok c.emit.result c.emit.ensures (λ e. cc (e, whole, c.in_ok-load-in-InOut.ensures))
 
 pub emit_expression-returns-in_ok-emit-in-Constant-clause-code : goal.emit_expression-returns-in_ok-emit-in-Constant-clause-code
 emit_expression-returns-in_ok-emit-in-Constant-clause-code g t c =
     let n = g.N.Numbering.numbers c.args.names.now in
     let same : typed_expression c.args.e.now ≡ Constant c.in-Constant.value c.in-Constant.ty = constant_is c.args.e.now c.in-Constant.value c.in-Constant.ty c.in-Constant.is in
     let whole = ap (λ x. with_expression n x c.args.code.now) same ∙ constant_emitted n c.in-Constant.value c.in-Constant.ty c.args.code.now in
-    cc (whole, c.in_ok-emit-in-Constant.ensures, c.constant.ensures)
+    cc (whole, c.in_ok-emit-in-Constant.ensures, c.in_ok-constant-in-Constant.ensures)
 
 pub emit_expression-returns-in_ok-emit-in-Variable-clause-code : goal.emit_expression-returns-in_ok-emit-in-Variable-clause-code
 emit_expression-returns-in_ok-emit-in-Variable-clause-code g t c =
     let n = g.N.Numbering.numbers c.args.names.now in
     let same : typed_expression c.args.e.now ≡ Variable c.in-Variable.variable c.in-Variable.ty = variable_is c.args.e.now c.in-Variable.variable c.in-Variable.ty c.in-Variable.is in
     let whole = ap (λ x. with_expression n x c.args.code.now) same ∙ variable_emitted n c.in-Variable.variable c.in-Variable.ty c.args.code.now in
-    cc (whole, c.in_ok-emit-in-Variable.ensures, c.load.ensures)
+    cc (whole, c.in_ok-emit-in-Variable.ensures, c.in_ok-load-in-Variable.ensures)
 
 pub emit_expression-returns-in_ok-emit-in-Widen-clause-code : goal.emit_expression-returns-in_ok-emit-in-Widen-clause-code
 emit_expression-returns-in_ok-emit-in-Widen-clause-code g t c =
@@ -90,14 +90,14 @@ pub emit_expression-returns-in_ok-emit-in-HashCalled-clause-code : goal.emit_exp
 emit_expression-returns-in_ok-emit-in-HashCalled-clause-code g t c =
     let n = g.N.Numbering.numbers c.args.names.now in
     let whole = ap (λ x. with_expression n x c.args.code.now) (hash_is c.args.e.now c.in-HashCalled.hash c.in-HashCalled.function c.in-HashCalled.is) ∙ hash_emitted n c.in-HashCalled.hash c.in-HashCalled.function c.args.code.now in
-    cc (whole, c.in_ok-emit-in-HashCalled.ensures, c.hash_call.ensures)
+    c.in_ok-emit-in-HashCalled.ensures ∙ ap (λ i. with_instruction i c.args.code.now) c.in_ok-hash_call-in-HashCalled.ensures ∙ sym whole
 
 pub emit_expression-returns-in_ok-emit-in-IteratorCalled-clause-code : goal.emit_expression-returns-in_ok-emit-in-IteratorCalled-clause-code
 emit_expression-returns-in_ok-emit-in-IteratorCalled-clause-code g t c =
     let n = g.N.Numbering.numbers c.args.names.now in
     let whole = ap (λ x. with_expression n x c.args.code.now) (iterator_is c.args.e.now c.in-IteratorCalled.iterator c.in-IteratorCalled.function c.in-IteratorCalled.is)
     ∙ iterator_emitted n c.in-IteratorCalled.iterator c.in-IteratorCalled.function c.args.code.now in
-    cc (whole, c.in_ok-emit-in-IteratorCalled.ensures, c.iterator_call.ensures)
+    c.in_ok-emit-in-IteratorCalled.ensures ∙ ap (λ i. with_instruction i c.args.code.now) c.in_ok-iterator_call-in-IteratorCalled.ensures ∙ sym whole
 
 pub emit_arguments-returns : goal.emit_arguments-returns
 emit_arguments-returns g t c = grind (arith, common_steps, no_argument_emitted (g.N.Numbering.numbers c.args.names.now) c.arguments.code, c.arguments.invariant)

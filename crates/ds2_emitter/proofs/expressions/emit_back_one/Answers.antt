@@ -13,10 +13,10 @@ returns-in-Value g c rest before h =
     let same : argument_tree c.args.argument.now rest ≡ ByValue (typed_expression c.in-Value.field-0) rest = value_is c.args.argument.now c.in-Value.field-0 rest c.in-Value.is in
     h ∙ sym (ap (λ t. with_back n t before) same ∙ value_back n (typed_expression c.in-Value.field-0) rest before)
 
-pub returns-in-InOut : goal.returns-in-InOut
-returns-in-InOut g c rest before h =
+pub returns-in_ok-store-in-InOut : goal.returns-in_ok-store-in-InOut
+returns-in_ok-store-in-InOut g c rest before h =
     let n = g.N.Numbering.numbers c.args.names.now in
     let same : argument_tree c.args.argument.now rest ≡ InOut c.in-InOut.variable rest = in_out_is c.args.argument.now c.in-InOut.variable rest c.in-InOut.is in
     let whole : with_back n (argument_tree c.args.argument.now rest) before ≡ with_instruction (store_instr (cell_of n c.in-InOut.variable)) (with_back n rest before) =
     ap (λ t. with_back n t before) same ∙ in_out_back n c.in-InOut.variable rest before in
-    on_ok c.emit.result c.emit.ensures (λ e. cc (e, c.store.ensures, h, whole))
+    on_ok c.emit.result c.emit.ensures (λ e. cc (e, c.in_ok-store-in-InOut.ensures, h, whole))

@@ -1,4 +1,4 @@
-use Rattle.std.proofs.Common.{◌+◌, ◌++◌, [], ◌∷◌, Option, ℕ, subst, sym}
+use Rattle.std.proofs.Common.{◌+◌, ◌++◌, [], ◌∷◌, subst, sym}
 use Rattle.ds2_dealer.specs.Sums.{handed, AreSums}
 use Rattle.ds2_dealer.proofs.Sums.{sums_more}
 use Rattle.ds2_dealer.proofs.book.Book.hand_in.Goals as goal

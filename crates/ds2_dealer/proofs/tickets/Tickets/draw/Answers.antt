@@ -5,7 +5,7 @@ use Rattle.ds2_dealer.specs.declared.rule.SeatView.{SeatView}
 use Rattle.ds2_dealer.specs.Rule.{TicketRule, with_number, MayDraw, IsAbove, ShowsAll}
 use Rattle.ds2_dealer.specs.Seats.{groups_drawn, IsInside}
 use Rattle.ds2_dealer.proofs.Ticket.{draws, is_above, shows_all, few_after_draw, may_again}
-use Rattle.ds2_dealer.proofs.Answered.{gives_groups, run_is_low, is_inside}
+use Rattle.ds2_dealer.proofs.Answered.{gives_groups, run_is_low, is_inside, is_draw_step}
 use Rattle.ds2_dealer.proofs.tickets.Tickets.draw.Goals as goal
 
 pub fetch_add-number-requires : goal.fetch_add-number-requires
@@ -50,6 +50,7 @@ returns-clause-drawn c =
       all = e.2;
       gives = c.run.ensures;
       groups = ap groups_drawn c.run.ensures ∙ gives_groups t d t.long t.all;
+      step = is_draw_step t d c.run.result (ap groups_drawn c.run.ensures ∙ gives_groups t d t.long t.all);
     }
 
 pub returns-clause-of : goal.returns-clause-of

@@ -1,21 +1,27 @@
-use Rattle.std.proofs.Common.{◌∙◌, drop}
+use Rattle.std.proofs.Common.{ap, Ok}
+use Rattle.ds2_base.specs.declared.stop.OutOfMemory.{OutOfMemory}
+use Rattle.ds2_code.specs.declared.instr.Instr.TheVariants as instr
 use Rattle.ds2_code.specs.InstructionTable.{kind_of}
-use Rattle.ds2_operations.specs.OperationKinds.{operation_result}
-use Rattle.ds2_machine.proofs.Steps.{stuck_operation, faulted_operation, operated}
+use Rattle.ds2_machine.proofs.Steps.{quiet_of_kind}
 use Rattle.ds2_machine.proofs.state.State.operate.Goals as goal
 
-pub returns-in_default : goal.returns-in_default
-returns-in_default c = λ told. stuck_operation c.args.code.now c.args.n c.args.self.now told (kind_of c.args.instr) c.requires.operands c.in_default.ensures.taken
+pub returns-in-IAdd : goal.returns-in-IAdd
+returns-in-IAdd c = quiet_of_kind {E = OutOfMemory} c.args.code.now (kind_of c.args.instr) (kind_of instr.IAdd) c.args.self.now c.operate_on_pair.new.self (Ok c.operate_on_pair.result) (ap kind_of c.in-IAdd.is) c.operate_on_pair.ensures
 
-pub returns-in-Err : goal.returns-in-Err
-returns-in-Err c = λ told.
-    faulted_operation c.args.code.now c.args.n c.args.self.now told c.in-Some.operands.now c.in-Some.ensures.taken c.in-Err.fault (kind_of c.args.instr) c.requires.operands
-    (c.in_ok-outcome.ensures (operation_result (kind_of c.args.instr) c.in-Some.operands.now) c.computed.ensures ∙ c.in-Err.is)
+pub returns-in-ISub : goal.returns-in-ISub
+returns-in-ISub c = quiet_of_kind {E = OutOfMemory} c.args.code.now (kind_of c.args.instr) (kind_of instr.ISub) c.args.self.now c.operate_on_pair-in-ISub.new.self (Ok c.operate_on_pair-in-ISub.result) (ap kind_of c.in-ISub.is) c.operate_on_pair-in-ISub.ensures
 
-pub returns-in_ok-replace_last-in-Ok : goal.returns-in_ok-replace_last-in-Ok
-returns-in_ok-replace_last-in-Ok c = λ told.
-    operated c.args.code.now c.args.n c.args.self.now told c.in-Some.operands.now c.in-Some.ensures.taken c.replace_last.new.self c.in-Ok.value (kind_of c.args.instr) c.requires.operands
-    (c.in_ok-outcome.ensures (operation_result (kind_of c.args.instr) c.in-Some.operands.now) c.computed.ensures ∙ c.in-Ok.is) c.in_ok-replace_last-in-Ok.ensures.stack c.in_ok-replace_last-in-Ok.ensures.below
+pub returns-in-IMul : goal.returns-in-IMul
+returns-in-IMul c = quiet_of_kind {E = OutOfMemory} c.args.code.now (kind_of c.args.instr) (kind_of instr.IMul) c.args.self.now c.operate_on_pair-in-IMul.new.self (Ok c.operate_on_pair-in-IMul.result) (ap kind_of c.in-IMul.is) c.operate_on_pair-in-IMul.ensures
 
-pub computed-requires-clause-scales : goal.computed-requires-clause-scales
-computed-requires-clause-scales c = c.requires.scales c.args.n (record { values = c.in-Some.operands.now; below = drop c.args.n c.args.self.now.operands.stack }) c.requires.operands c.in-Some.ensures.taken
+pub returns-in-ICmp : goal.returns-in-ICmp
+returns-in-ICmp c = quiet_of_kind {E = OutOfMemory} c.args.code.now (kind_of c.args.instr) (kind_of (instr.ICmp c.in-ICmp.comparison)) c.args.self.now c.operate_on_pair-in-ICmp.new.self (Ok c.operate_on_pair-in-ICmp.result) (ap kind_of c.in-ICmp.is) c.operate_on_pair-in-ICmp.ensures
+
+pub returns-in-DAdd : goal.returns-in-DAdd
+returns-in-DAdd c = quiet_of_kind {E = OutOfMemory} c.args.code.now (kind_of c.args.instr) (kind_of instr.DAdd) c.args.self.now c.operate_on_pair-in-DAdd.new.self (Ok c.operate_on_pair-in-DAdd.result) (ap kind_of c.in-DAdd.is) c.operate_on_pair-in-DAdd.ensures
+
+pub returns-in-DSub : goal.returns-in-DSub
+returns-in-DSub c = quiet_of_kind {E = OutOfMemory} c.args.code.now (kind_of c.args.instr) (kind_of instr.DSub) c.args.self.now c.operate_on_pair-in-DSub.new.self (Ok c.operate_on_pair-in-DSub.result) (ap kind_of c.in-DSub.is) c.operate_on_pair-in-DSub.ensures
+
+pub returns-in-DCmp : goal.returns-in-DCmp
+returns-in-DCmp c = quiet_of_kind {E = OutOfMemory} c.args.code.now (kind_of c.args.instr) (kind_of (instr.DCmp c.in-DCmp.comparison)) c.args.self.now c.operate_on_pair-in-DCmp.new.self (Ok c.operate_on_pair-in-DCmp.result) (ap kind_of c.in-DCmp.is) c.operate_on_pair-in-DCmp.ensures

@@ -1,0 +1,4 @@
+pub mod TestLemmas
+pub mod LinkLemmas
+pub mod ReachLemmas
+pub mod AliasLemmas

@@ -1,0 +1,183 @@
+//! Hashed tables from a name to the methods that mention it, or that call it.
+ghost use Rattle.std.specs.Prelude.{◌≡◌, ◌||◌, ◌&&◌, ◌++◌, [], ℕ, List as Items, IfOk, OnOk, not, bytes_eq, if◌then◌else◌, nat_eq};
+ghost use Rattle.std.specs.Cmp.Lexicographic.{pointwise};
+ghost use Rattle.std.specs.HashSet.{contains};
+ghost use Rattle.ds2_meaning.specs.ProgramTree.{is_listed};
+ghost use Rattle.ds2_names.specs.NameRules.{from_each};
+ghost use Rattle.ds2_aliases.specs.ReachingMethods.{unhidden_name, called_in, globals_mentioned, names_called};
+ghost use Rattle.ds2_aliases.specs.MethodLinks.{linked, links_of_method, HasLinks};
+
+use ds2_base::{Bytes, List, OutOfMemory};
+use ds2_mentions::{Mention, MethodParts};
+use ds2_scope::{NameSet, add_name, name_set};
+use std::alloc::Global;
+use std::collections::{HashMap, HashSet};
+
+/// What links a method to a name.
+#[derive(Clone, Copy, Debug)]
+pub(crate) enum LinkKind {
+    /// It mentions a global of the name.
+    Mentions,
+    /// It calls a method or a function of the name.
+    Calls,
+}
+
+/// For each name the methods that are linked to it.
+pub(crate) type LinkTable = HashMap<Bytes, List<Bytes>>;
+
+// Adds the name in a mention, where no parameter or local hides it.
+fn push_unhidden(
+    alloc: Global,
+    names: &mut List<Bytes>,
+    locals: &NameSet,
+    mention: &Mention,
+) -> Result<(), OutOfMemory>
+    ensures { OnOk result (names.new ≡ names.old ++ unhidden_name (contains (pointwise nat_eq) locals.now) mention.now) }
+{
+    match mention {
+        Mention::Name(name) => {
+            if locals.contains(name) {
+                Ok(())
+            } else {
+                names.push(List::from_slice(alloc, name.as_slice())?)
+            }
+        }
+        Mention::Call { .. } => Ok(()),
+    }
+}
+
+// The names in mentions that no parameter or local hides.
+fn unhidden_names(
+    alloc: Global,
+    locals: &NameSet,
+    mentions: &[Mention],
+) -> Result<List<Bytes>, OutOfMemory>
+    ensures { IfOk result (λ names. names ≡ from_each (unhidden_name (contains (pointwise nat_eq) locals.now)) mentions.now) }
+{
+    let mut names: List<Bytes> = List::new(alloc);
+    'mentions: for mention in mentions {
+        push_unhidden(alloc, &mut names, locals, mention)?;
+    }
+    Ok(names)
+}
+
+// The globals that a method mentions itself.
+fn globals_mentioned(alloc: Global, m: &MethodParts) -> Result<List<Bytes>, OutOfMemory>
+    ensures { IfOk result (λ names. names ≡ globals_mentioned m.now) }
+{
+    let locals = name_set(alloc, m.locals.as_slice())?;
+    unhidden_names(alloc, &locals, m.mentions.as_slice())
+}
+
+// Adds what a mention calls.
+fn push_called(alloc: Global, names: &mut List<Bytes>, mention: &Mention) -> Result<(), OutOfMemory>
+    ensures { OnOk result (names.new ≡ names.old ++ called_in mention.now) }
+{
+    match mention {
+        Mention::Name(_) => Ok(()),
+        Mention::Call { name, .. } => names.push(List::from_slice(alloc, name.as_slice())?),
+    }
+}
+
+// What mentions call.
+fn called_names(alloc: Global, mentions: &[Mention]) -> Result<List<Bytes>, OutOfMemory>
+    ensures { IfOk result (λ names. names ≡ from_each called_in mentions.now) }
+{
+    let mut names: List<Bytes> = List::new(alloc);
+    'mentions: for mention in mentions {
+        push_called(alloc, &mut names, mention)?;
+    }
+    Ok(names)
+}
+
+// The names that a method is linked to.
+fn links_of_method(
+    alloc: Global,
+    kind: LinkKind,
+    m: &MethodParts,
+) -> Result<List<Bytes>, OutOfMemory>
+    ensures { IfOk result (λ names. names ≡ links_of_method kind m.now) }
+{
+    match kind {
+        LinkKind::Mentions => globals_mentioned(alloc, m),
+        LinkKind::Calls => called_names(alloc, m.mentions.as_slice()),
+    }
+}
+
+// Takes the methods that are linked to a name out of a table.
+fn take_linked(alloc: Global, table: &mut LinkTable, name: &Bytes) -> List<Bytes>
+    ensures taken { result ≡ linked table.old name.now }
+    ensures others { (other : Items ℕ) → linked table.new other ≡ (if bytes_eq name.now other then [] else linked table.old other) }
+{
+    match table.remove(name) {
+        None => List::new(alloc),
+        Some(methods) => methods,
+    }
+}
+
+// Links a method to a name.
+fn link(
+    alloc: Global,
+    table: &mut LinkTable,
+    name: &Bytes,
+    method: &[u8],
+) -> Result<(), OutOfMemory>
+    ensures { OnOk result ((other m : Items ℕ) → is_listed (linked table.new other) m ≡ (is_listed (linked table.old other) m || (bytes_eq method.now m && bytes_eq name.now other))) }
+{
+    let mut methods = take_linked(alloc, table, name);
+    methods.push(List::from_slice(alloc, method)?)?;
+    let name = List::from_slice(alloc, name.as_slice())?;
+    table.insert(name, methods)?;
+    Ok(())
+}
+
+// Links a method to names.
+fn link_all(
+    alloc: Global,
+    table: &mut LinkTable,
+    names: &[Bytes],
+    method: &[u8],
+) -> Result<(), OutOfMemory>
+    ensures { OnOk result ((other m : Items ℕ) → is_listed (linked table.new other) m ≡ (is_listed (linked table.old other) m || (bytes_eq method.now m && is_listed names.now other))) }
+{
+    'names: for name in names {
+        link(alloc, table, name, method)?;
+    }
+    Ok(())
+}
+
+// Links a method to its names, unless its name was seen.
+#[tactic(auto, using(crate::proofs::TestLemmas::or_false))]
+fn note_method(
+    alloc: Global,
+    kind: LinkKind,
+    seen: &mut NameSet,
+    table: &mut LinkTable,
+    m: &MethodParts,
+) -> Result<(), OutOfMemory>
+    ensures seen { OnOk result ((other : Items ℕ) → contains (pointwise nat_eq) seen.new other ≡ (bytes_eq m.now.name other || contains (pointwise nat_eq) seen.old other)) }
+    ensures table { OnOk result ((name other : Items ℕ) → is_listed (linked table.new name) other ≡ (is_listed (linked table.old name) other || (not (contains (pointwise nat_eq) seen.old m.now.name) && (bytes_eq m.now.name other && is_listed (links_of_method kind m.now) name)))) }
+{
+    let is_new = add_name(alloc, seen, m.name.as_slice())?;
+    if is_new {
+        let names = links_of_method(alloc, kind, m)?;
+        link_all(alloc, table, names.as_slice(), m.name.as_slice())?;
+    }
+    Ok(())
+}
+
+/// The table of the methods of a unit, of which the first of each name counts.
+pub(crate) fn links_of(
+    alloc: Global,
+    kind: LinkKind,
+    methods: &[MethodParts],
+) -> Result<LinkTable, OutOfMemory>
+    ensures { IfOk result (λ table. HasLinks table kind methods.now) }
+{
+    let mut seen: NameSet = HashSet::new(alloc);
+    let mut table: LinkTable = HashMap::new(alloc);
+    'methods: for m in methods {
+        note_method(alloc, kind, &mut seen, &mut table, m)?;
+    }
+    Ok(table)
+}

@@ -1,0 +1,2 @@
+pub mod StageAnswers
+pub mod CodeSample

@@ -1,0 +1,3 @@
+pub mod StageTold
+pub mod StageSchedules
+pub mod CodeSample

@@ -1,0 +1,3 @@
+pub mod NameForms
+pub mod VariableForms
+pub mod ColumnForms

@@ -1,0 +1,3 @@
+-- What the code holds of declared variables and of columns.
+pub mod Numbers
+pub mod Joins

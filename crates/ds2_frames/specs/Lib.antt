@@ -1,0 +1,2 @@
+pub mod PileView
+pub mod Results

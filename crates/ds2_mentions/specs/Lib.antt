@@ -1,0 +1,3 @@
+-- What methods mention.
+pub mod MentionParts
+pub mod PartsOfMethods

@@ -1,0 +1,2 @@
+pub mod InstrLemmas
+pub mod ReadSteps

@@ -1,0 +1,2 @@
+pub mod InstrSpelling
+pub mod LawfulInstrs

@@ -1,0 +1,9 @@
+pub mod PartLemmas
+pub mod NumberLemmas
+pub mod WordLemmas
+pub mod ListSteps
+pub mod CodePartLemmas
+pub mod ConstantLemmas
+pub mod WriteSteps
+pub mod WordSteps
+pub mod ConstantSteps

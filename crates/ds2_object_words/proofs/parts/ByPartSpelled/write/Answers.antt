@@ -1,0 +1,5 @@
+use Rattle.ds2_object_words.proofs.WriteSteps.{by_written}
+use Rattle.ds2_object_words.proofs.parts.ByPartSpelled.write.Goals as goal
+
+pub returns : goal.returns
+returns c = by_written c.in_ok-write.ensures c.in_ok-write-2.ensures c.in_ok-write-3.ensures c.in_ok-write-4.ensures

@@ -1,0 +1,6 @@
+pub mod Parts
+pub mod PartLaws
+pub mod Words
+pub mod CodeParts
+pub mod LawfulParts
+pub mod PartExamples

@@ -1,0 +1,12 @@
+pub mod StatementTrees
+pub mod Moved
+pub mod Redirected
+pub mod PartRuns
+pub mod Added
+pub mod Chains
+pub mod LoopEnds
+pub mod SelectEnds
+pub mod BodyRuns
+pub mod Wholes
+pub mod ArmWholes
+pub mod StepWholes

@@ -1,0 +1,5 @@
+pub mod Marks
+pub mod Appending
+pub mod Counting
+pub mod Arms
+pub mod BodyWords
