@@ -119,7 +119,7 @@ def main():
         (folder / "stdout").write_text(wanted)
     elif (folder / "stdout").read_text() != wanted:
         sys.exit("the answers of crates/ds2_load_cases differ")
-    print(f"{sum(1 for b in wanted.split(chr(10) * 2) if not b.startswith('##'))} cases agree")
+    print(f"{sum(1 for b in wanted.split(chr(10) * 2) if b.strip() and not b.startswith('##'))} cases agree")
 
 
 if __name__ == "__main__":
