@@ -4,7 +4,8 @@
 usage: bench/name_cases.py [--write]
 
 The trees of the sources come from the parser of bench/parse_cases.py. Each rule is a function below that gives every place at which a
-data program without instances breaks it; an answer has the least place of each rule. With --write it writes stdout.
+data program without instances breaks it. For the first data program that breaks one, an answer has the least place of each rule. With
+--write it writes stdout.
 """
 import itertools
 import pathlib
@@ -100,9 +101,10 @@ class Output:
 
 
 class Program:
-    """A data program over tables, each a name and the names of its columns."""
+    """A data program over tables, each a name and the names of its columns, behind other data programs."""
 
-    def __init__(self, node, tables):
+    def __init__(self, node, tables, before):
+        self.before = before
         parts = [p[1] for p in kids(node, "global")]
         self.outputs = [Output(o) for o in kids(node, "outp")]
         declarations = [p[0] for p in parts if not is_token(p[0]) and p[0][0] == "declare"]
@@ -366,15 +368,20 @@ def too_many_names(program):
     yield from beyond(16, [o.table.place for o in program.outputs if not o.is_null])
     yield from beyond(16, [i[1][0].place for i in program.inputs])
     yield from beyond(16, [place for _, place in program.bys])
-    yield from first_mentions(program)[16:]
+    if len(program.before) >= 64:
+        yield program.outputs[0].table.place
+    earlier = {name for p in program.before for name in first_mentions(p)}
+    yield from [place for name, place in first_mentions(program).items() if name not in earlier][16 - len(earlier) :]
 
 
 def first_mentions(program):
-    """The places at which a table of the store is mentioned for the first time, also by a reading statement that is misplaced."""
+    """The tables of the store, each where it is mentioned for the first time, also by a reading statement that is misplaced."""
+    made = {spelled(o.table) for p in program.before for o in p.outputs if not o.is_null}
     mentions = {}
     for i in (i for m in program.methods if m.reading for i in kids(m.reading, "input")):
-        mentions.setdefault(spelled(i[1][0]), i[1][0].place)
-    return list(mentions.values())
+        if spelled(i[1][0]) not in made:
+            mentions.setdefault(spelled(i[1][0]), i[1][0].place)
+    return mentions
 
 
 def bad_number(program):
@@ -441,7 +448,7 @@ RULES = [
 def said_of_program(program):
     broken = [(kind, min(places)) for kind, rule in zip(KINDS, RULES) if (places := list(rule(program)))]
     if not broken:
-        return "its names fit"
+        return None
     first = min(broken, key=lambda b: (b[1], KINDS.index(b[0])))
     return ", ".join("{} at {}:{}".format(kind, *place) for kind, place in [first] + [b for b in broken if b != first])
 
@@ -454,11 +461,14 @@ def answer(text, tables):
     read, _ = parse_cases.earley(lexed[0], True)
     if not read:
         return parse_cases.answer(text)
-    programs = kids(read, "data")
-    if not programs:
-        return "no data program"
-    program = Program(programs[0], tables)
-    return "it declares instances" if program.has_instances else said_of_program(program)
+    before = []
+    for node in kids(read, "data"):
+        program = Program(node, tables, before)
+        said = "it declares instances" if program.has_instances else said_of_program(program)
+        if said:
+            return said
+        before = before + [program]
+    return "its names fit"
 
 
 def answers(lines):

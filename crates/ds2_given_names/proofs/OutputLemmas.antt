@@ -95,7 +95,7 @@ four_tests true false true d = refl
 four_tests true false false d = refl
 four_tests false b c d = refl
 
-passes_is : (s o : KeepDrop) (u : UnitSource) (options : List OutputOption) → AreStatementLists s u.globals → AreOptionLists o options
+pub passes_is : (s o : KeepDrop) (u : UnitSource) (options : List OutputOption) → AreStatementLists s u.globals → AreOptionLists o options
     → (name : List ℕ) → (passes_lists s name && passes_lists o name) ≡ is_output_column u options name
 passes_is s o u options a b name =
     let ks = listed_in_statements (codes "keep") u.globals in

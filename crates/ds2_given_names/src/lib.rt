@@ -13,4 +13,7 @@ mod renamed;
 mod repetitions;
 mod too_many;
 
+pub use listed::{option_lists, passes_lists, statement_lists};
+pub use lists::KeepDrop;
+pub use renamed::{NewNames, new_names};
 pub use repetitions::{BrokenNames, broken_names};

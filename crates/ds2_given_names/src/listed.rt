@@ -115,10 +115,7 @@ fn keep_drop(
 }
 
 /// The tables of the statements of a unit.
-pub(crate) fn statement_lists(
-    alloc: Global,
-    globals: &[GlobalItem],
-) -> Result<KeepDrop, OutOfMemory>
+pub fn statement_lists(alloc: Global, globals: &[GlobalItem]) -> Result<KeepDrop, OutOfMemory>
     ensures { IfOk result (λ lists. AreStatementLists lists (map global_tree globals.now)) }
 {
     let kept = listed_in_unit(alloc, globals, "keep")?;
@@ -127,7 +124,7 @@ pub(crate) fn statement_lists(
 }
 
 /// The tables of the options of an output.
-pub(crate) fn option_lists(alloc: Global, options: &[OutputOption]) -> Result<KeepDrop, OutOfMemory>
+pub fn option_lists(alloc: Global, options: &[OutputOption]) -> Result<KeepDrop, OutOfMemory>
     ensures { IfOk result (λ lists. AreOptionLists lists options.now) }
 {
     let kept = listed_in_options(alloc, options, "keep")?;
@@ -136,7 +133,7 @@ pub(crate) fn option_lists(alloc: Global, options: &[OutputOption]) -> Result<Ke
 }
 
 /// Whether tables let a name through.
-pub(crate) fn passes_lists(lists: &KeepDrop, name: &Bytes) -> bool
+pub fn passes_lists(lists: &KeepDrop, name: &Bytes) -> bool
     ensures { result ≡ passes_lists lists.now name.now }
 {
     (!lists.has_keep || lists.kept.contains(name)) && !lists.dropped.contains(name)

@@ -4,7 +4,7 @@ use ds2_scope::NameSet;
 
 /// The names that `keep` and `drop` list, in the statements of a unit or in the options of an output.
 #[derive(Drop)]
-pub(crate) struct KeepDrop {
+pub struct KeepDrop {
     /// Whether `keep` lists a name.
     pub has_keep: bool,
     pub kept: NameSet,

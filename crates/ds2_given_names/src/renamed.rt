@@ -14,7 +14,7 @@ use std::alloc::Global;
 use std::collections::HashMap;
 
 /// For each old name the first new one.
-pub(crate) type NewNames = HashMap<Bytes, PlacedName>;
+pub type NewNames = HashMap<Bytes, PlacedName>;
 
 // Adds a renaming, unless the old name has a new one.
 fn note_renaming(alloc: Global, news: &mut NewNames, r: &Renaming) -> Result<(), OutOfMemory>
@@ -54,7 +54,7 @@ fn note_option(alloc: Global, news: &mut NewNames, option: &OutputOption) -> Res
 }
 
 /// The new names that options give.
-pub(crate) fn new_names(alloc: Global, options: &[OutputOption]) -> Result<NewNames, OutOfMemory>
+pub fn new_names(alloc: Global, options: &[OutputOption]) -> Result<NewNames, OutOfMemory>
     ensures { IfOk result (λ news. HasNewNames news (from_each renamings_in options.now)) }
 {
     let mut news: NewNames = HashMap::new(alloc);

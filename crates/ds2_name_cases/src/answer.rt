@@ -1,9 +1,9 @@
 //! What is said of a source.
-use crate::instances::declares_no_instances;
-use crate::rules::{broken_rules, said_of_rules};
+use crate::rules::{Before, judge, said_of_rules};
 use ds2_base::{List, OutOfMemory, Place, Stop, Text};
 use ds2_names::NamedSchema;
 use ds2_parse::parse;
+use ds2_resolve::declares_no_instances;
 use ds2_token::{Token, end_place, tokens};
 use ds2_tree::{DataProgram, Source, SourcePart};
 use std::alloc::{AllocError, Global};
@@ -12,28 +12,20 @@ fn want_of_memory(alloc: Global) -> Result<String, AllocError> {
     String::from_str(alloc, "want of memory")
 }
 
+// What is said of a program behind others; None where its names fit.
 fn said_of_program(
     alloc: Global,
     tables: &[NamedSchema],
+    before: &mut Before,
     program: &DataProgram,
-) -> Result<String, AllocError> {
+) -> Result<Option<String>, AllocError> {
     if !declares_no_instances(program.globals.as_slice()) {
-        return String::from_str(alloc, "it declares instances");
+        return Ok(Some(String::from_str(alloc, "it declares instances")?));
     }
-    match broken_rules(alloc, tables, program) {
-        Ok(broken) => said_of_rules(alloc, &broken),
-        Err(OutOfMemory) => want_of_memory(alloc),
+    match judge(alloc, tables, before, program) {
+        Ok(judgement) => said_of_rules(alloc, &judgement),
+        Err(OutOfMemory) => Ok(Some(want_of_memory(alloc)?)),
     }
-}
-
-// The first data program of a source.
-fn first_program(source: &Source) -> Option<&DataProgram> {
-    for part in source.parts.as_slice() {
-        if let SourcePart::Data(program) = part {
-            return Some(program);
-        }
-    }
-    None
 }
 
 fn said_of_source(
@@ -41,10 +33,15 @@ fn said_of_source(
     tables: &[NamedSchema],
     source: &Source,
 ) -> Result<String, AllocError> {
-    match first_program(source) {
-        Some(program) => said_of_program(alloc, tables, program),
-        None => String::from_str(alloc, "no data program"),
+    let mut before = Before::new(alloc);
+    for part in source.parts.as_slice() {
+        if let SourcePart::Data(program) = part {
+            if let Some(said) = said_of_program(alloc, tables, &mut before, program)? {
+                return Ok(said);
+            }
+        }
     }
+    String::from_str(alloc, "its names fit")
 }
 
 fn said_of_tokens(
@@ -63,7 +60,7 @@ fn said_of_tokens(
     }
 }
 
-/// The answer to a source over tables: what is said of the names of its first data program.
+/// The answer to a source over tables: what is said of the names of its data programs.
 pub fn answer(alloc: Global, tables: &[NamedSchema], text: String) -> Result<String, AllocError> {
     let Ok(text) = Text::from_string(alloc, text) else {
         return want_of_memory(alloc);

@@ -1,8 +1,8 @@
 //! Data programs and the rules of names that they break.
 //!
 //! Each line of standard input is a source. Standard output gets the line again and, below it, what is said of the names of its first data
-//! program: the refusal that they get and, behind it, the earliest place of each further rule that they break, in the order of the kinds;
-//! or that they fit. A source that does not parse gets the kind and the place of its refusal.
+//! program that is refused: the refusal that they get and, behind it, the earliest place of each further rule that they break, in the
+//! order of the kinds; or that all names fit. A source that does not parse gets the kind and the place of its refusal.
 //!
 //! A line has the escapes of `ds2_case_text`, as `\n` for a line feed and `\{64:ab}` for `ab` 64 times. A line that begins with `@ ` is a
 //! table that each source below it may read: its name and those of its columns, each a BIGINT. A line that begins with `: ` holds what
@@ -11,7 +11,6 @@
 #![tactic(auto)]
 
 mod answer;
-mod instances;
 mod rules;
 mod setting;
 

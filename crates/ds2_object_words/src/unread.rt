@@ -7,6 +7,7 @@ use ds2_base::Stop;
 use std::marker::Model;
 
 /// The bytes that are left to read. Each call takes a field off their front; after a refusal they are no longer of use.
+#[derive(Drop)]
 pub struct Unread<'a> {
     bytes: &'a [u8],
 }

@@ -1,3 +1,4 @@
 pub mod TableLemmas
 pub mod ClashLemmas
 pub mod ScopeTables
+pub mod CallableLemmas

@@ -1,8 +1,10 @@
 -- What scopes of tables stand for.
 use Rattle.std.specs.Prelude.{ℕ, List}
 use Rattle.ds2_elaboration.specs.ExpressionTypes.{TypeScope, known_variable}
-use Rattle.ds2_expression_walk.specs.Scopes.{known_in, IsKnownAs}
+use Rattle.ds2_expression_walk.specs.Scopes.{known_in, IsKnownAs, IsScopeOf}
 use Rattle.ds2_expression_walk.specs.declared.scopes.Scope.{Scope}
+use Rattle.ds2_type_tables.specs.Bys.{HasBys}
+use Rattle.ds2_type_tables.specs.Callables.{HasCallables}
 use Rattle.ds2_type_tables.specs.Globals.{HasGlobals}
 use Rattle.ds2_type_tables.specs.Tables.{HasLocals}
 
@@ -11,3 +13,9 @@ abbrev pub TablesTellVariables : Type 0
 TablesTellVariables =
     (types : TypeScope) (scope : Scope) → HasLocals scope.locals.now types.locals → HasGlobals scope.globals.now types.unjoined types.variables types.flags
     → (name : List ℕ) → IsKnownAs (known_in scope name) (known_variable types name)
+
+-- a scope of these tables is what the definitions say that a method sees
+abbrev pub TablesMakeScope : Type 0
+TablesMakeScope =
+    (types : TypeScope) (scope : Scope) → HasLocals scope.locals.now types.locals → HasGlobals scope.globals.now types.unjoined types.variables types.flags
+    → HasBys scope.bys.now types.bys → HasCallables scope.methods.now types.methods → IsScopeOf types scope

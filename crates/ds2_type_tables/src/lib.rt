@@ -4,8 +4,10 @@
 //! look-up, however many names there are.
 #![tactic(auto)]
 
+pub mod bys;
 pub mod clashes;
 pub mod globals;
 pub mod laws;
 pub mod locals;
+pub mod methods;
 pub mod tables;

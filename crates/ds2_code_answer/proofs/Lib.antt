@@ -1,0 +1,2 @@
+pub mod ScaledLoads
+pub mod FittingReadings

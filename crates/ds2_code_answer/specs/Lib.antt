@@ -1,0 +1,4 @@
+pub mod CodeTables
+pub mod CodeLoads
+pub mod CodeAnswer
+pub mod CodeLoadLaws

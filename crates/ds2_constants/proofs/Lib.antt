@@ -1,0 +1,4 @@
+pub mod TableLemmas
+pub mod Collected
+pub mod CollectedStatements
+pub mod TextLemmas

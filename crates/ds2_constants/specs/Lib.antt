@@ -1,0 +1,2 @@
+pub mod ConstantKeys
+pub mod UsedOnce

@@ -1,0 +1,4 @@
+pub mod SlotTypes
+pub mod SettingLists
+pub mod LoadSteps
+pub mod NumberedTables

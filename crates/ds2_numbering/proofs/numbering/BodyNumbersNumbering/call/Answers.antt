@@ -1,0 +1,13 @@
+use Rattle.std.proofs.Common.{ap, ◌∙◌}
+use Rattle.ds2_meaning.specs.Evaluation.{callee_home}
+use Rattle.ds2_meaning.specs.Location.{Home}
+use Rattle.ds2_gen.specs.ExpressionCode.{call_instr}
+use Rattle.ds2_program_code.specs.CodeMethods.{callee_of}
+use Rattle.ds2_numbering.specs.CellNumbers.{tree_of}
+use Rattle.ds2_numbering.proofs.BodyLemmas.{if_same}
+use Rattle.ds2_numbering.proofs.numbering.BodyNumbersNumbering.call.Goals as goal
+
+pub returns : goal.returns
+returns c =
+    let home = c.called_home-home.ensures ∙ ap (λ (h : Home). callee_home h c.args.instance.now) c.home.ensures in
+    if_same _ _ c.call_instr.result (ap (λ (h : Home). call_instr (callee_of (tree_of c.args.self.now.program.now) h c.args.method)) home) c.call_instr.ensures

@@ -1,0 +1,13 @@
+use Rattle.std.proofs.Common.{option_map, Option}
+use Rattle.ds2_gen.specs.CodeCells.{IteratorCell}
+use Rattle.ds2_numbering.specs.CellNumbers.{code_cell}
+use Rattle.ds2_numbering.specs.declared.cell.Cell.{Cell}
+use Rattle.ds2_numbering.proofs.BodyLemmas.{if_seen, chosen_first, chosen_next}
+use Rattle.ds2_numbering.proofs.numbering.walking_cell.Goals as goal
+
+pub returns-in-None : goal.returns-in-None
+returns-in-None c =
+    if_seen (λ (cell : Option Cell). option_map code_cell cell) _ _ c.parameter_cell.result (chosen_next (λ n. IteratorCell n) _ _ _ c.in_ok-find_iterator.ensures c.in-None.is) c.parameter_cell.ensures
+
+pub returns-in-Some : goal.returns-in-Some
+returns-in-Some c = chosen_first (λ n. IteratorCell n) _ _ _ _ c.in_ok-find_iterator.ensures c.in-Some.is

@@ -1,0 +1,4 @@
+pub mod ObjectLemmas
+pub mod ValidLemmas
+pub mod ObjectSteps
+pub mod LinkSteps

@@ -1,0 +1,12 @@
+use Rattle.std.proofs.Common.{length, map, IsTrue}
+use Rattle.std.specs.List.{list_all}
+use Rattle.ds2_object_programs.specs.ProgramSpelling.{data_program_part, written_data}
+use Rattle.ds2_object.specs.ObjectSpelling.{has_no_name}
+use Rattle.ds2_object.proofs.ObjectSteps.{ProgramsLeft}
+use Rattle.ds2_object.proofs.encoding.write_programs.Given as goal
+
+abbrev pub invariant-programs : goal.invariant-programs
+invariant-programs l = ProgramsLeft l.fn.out l.programs l.out l.rest
+
+abbrev pub decreases-programs : goal.decreases-programs
+decreases-programs l = length l.rest

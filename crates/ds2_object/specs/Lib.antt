@@ -1,0 +1,2 @@
+pub mod ObjectSpelling
+pub mod ObjectExamples

@@ -1,0 +1,18 @@
+//! Object files: compiled programs as bytes.
+//!
+//! [`encode`] gives the one spelling of an object, [`decode`] the object of which the bytes are the spelling, or what is wrong first;
+//! `specs/ObjectSpelling.antt` says both.
+//! An [`ObjectCode`] is valid by its type.
+#![tactic(auto)]
+
+mod decoding;
+mod encoding;
+pub mod laws;
+mod links;
+mod object;
+mod refusal;
+
+pub use decoding::decode;
+pub use encoding::encode;
+pub use object::ObjectCode;
+pub use refusal::ObjectRefusal;

@@ -1,0 +1,5 @@
+pub mod ProgramLemmas
+pub mod MadeSteps
+pub mod ReadSteps
+pub mod WriteSteps
+pub mod AgainLemmas

@@ -1,0 +1,2 @@
+pub mod ProgramSpelling
+pub mod ProgramRules

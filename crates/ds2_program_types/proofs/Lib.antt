@@ -1,0 +1,13 @@
+pub mod OutputForms
+pub mod ColumnRules
+pub mod MethodForms
+pub mod MethodLists
+pub mod ColumnLists
+pub mod RetainedForms
+pub mod SystemForms
+pub mod RuleLists
+pub mod NameColumns
+pub mod UnitForms
+pub mod BodyForms
+pub mod PartForms
+pub mod OutputColumns

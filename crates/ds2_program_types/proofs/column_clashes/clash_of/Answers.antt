@@ -1,0 +1,20 @@
+use Rattle.std.proofs.Common.{◌≡◌, ℕ, List, Option, Some, sym, ap, ◌∙◌}
+use Rattle.ds2_base.specs.declared.place.Place.{Place}
+use Rattle.ds2_base.specs.declared.place.Refusal.{Refusal}
+use Rattle.ds2_meaning.specs.declared.refusals.TypeKind.{TypeKind}
+use Rattle.ds2_names.specs.SourceUnit.{columns_stored}
+use Rattle.ds2_declared_types.specs.Joins.{places_in}
+use Rattle.ds2_program_types.proofs.ColumnRules.{rule_at, rule_of_column}
+use Rattle.ds2_program_types.proofs.column_clashes.clash_of.Goals as goal
+
+pub returns-in-None : goal.returns-in-None
+returns-in-None c = λ variables h.
+    ap (λ (o : Option Place). rule_at (places_in o)) (sym c.in-None.is)
+    ∙ rule_of_column (columns_stored c.args.tables.now) c.args.inputs.now variables c.args.name.now c.declared_type-own.result c.as_slice.result.now c.in_ok-found.found
+    (c.declared_type-own.ensures variables h) c.as_slice.ensures c.in_ok-found.ensures
+
+pub returns-in-Some : goal.returns-in-Some
+returns-in-Some c = λ variables h.
+    ap (λ (r : Refusal TypeKind). Some r) c.refusal.ensures ∙ ap (λ (o : Option Place). rule_at (places_in o)) (sym c.in-Some.is)
+    ∙ rule_of_column (columns_stored c.args.tables.now) c.args.inputs.now variables c.args.name.now c.declared_type-own.result c.as_slice.result.now c.in_ok-found.found
+    (c.declared_type-own.ensures variables h) c.as_slice.ensures c.in_ok-found.ensures

@@ -1,0 +1,20 @@
+use Rattle.std.proofs.Common.{◌≡◌, Ok, Err}
+use Rattle.ds2_elaboration.specs.ProgramTypes.{method_tree_of}
+use Rattle.ds2_meaning.specs.View.{typed_method}
+use Rattle.ds2_meaning.specs.declared.methods.Method as typed
+use Rattle.ds2_statement_types.proofs.PartOutcomes.{AreBoth, both_stand, stands_of}
+use Rattle.ds2_program_types.specs.TypedMethodLists.{AreMethodsOf}
+use Rattle.ds2_program_types.proofs.methods.further_callable.Goals as goal
+
+pub returns-in-Err : goal.returns-in-Err
+returns-in-Err c = λ tables u methods own xs ys h s k.
+    stands_of (AreBoth (AreMethodsOf tables u methods) (λ (t : typed.Method). typed_method t ≡ method_tree_of tables u own)) _ c.of_both.result (Err c.in-Err.refusal)
+    (both_stand (AreMethodsOf tables u methods) (λ (t : typed.Method). typed_method t ≡ method_tree_of tables u own) xs ys c.args.so_far c.args.m c.of_both.result h k c.of_both.ensures)
+    c.in-Err.is
+
+pub returns-in_ok-all-in-Ok : goal.returns-in_ok-all-in-Ok
+returns-in_ok-all-in-Ok c = λ tables u methods own xs ys h s k.
+    let so = stands_of (AreBoth (AreMethodsOf tables u methods) (λ (t : typed.Method). typed_method t ≡ method_tree_of tables u own)) _ c.of_both.result (Ok c.in-Ok.parts)
+    (both_stand (AreMethodsOf tables u methods) (λ (t : typed.Method). typed_method t ≡ method_tree_of tables u own) xs ys c.args.so_far c.args.m c.of_both.result h k c.of_both.ensures)
+    c.in-Ok.is in
+    (so.0, c.in_ok-all-in-Ok.ensures tables u methods own so.1.0 s so.1.1)

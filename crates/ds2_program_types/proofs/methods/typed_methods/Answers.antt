@@ -1,0 +1,17 @@
+use Rattle.std.proofs.Common.{take, refl, arith}
+use Rattle.ds2_names.specs.SourceUnit.{source_methods}
+use Rattle.ds2_tree.specs.UnitViews.{global_tree}
+use Rattle.ds2_program_types.proofs.MethodLists.{methods_among, rules_among, one_more_typed, all_typed}
+use Rattle.ds2_program_types.proofs.methods.typed_methods.Goals as goal
+
+pub globals-init : goal.globals-init
+globals-init c = λ tables u t. (refl, c.no_methods.ensures tables u)
+
+pub globals-preserved : goal.globals-preserved
+globals-preserved c = λ tables u t.
+    let before = take c.globals.global-index c.args.globals.now in
+    one_more_typed global_tree tables u c.args.globals.now c.globals.global-index c.global-item.result c.in_ok-all.all (omega arith) c.global-item.is
+    (c.in_ok-all.ensures tables u (methods_among global_tree tables u before) (rules_among global_tree tables u before) t (c.globals.invariant tables u t))
+
+pub returns : goal.returns
+returns c = λ tables u t. all_typed global_tree tables u c.args.globals.now c.globals.global-index c.globals.all (omega arith) (c.globals.invariant tables u t)

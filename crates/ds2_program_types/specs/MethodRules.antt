@@ -1,0 +1,30 @@
+-- The rules of types that the methods and columns of a program break, one by one.
+use Rattle.std.specs.Prelude.{◌≡◌, ℕ, List, [], ◌∷◌, Option, Some, None, Result, Ok, Err}
+use Rattle.ds2_base.specs.declared.place.Refusal.{Refusal}
+use Rattle.ds2_tree.specs.Globals.{Method, GlobalItem, Defined}
+use Rattle.ds2_tree.specs.Units.{DataProgram}
+use Rattle.ds2_tree.specs.declared.readings.Input as source_input
+use Rattle.ds2_meaning.specs.IsTyped.{type_in}
+use Rattle.ds2_meaning.specs.declared.globals.Variable.{Variable}
+use Rattle.ds2_meaning.specs.declared.refusals.TypeKind.{TypeKind}
+use Rattle.ds2_meaning.specs.declared.refusals.TypeKind.TheVariants.{TypeClash}
+use Rattle.ds2_names.specs.Refusals.{broken_at, first_of_both, type_rank}
+use Rattle.ds2_names.specs.SourceUnit.{TableColumns}
+use Rattle.ds2_elaboration.specs.ProgramTypes.{method_refusals}
+use Rattle.ds2_elaboration.specs.SourceTypes.{Absent, clashing_table}
+use Rattle.ds2_elaboration.specs.Typings.{TypeRefusals}
+
+-- what a part of a unit breaks, where it is a method
+abbrev pub part_rules : TableColumns → DataProgram → GlobalItem → TypeRefusals
+part_rules tables u (Defined m) = method_refusals tables u m
+part_rules tables u _ = []
+
+-- what the tables of a column of this name break, beside the variables that a program declares
+abbrev pub column_rules : TableColumns → List source_input.Input → List Variable → List ℕ → TypeRefusals
+column_rules tables inputs declared name = broken_at TypeClash (clashing_table tables (type_in declared name) name Absent inputs)
+
+-- what stands beside a rule that may be broken
+abbrev pub under_rule : {A : Type 0} → Option (Refusal TypeKind) → Result A (Refusal TypeKind) → Result A (Refusal TypeKind)
+under_rule None outcome = outcome
+under_rule (Some own) (Ok x) = Err own
+under_rule (Some own) (Err further) = Err (first_of_both type_rank own (Some further))

@@ -1,0 +1,64 @@
+//! The statements of a method of a program.
+ghost use Rattle.std.specs.Prelude.{◌≡◌, IfOk};
+ghost use Rattle.ds2_elaboration.specs.ProgramTypes.{scope_of_method, return_rule};
+ghost use Rattle.ds2_elaboration.specs.StatementTypes.{statements_refusals, statements_node};
+ghost use Rattle.ds2_meaning.specs.View.{typed_statements};
+ghost use Rattle.ds2_names.specs.SourceUnit.{TableColumns};
+ghost use Rattle.ds2_tree.specs.UnitViews.{method_tree};
+ghost use Rattle.ds2_tree.specs.Units.{DataProgram};
+ghost use Rattle.ds2_types.specs.Judgements.{first_type_refusal, IsOutcome};
+ghost use Rattle.ds2_program_types.specs.UnitScopes.{AreUnitTables};
+
+use crate::unit_tables::UnitTables;
+use ds2_base::{OutOfMemory, Refusal};
+use ds2_declared_types::spelled::returned_type;
+use ds2_declared_types::variables::variables_in_method;
+use ds2_expression_walk::scopes::Scope;
+use ds2_meaning::TypeKind;
+use ds2_statement_types::loops::BodyOutcome;
+use ds2_statement_types::method_scope::MethodScope;
+use ds2_statement_types::returning::list_returns;
+use ds2_statement_types::walk::method_body;
+use ds2_tree::Method;
+use ds2_type_tables::locals::locals;
+use ds2_types::refusals::refusal;
+use std::alloc::Global;
+
+/// What becomes of the statements of a method, or the first of the rules that are broken in them.
+pub fn body(alloc: Global, unit: &UnitTables, m: &Method) -> Result<BodyOutcome, OutOfMemory>
+    ensures { (tables : TableColumns) (u : DataProgram) → AreUnitTables tables u unit.now
+        → IfOk result (IsOutcome (λ l. typed_statements l ≡ statements_node (scope_of_method tables u (method_tree m.now)) (method_tree m.now).body)
+        (statements_refusals (scope_of_method tables u (method_tree m.now)) (method_tree m.now).body)) }
+{
+    let variables = variables_in_method(alloc, m)?;
+    let locals = locals(alloc, variables.as_slice())?;
+    let returns = returned_type(&m.returns)?;
+    let scope = MethodScope {
+        names: Scope {
+            locals: &locals,
+            globals: &unit.globals,
+            bys: &unit.bys,
+            methods: &unit.methods,
+        },
+        outputs: &unit.outputs,
+        output_count: unit.output_count,
+        returns,
+    };
+    method_body(alloc, &scope, m.body.as_slice())
+}
+
+/// NoReturn: a method that returns a value does not surely return, at its name.
+pub fn return_rule(m: &Method) -> Option<Refusal<TypeKind>>
+    ensures { result ≡ first_type_refusal (return_rule (method_tree m.now)) }
+{
+    match m.returns {
+        None => None,
+        Some(_) => {
+            if list_returns(m.body.as_slice()) {
+                None
+            } else {
+                Some(refusal(TypeKind::NoReturn, m.name.place))
+            }
+        }
+    }
+}

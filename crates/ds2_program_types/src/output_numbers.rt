@@ -1,0 +1,72 @@
+//! The numbers of the outputs that a program makes.
+ghost use Rattle.std.specs.Prelude.{◌≡◌, ◌+◌, ℕ, List as Items, IfOk, OnOk, Some, length, nat_eq};
+ghost use Rattle.std.specs.Cmp.Lexicographic.{pointwise};
+ghost use Rattle.std.specs.HashMap.{get};
+ghost use Rattle.std.specs.Option.{option_or};
+ghost use Rattle.ds2_program_types.specs.MadeOutputs.{made_if, number_behind_output, number_if_made, names_made, HasNumbers};
+
+use ds2_base::{Bytes, OutOfMemory};
+use ds2_scope::spelled_name;
+use ds2_statement_types::method_scope::OutputNumbers;
+use ds2_tree::OutputTable;
+use std::alloc::Global;
+use std::collections::HashMap;
+
+/// The outputs that a program makes: their numbers, from 0, by their names, and how many there are.
+#[derive(Drop)]
+pub struct MadeOutputs {
+    pub numbers: OutputNumbers,
+    pub count: u32,
+}
+
+/// The number behind one; 2^32 outputs are want of memory.
+fn next(number: u32) -> Result<u32, OutOfMemory>
+    ensures { IfOk result (λ n. n ≡ number + 1) }
+{
+    match number.checked_add(1) {
+        Some(n) => Ok(n),
+        None => Err(OutOfMemory),
+    }
+}
+
+/// Adds an output of this number, unless the table has one of its name.
+fn add(numbers: &mut OutputNumbers, name: Bytes, number: u32) -> Result<(), OutOfMemory>
+    ensures { OnOk result ((other : Items ℕ) → get (pointwise nat_eq) numbers.new other ≡ option_or (get (pointwise nat_eq) numbers.old other) (number_if_made other number (Some name))) }
+{
+    if numbers.get(&name).is_none() {
+        numbers.insert(name, number)?;
+    }
+    Ok(())
+}
+
+/// Adds an output, where it is not `_null_`; gives the number of the next one.
+fn note(
+    alloc: Global,
+    numbers: &mut OutputNumbers,
+    number: u32,
+    o: &OutputTable,
+) -> Result<u32, OutOfMemory>
+    ensures number { IfOk result (λ n. n ≡ number_behind_output number (made_if o.now)) }
+    ensures table { OnOk result ((name : Items ℕ) → get (pointwise nat_eq) numbers.new name ≡ option_or (get (pointwise nat_eq) numbers.old name) (number_if_made name number (made_if o.now))) }
+{
+    let name = spelled_name(alloc, &o.table)?;
+    let null = name.as_slice() == b"_null_".as_slice();
+    if null {
+        return Ok(number);
+    }
+    add(numbers, name, number)?;
+    next(number)
+}
+
+/// Those of these outputs that a program makes; of one name the first counts.
+pub fn made_outputs(alloc: Global, outputs: &[OutputTable]) -> Result<MadeOutputs, OutOfMemory>
+    ensures numbers { IfOk result (λ made. HasNumbers made.numbers (names_made outputs.now)) }
+    ensures count { IfOk result (λ made. made.count ≡ length (names_made outputs.now)) }
+{
+    let mut numbers: OutputNumbers = HashMap::new(alloc);
+    let mut count = 0;
+    'outputs: for o in outputs {
+        count = note(alloc, &mut numbers, count, o)?;
+    }
+    Ok(MadeOutputs { numbers, count })
+}

@@ -1,0 +1,151 @@
+//! A typed program, out of its parts.
+ghost use Rattle.std.specs.Prelude.{◌≡◌, [], None as Nothing, IfOk, map};
+ghost use Rattle.ds2_elaboration.specs.ProgramTypes.{made_output, made_outputs, typed_program};
+ghost use Rattle.ds2_meaning.specs.ProgramTree.{OverTables};
+ghost use Rattle.ds2_meaning.specs.View.{typed_data_program, unit_tree};
+ghost use Rattle.ds2_names.specs.SourceUnit.{columns_stored, names_of_source, source_methods, vector_names};
+ghost use Rattle.ds2_program_types.specs.ProgramParts.{ArePartsOf, IsMadeOf};
+ghost use Rattle.ds2_program_types.specs.TypedMethodLists.{AreMethodsOf};
+ghost use Rattle.ds2_tree.specs.UnitViews.{data_tree};
+
+use crate::methods::TypedMethods;
+use crate::outputs::outputs;
+use crate::reading::read_statement;
+use crate::retained::retained;
+use crate::unit_tables::vector_variables;
+use ds2_base::{List, Name, OutOfMemory};
+use ds2_declared_types::columns::columns_over;
+use ds2_declared_types::variables::program_variables;
+use ds2_meaning::{
+    MentionedTable, OutputTable as TypedOutput, Program, Reading as TypedReading, TypedData,
+    Variable,
+};
+use ds2_names::{NamedSchema, PlacedName};
+use ds2_scope::{reading_of_run, tables_of};
+use ds2_tree::DataProgram;
+use std::alloc::Global;
+
+/// The parts of a typed program but for its methods.
+#[derive(Drop)]
+pub struct ProgramParts {
+    /// The declared variables.
+    pub declared: List<Variable>,
+    /// The columns of the reading statement that are not declared.
+    pub columns: List<Variable>,
+    pub retained: List<Name>,
+    /// What is read where the program has `run`.
+    pub reading: TypedReading,
+    pub outputs: List<TypedOutput>,
+}
+
+/// A program of these parts and methods.
+fn program_of(alloc: Global, parts: ProgramParts, methods: TypedMethods) -> Program
+    ensures { IsMadeOf result parts methods }
+{
+    let ProgramParts {
+        declared,
+        columns,
+        retained,
+        reading,
+        outputs,
+    } = parts;
+    let TypedMethods {
+        methods,
+        init,
+        run,
+        term,
+    } = methods;
+    let instances = List::new(alloc);
+    let hashes = List::new(alloc);
+    let iterators = List::new(alloc);
+    let threads = List::new(alloc);
+    Program {
+        declared,
+        columns,
+        retained,
+        instances,
+        hashes,
+        iterators,
+        threads,
+        reading,
+        outputs,
+        methods,
+        init,
+        run,
+        term,
+    }
+}
+
+/// A data program that reads from no thread program.
+fn over_tables(program: Program) -> TypedData
+    ensures { typed_data_program result ≡ OverTables (unit_tree Nothing [] program) }
+{
+    TypedData {
+        program,
+        stage: None,
+    }
+}
+
+/// The outputs of a program, over the variables of its vector.
+fn program_outputs(
+    alloc: Global,
+    tables: &[NamedSchema],
+    program: &DataProgram,
+    names: &[PlacedName],
+    columns: &[PlacedName],
+) -> Result<List<TypedOutput>, OutOfMemory>
+    requires names { names.now ≡ vector_names (names_of_source (columns_stored tables.now) (data_tree program.now)) }
+    requires columns { columns.now ≡ (names_of_source (columns_stored tables.now) (data_tree program.now)).columns }
+    ensures { IfOk result (λ all. all ≡ map (made_output (columns_stored tables.now) (data_tree program.now)) (made_outputs (data_tree program.now))) }
+{
+    let vector = vector_variables(alloc, tables, program, columns)?;
+    outputs(alloc, program, vector.as_slice(), names)
+}
+
+/// The parts of a program but for its methods.
+fn program_parts(
+    alloc: Global,
+    tables: &[NamedSchema],
+    made: &[MentionedTable],
+    program: &DataProgram,
+    names: &[PlacedName],
+    columns: &[PlacedName],
+) -> Result<ProgramParts, OutOfMemory>
+    requires names { names.now ≡ vector_names (names_of_source (columns_stored tables.now) (data_tree program.now)) }
+    requires columns { columns.now ≡ (names_of_source (columns_stored tables.now) (data_tree program.now)).columns }
+    ensures { IfOk result (ArePartsOf (columns_stored tables.now) made.now (data_tree program.now)) }
+{
+    let globals = program.globals.as_slice();
+    let outputs = program_outputs(alloc, tables, program, names, columns)?;
+    let source = reading_of_run(alloc, globals)?;
+    let read = columns_over(alloc, tables, tables_of(source), columns)?;
+    let reading = read_statement(alloc, tables, made, source)?;
+    let declared = program_variables(alloc, globals)?;
+    let kept = retained(alloc, globals)?;
+    Ok(ProgramParts {
+        declared,
+        columns: read,
+        retained: kept,
+        reading,
+        outputs,
+    })
+}
+
+/// A typed program of typed methods.
+pub fn typed_unit(
+    alloc: Global,
+    tables: &[NamedSchema],
+    made: &[MentionedTable],
+    program: &DataProgram,
+    names: &[PlacedName],
+    columns: &[PlacedName],
+    methods: TypedMethods,
+) -> Result<TypedData, OutOfMemory>
+    requires names { names.now ≡ vector_names (names_of_source (columns_stored tables.now) (data_tree program.now)) }
+    requires columns { columns.now ≡ (names_of_source (columns_stored tables.now) (data_tree program.now)).columns }
+    requires methods { AreMethodsOf (columns_stored tables.now) (data_tree program.now) (source_methods (data_tree program.now).globals) methods }
+    ensures { IfOk result (λ d. typed_data_program d ≡ OverTables (typed_program (columns_stored tables.now) made.now (data_tree program.now))) }
+{
+    let parts = program_parts(alloc, tables, made, program, names, columns)?;
+    Ok(over_tables(program_of(alloc, parts, methods)))
+}

@@ -1,0 +1,3 @@
+pub mod MakerLemmas
+pub mod MentionedTables
+pub mod BeforeLemmas

@@ -1,0 +1,27 @@
+-- The tables of the store that a data program without instances mentions, and which of them for the first time.
+use Rattle.std.specs.Prelude.{ℕ, Bool, ◌||◌, nat_eq, bytes_eq, if◌then◌else◌, List, [], ◌∷◌}
+use Rattle.std.specs.HashMap.{HashMap}
+use Rattle.ds2_tree.specs.Globals.{GlobalItem, Declared, Listed, Defined}
+use Rattle.ds2_tree.specs.declared.readings.Input as source_input
+use Rattle.ds2_names.specs.NameRules.{from_each}
+use Rattle.ds2_names.specs.SourceUnit.{PlacedName, placed_name, spelled_name, tables_of_reading}
+use Rattle.ds2_resolve.specs.TableMakers.{maker_in}
+
+-- no program makes a table
+abbrev pub is_of_store : {S : Type 0} → HashMap (List ℕ) ℕ S → List ℕ → Bool
+is_of_store makers name = nat_eq (maker_in makers name) 0
+
+-- the table of an input, where it is one of the store
+abbrev pub stored_table : (List ℕ → Bool) → source_input.Input → List PlacedName
+stored_table stored input = if stored (spelled_name input.table) then placed_name input.table ∷ [] else []
+
+-- the tables of the store that the reading statement of a method names
+abbrev pub stored_in_global : (List ℕ → Bool) → GlobalItem → List PlacedName
+stored_in_global stored (Defined m) = from_each (stored_table stored) (tables_of_reading m.reading)
+stored_in_global stored (Declared d) = []
+stored_in_global stored (Listed keyword names end) = []
+
+-- each table at its first mention, where a test tells those that were seen before
+abbrev pub first_by : (List ℕ → Bool) → List PlacedName → List PlacedName
+first_by seen [] = []
+first_by seen (t ∷ tables) = if seen t.name then first_by seen tables else t ∷ first_by (λ name. bytes_eq t.name name || seen name) tables

@@ -1,0 +1,153 @@
+//! Which sources are of a form that is built so far.
+ghost use Rattle.std.specs.Prelude.{◌≡◌, ◌&&◌, is_none, map, true};
+ghost use Rattle.std.specs.Option.{option_map_or};
+ghost use Rattle.std.specs.List.{list_all, list_any};
+ghost use Rattle.ds2_tree.specs.UnitViews.{global_tree, part_tree, source_tree};
+ghost use Rattle.ds2_source.specs.BuiltSources.{has_no_flag, is_built_reading, is_built_global, is_built_part, is_data_part, has_one_program_at_most, is_built_source};
+
+use ds2_tree::{By, Declaration, GlobalItem, Input, Reading, Source, SourcePart};
+
+// Whether an input has no `in=`.
+fn has_no_flag(input: &Input) -> bool
+    ensures { result ≡ has_no_flag input.now }
+{
+    input.flag.is_none()
+}
+
+// Whether no input has an `in=`.
+fn have_no_flags(inputs: &[Input]) -> bool
+    ensures { result ≡ list_all has_no_flag inputs.now }
+{
+    inputs.iter().all(|input| has_no_flag(input))
+}
+
+// Whether `set` has neither a `by` nor an `in=`.
+fn is_built_set(inputs: &[Input], by: &Option<By>) -> bool
+    ensures { result ≡ (is_none by.now && list_all has_no_flag inputs.now) }
+{
+    by.is_none() && have_no_flags(inputs)
+}
+
+// Whether a reading statement is built.
+fn is_built_reading(reading: &Reading) -> bool
+    ensures { result ≡ is_built_reading reading.now }
+{
+    match reading {
+        Reading::Set { inputs, by, .. } => is_built_set(inputs.as_slice(), by),
+        Reading::SetFrom { .. } => true,
+        Reading::Merge { .. } => false,
+    }
+}
+
+// Whether a method without a reading statement, or with this one, is built.
+fn is_built_method(reading: &Option<Reading>) -> bool
+    ensures { result ≡ option_map_or is_built_reading reading.now true }
+{
+    match reading {
+        None => true,
+        Some(reading) => is_built_reading(reading),
+    }
+}
+
+// Whether a part of a unit is built.
+fn is_built_global(global: &GlobalItem) -> bool
+    ensures { result ≡ is_built_global (global_tree global.now) }
+{
+    match global {
+        GlobalItem::Listed { .. } => true,
+        GlobalItem::Method(m) => is_built_method(&m.reading),
+        GlobalItem::Declaration(declaration) => match declaration {
+            Declaration::Variables(_) => true,
+            Declaration::Instance { .. } => false,
+            Declaration::Hash { .. } => false,
+            Declaration::Hiter { .. } => false,
+            Declaration::Thread { .. } => false,
+        },
+    }
+}
+
+// Whether the parts of a unit are built.
+fn are_built_globals(globals: &[GlobalItem]) -> bool
+    ensures { result ≡ list_all is_built_global (map global_tree globals.now) }
+{
+    'globals: for global in globals {
+        if !is_built_global(global) {
+            return false;
+        }
+    }
+    true
+}
+
+// Whether a part of a source is built.
+fn is_built_part(part: &SourcePart) -> bool
+    ensures { result ≡ is_built_part (part_tree part.now) }
+{
+    match part {
+        SourcePart::Proc { .. } => true,
+        SourcePart::Run { .. } => true,
+        SourcePart::Quit { .. } => true,
+        SourcePart::Package(_) => false,
+        SourcePart::Thread(_) => false,
+        SourcePart::Data(program) => are_built_globals(program.globals.as_slice()),
+    }
+}
+
+// Whether the parts of a source are built.
+fn are_built_parts(parts: &[SourcePart]) -> bool
+    ensures { result ≡ list_all is_built_part (map part_tree parts.now) }
+{
+    'parts: for part in parts {
+        if !is_built_part(part) {
+            return false;
+        }
+    }
+    true
+}
+
+// Whether a part of a source is a data program.
+fn is_data_part(part: &SourcePart) -> bool
+    ensures { result ≡ is_data_part (part_tree part.now) }
+{
+    match part {
+        SourcePart::Proc { .. } => false,
+        SourcePart::Run { .. } => false,
+        SourcePart::Quit { .. } => false,
+        SourcePart::Package(_) => false,
+        SourcePart::Thread(_) => false,
+        SourcePart::Data(_) => true,
+    }
+}
+
+// Whether one of these parts is a data program.
+fn has_program(parts: &[SourcePart]) -> bool
+    ensures { result ≡ list_any is_data_part (map part_tree parts.now) }
+{
+    'parts: for part in parts {
+        if is_data_part(part) {
+            return true;
+        }
+    }
+    false
+}
+
+// Whether at most one of these parts is a data program.
+fn has_one_program_at_most(parts: &[SourcePart]) -> bool
+    ensures { result ≡ has_one_program_at_most (map part_tree parts.now) }
+{
+    let mut rest = parts;
+    'parts: while let [first, after @ ..] = rest {
+        if is_data_part(first) {
+            return !has_program(after);
+        }
+        rest = after;
+    }
+    true
+}
+
+/// Whether a source is of a form that is built so far. It is not exactly where it has a package, a thread program, a declaration of
+/// either, of a hash object or of an iterator, `by`, `merge`, `in=`, or more than one data program.
+pub fn is_built_source(source: &Source) -> bool
+    ensures { result ≡ is_built_source (source_tree source.now) }
+{
+    are_built_parts(source.parts.as_slice()) && has_one_program_at_most(source.parts.as_slice())
+}

@@ -1,0 +1,24 @@
+//! A source, and the tables that it reads.
+//!
+//! [`read_source`] gives the syntax tree of a text or its first refusal, [`is_built_source`] tells whether a tree is of a form that is
+//! built so far, and [`input_names`] gives the tables that must come from the store. [`SourceRefusal`] has the kinds of all refusals of a
+//! source.
+//!
+//! ```text
+//! let source = read_source(alloc, &text)?;
+//! let tables = input_names(alloc, &source)?;
+//! ```
+#![tactic(auto)]
+
+mod built;
+mod inputs;
+mod kinds;
+mod mentions;
+mod programs;
+mod source;
+
+pub use built::is_built_source;
+pub use inputs::{MOST_TABLES, input_names};
+pub use kinds::{SourceKind, SourceRefusal};
+pub use programs::first_program;
+pub use source::read_source;

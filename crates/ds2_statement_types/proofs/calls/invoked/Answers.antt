@@ -1,0 +1,14 @@
+use Rattle.std.proofs.Common.{ap, ◌∙◌, subst}
+use Rattle.std.proofs.Common.{None}
+use Rattle.ds2_meaning.specs.TypedExpression.{TypedArguments}
+use Rattle.ds2_meaning.specs.TypedStatement.{Invoke}
+use Rattle.ds2_expression_walk.specs.Passing.{AreAllPassed}
+use Rattle.ds2_statement_types.proofs.calls.invoked.Goals as goal
+
+pub returns-in-Err : goal.returns-in-Err
+returns-in-Err c = λ a h. subst (AreAllPassed a) c.in-Err.is h
+
+pub returns-in_ok-made-in-Ok : goal.returns-in_ok-made-in-Ok
+returns-in_ok-made-in-Ok c = λ a h.
+    let so = subst (AreAllPassed a) c.in-Ok.is h in
+    (so.0, c.in_ok-made-in-Ok.ensures ∙ c.invoke_node.ensures ∙ ap (λ (l : TypedArguments). Invoke c.args.place None c.args.number l) so.1)

@@ -1,0 +1,117 @@
+-- Methods that can be called, one by one.
+use Rattle.std.proofs.Common.{◌≡◌, ℕ, ◌+◌, ◌||◌, Bool, true, false, if◌then◌else◌, bytes_eq, List, [], ◌∷◌, Option, Some, None, refl, sym, ap, ◌∙◌, subst}
+use Rattle.std.specs.Prelude.{nat_eq, not, position, unwrap_or}
+use Rattle.std.specs.List.{position_from}
+use Rattle.std.specs.Option.{option_or}
+use Rattle.std.specs.Cmp.Lexicographic.{pointwise}
+use Rattle.std.specs.HashMap.{get}
+use Rattle.std.proofs.lemmas.Iterator.Adapters.{position_from-zero}
+use Rattle.std.proofs.lemmas.Slice.Eq.{bytes_eq-Decides}
+use Rattle.ds2_tree.specs.Globals.{Method, GlobalItem, Declared, Listed, Defined}
+use Rattle.ds2_meaning.specs.ProgramTree.{is_listed}
+use Rattle.ds2_names.specs.SourceUnit.{spelled_name, is_system_name, source_methods}
+use Rattle.ds2_names.specs.Uses.{method_named}
+use Rattle.ds2_elaboration.specs.ExpressionTypes.{TypeScope, callable_methods, number_of_method}
+use Rattle.ds2_expression_walk.specs.Scopes.{IsMethodAs, IsScopeOf}
+use Rattle.ds2_expression_walk.specs.declared.scopes.KnownMethod.{KnownMethod}
+use Rattle.ds2_expression_walk.specs.declared.scopes.Scope.{Scope}
+use Rattle.ds2_scope.proofs.TableLemmas.{or_none}
+use Rattle.ds2_type_tables.specs.Bys.{if_listed, HasBys}
+use Rattle.ds2_type_tables.specs.Callables.{known_method, known_if_named, callable_if, callable_in, number_behind_method, known_in_part, known_from, HasCallables}
+use Rattle.ds2_type_tables.specs.Globals.{HasGlobals}
+use Rattle.ds2_type_tables.specs.Tables.{HasLocals}
+use Rattle.ds2_type_tables.proofs.ScopeTables.{variables_of_tables}
+
+-- ---- one part more of a unit
+
+module _ (x : Option KnownMethod) (number : ℕ) (gs : List GlobalItem) (name : List ℕ) where
+  abbrev left : ℕ → Option KnownMethod
+  left n = known_from n (callable_methods (source_methods gs)) name
+
+  nothing_more : (next : ℕ) → next ≡ number → option_or (option_or x None) (left next) ≡ option_or x (left number)
+  nothing_more next e = ap (λ (y : Option KnownMethod). option_or y (left next)) (or_none x) ∙ ap (λ (n : ℕ). option_or x (left n)) e
+
+  method_more : (m : Method) (next : ℕ) → next ≡ number + 1
+      → option_or (option_or x (known_if_named name number m)) (left next) ≡ option_or x (if bytes_eq (spelled_name m.name) name then Some (known_method number m) else left (number + 1))
+  method_more m next e = ap (λ (n : ℕ). option_or (option_or x (known_if_named name number m)) (left n)) e ∙ by (bytes_eq (spelled_name m.name) name) x
+    where
+      by : (b : Bool) (y : Option KnownMethod)
+          → option_or (option_or y (if b then Some (known_method number m) else None)) (left (number + 1)) ≡ option_or y (if b then Some (known_method number m) else left (number + 1))
+      by true None = refl
+      by true (Some k) = refl
+      by false y = ap (λ (z : Option KnownMethod). option_or z (left (number + 1))) (or_none y)
+
+  callable_more : (m : Method) (next : ℕ) → next ≡ number_behind_method number (callable_if m)
+      → option_or (option_or x (known_in_part name number (callable_if m))) (left next) ≡ option_or x (known_from number (callable_methods (m ∷ source_methods gs)) name)
+  callable_more m next e = by (is_system_name (spelled_name m.name)) e
+    where
+      by : (b : Bool) → next ≡ number_behind_method number (if b then None else Some m)
+          → option_or (option_or x (known_in_part name number (if b then None else Some m))) (left next)
+          ≡ option_or x (known_from number (if not b then m ∷ callable_methods (source_methods gs) else callable_methods (source_methods gs)) name)
+      by true f = nothing_more next f
+      by false f = method_more m next f
+
+  -- one part more
+  pub one_more_callable : (g : GlobalItem) (next : ℕ) → next ≡ number_behind_method number (callable_in g)
+      → option_or (option_or x (known_in_part name number (callable_in g))) (left next) ≡ option_or x (known_from number (callable_methods (source_methods (g ∷ gs))) name)
+  one_more_callable (Declared d) next e = nothing_more next e
+  one_more_callable (Listed keyword names end) next e = nothing_more next e
+  one_more_callable (Defined m) next e = callable_more m next e
+
+-- ---- what the table tells
+
+-- the first method of a name, with its number
+abbrev Tells : Option KnownMethod → Option Method → Option ℕ → Type 0
+Tells None None None = Unit {0}
+Tells (Some k) (Some m) (Some number) = k ≡ known_method number m
+Tells _ _ _ = ⊥
+
+tells_from : (name : List ℕ) (number : ℕ) (methods : List Method)
+    → Tells (known_from number methods name) (method_named methods name) (position_from (λ (m : Method). bytes_eq (spelled_name m.name) name) number methods)
+tells_from name number [] = tt
+tells_from name number (m ∷ methods) = by (bytes_eq (spelled_name m.name) name) (tells_from name (number + 1) methods)
+  where
+    by : (b : Bool)
+        → Tells (known_from (number + 1) methods name) (method_named methods name) (position_from (λ (m : Method). bytes_eq (spelled_name m.name) name) (number + 1) methods)
+        → Tells (if b then Some (known_method number m) else known_from (number + 1) methods name) (if b then Some m else method_named methods name)
+        (if b then Some number else position_from (λ (m : Method). bytes_eq (spelled_name m.name) name) (number + 1) methods)
+    by true h = refl
+    by false h = h
+
+told_as : (types : TypeScope) (name : List ℕ) (k : Option KnownMethod) (m : Option Method) (i : Option ℕ) → Tells k m i
+    → i ≡ position (λ (m : Method). bytes_eq (spelled_name m.name) name) types.methods → IsMethodAs types name k m
+told_as types name None None None h e = tt
+told_as types name None None (Some i) h e = tt
+told_as types name None (Some m) i h e = absurd h
+told_as types name (Some k) None i h e = absurd h
+told_as types name (Some k) (Some m) None h e = absurd h
+told_as types name (Some k) (Some m) (Some i) h e = record {
+  number = ap (λ (x : KnownMethod). x.number) h ∙ ap (λ (o : Option ℕ). unwrap_or o 0) e;
+  parameters = ap (λ (x : KnownMethod). x.parameters) h;
+  returns = ap (λ (x : KnownMethod). x.returns) h;
+}
+
+methods_of_table : (types : TypeScope) (scope : Scope) → HasCallables scope.methods.now types.methods → (name : List ℕ)
+    → IsMethodAs types name (get (pointwise nat_eq) scope.methods.now name) (method_named types.methods name)
+methods_of_table types scope h name =
+    subst (λ (k : Option KnownMethod). IsMethodAs types name k (method_named types.methods name)) (sym (h name))
+    (told_as types name (known_from 0 types.methods name) (method_named types.methods name) (position_from (λ (m : Method). bytes_eq (spelled_name m.name) name) 0 types.methods)
+    (tells_from name 0 types.methods) (sym (position_from-zero (λ (m : Method). bytes_eq (spelled_name m.name) name) types.methods)))
+
+-- a scope of these tables
+pub scope_of_tables : (types : TypeScope) (scope : Scope) → HasLocals scope.locals.now types.locals → HasGlobals scope.globals.now types.unjoined types.variables types.flags
+    → HasBys scope.bys.now types.bys → HasCallables scope.methods.now types.methods → IsScopeOf types scope
+scope_of_tables types scope h k b m = record { variables = variables_of_tables types scope h k; flags = b; callables = methods_of_table types scope m }
+
+-- ---- BY variables
+
+-- one BY variable more
+pub one_more_by : (x : Option (List ℕ)) (by : List ℕ) (rest : List (List ℕ)) (name : List ℕ)
+    → option_or (option_or x (if bytes_eq by name then Some by else None)) (if_listed rest name) ≡ option_or x (if_listed (by ∷ rest) name)
+one_more_by x by rest name = told (bytes_eq by name) refl x
+  where
+    told : (b : Bool) → bytes_eq by name ≡ b → (y : Option (List ℕ))
+        → option_or (option_or y (if b then Some by else None)) (if_listed rest name) ≡ option_or y (if b || is_listed rest name then Some name else None)
+    told true e None = ap (λ (n : List ℕ). Some n) ((bytes_eq-Decides by name).0 e)
+    told true e (Some n) = refl
+    told false e y = ap (λ (z : Option (List ℕ)). option_or z (if_listed rest name)) (or_none y)

@@ -1,0 +1,2 @@
+-- What a source becomes, as the code holds it.
+pub mod SourceOutcomes

@@ -1,0 +1,27 @@
+use Rattle.std.proofs.Common.{ℕ, refl, ap, subst}
+use Rattle.ds2_scales.specs.Scales.{IsDataScaled}
+use Rattle.ds2_machine.specs.AtRest.{MachineAtRest, staged_program}
+use Rattle.ds2_unit.specs.ProgramRun.{grain_asked}
+use Rattle.ds2_unit.specs.declared.program_end.RunEnd.{RunEnd}
+use Rattle.ds2_unit.proofs.WholeRuns.{whole_run}
+use Rattle.ds2_unit.proofs.alone.run_into.Goals as goal
+
+pub open-requires-clause-given : goal.open-requires-clause-given
+open-requires-clause-given g c = tt
+
+pub run_reading-requires-clause-scaled : goal.run_reading-requires-clause-scaled
+run_reading-requires-clause-scaled g c =
+    let P : ℕ → Type 0 = λ n. IsDataScaled (staged_program c.args.code.now n) c.in_ok-machine.machine.state in
+    subst P (ap (λ (m : MachineAtRest). m.program) c.in_ok-machine.ensures.opened) c.in_ok-machine.ensures.scaled
+
+pub run_reading-requires-clause-ready : goal.run_reading-requires-clause-ready
+run_reading-requires-clause-ready g c = ap (λ (m : MachineAtRest). m.spent) c.in_ok-machine.ensures.opened
+
+pub run_reading-requires-clause-program : goal.run_reading-requires-clause-program
+run_reading-requires-clause-program g c = ap (λ (m : MachineAtRest). m.program) c.in_ok-machine.ensures.opened
+
+pub returns : goal.returns
+returns g c =
+    let told : RunEnd = record { ending = c.in_ok-end.end.ending; executed = c.in_ok-end.end.executed; stages = c.new.result } in
+    whole_run g.S.UnitSink.has_taken c.args.sink.now c.run_reading.new.sink c.args.tables.now c.args.budget (grain_asked c.args.grains.now) c.args.code.now c.in_ok-machine.machine.state c.in_ok-end.end told
+    c.requires.stages (ap (λ (m : MachineAtRest). m.state) c.in_ok-machine.ensures.opened) c.in_ok-end.ensures refl refl c.new.ensures

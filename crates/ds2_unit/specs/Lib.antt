@@ -1,0 +1,9 @@
+pub mod Sources
+pub mod SetSource
+pub mod Statement
+pub mod RowsBehind
+pub mod RowSource
+pub mod UnitsRun
+pub mod Outputs
+pub mod ProgramRun
+pub mod AloneEnd
