@@ -1,12 +1,16 @@
 //! One case.
-ghost use Rattle.std.specs.Prelude.{◌≤◌};
+ghost use Rattle.std.specs.Prelude.{◌≤◌, IsTrue, length};
+ghost use Rattle.ds2_reading.specs.ReadingFits.{reading_fits_tables};
 ghost use Rattle.ds2_by_order.specs.CursorState.{group_count};
+ghost use Rattle.ds2_load_cases.specs.LoadCursors.{cursor_in};
 
-use crate::lines::grain;
+use crate::cursor::LoadCursor;
+use crate::lines::{grain, is_merge};
 use crate::loads::line_of;
 use crate::mistake::Mistake;
 use crate::statement::{Statement, statement_of};
 use ds2_base::OutOfMemory;
+use ds2_merge::MergeCursor;
 use ds2_reading::Load;
 use ds2_rows::SetCursor;
 use std::alloc::{AllocError, Global};
@@ -19,15 +23,45 @@ struct Width {
     bys: usize,
 }
 
+// A cursor of `set`.
+fn open_set(alloc: Global, statement: &Statement, grain: u32) -> Result<LoadCursor, Mistake>
+    requires fits { IsTrue (reading_fits_tables statement.now.tables statement.now.reading) }
+    requires grain { grain ≤ length statement.now.reading.bys }
+{
+    let cursor = SetCursor::open(alloc, &statement.reading, &statement.tables, grain)?;
+    Ok(LoadCursor::Set(cursor))
+}
+
+// A cursor of `merge`.
+fn open_merge(alloc: Global, statement: &Statement, grain: u32) -> Result<LoadCursor, Mistake>
+    requires fits { IsTrue (reading_fits_tables statement.now.tables statement.now.reading) }
+    requires grain { grain ≤ length statement.now.reading.bys }
+{
+    if grain == 0 {
+        return Err(Mistake::NoGrain);
+    }
+    let cursor = MergeCursor::open(alloc, &statement.reading, &statement.tables, grain)?;
+    Ok(LoadCursor::Merge(cursor))
+}
+
 // The cursor of a statement.
-fn open(alloc: Global, statement: &Statement, grain: u32) -> Result<SetCursor, Mistake> {
+fn open(
+    alloc: Global,
+    statement: &Statement,
+    is_merge: bool,
+    grain: u32,
+) -> Result<LoadCursor, Mistake> {
     if !statement.reading.fits(&statement.tables) {
         return Err(Mistake::NoFit);
     }
     if grain as usize > statement.reading.bys.len() {
         return Err(Mistake::GrainTooFine);
     }
-    Ok(SetCursor::open(alloc, &statement.reading, &statement.tables, grain)?)
+    if is_merge {
+        open_merge(alloc, statement, grain)
+    } else {
+        open_set(alloc, statement, grain)
+    }
 }
 
 // A load behind some words, or that there is none.
@@ -42,7 +76,7 @@ fn show_load(rt: &HostRuntime, words: &str, load: Option<Load>, width: Width) ->
 }
 
 // All loads, and that there is none behind the last one.
-fn show_loads(rt: &HostRuntime, cursor: &mut SetCursor, width: Width) -> io::Result<()> {
+fn show_loads(rt: &HostRuntime, cursor: &mut LoadCursor, width: Width) -> io::Result<()> {
     for _ in 0..u64::MAX {
         let load = cursor.next_load();
         if load.is_none() {
@@ -54,7 +88,7 @@ fn show_loads(rt: &HostRuntime, cursor: &mut SetCursor, width: Width) -> io::Res
 }
 
 // Where the groups begin, and where the loads end.
-fn show_starts(rt: &HostRuntime, cursor: &SetCursor) -> io::Result<()> {
+fn show_starts(rt: &HostRuntime, cursor: &LoadCursor) -> io::Result<()> {
     let groups = cursor.groups();
     for g in 0..groups {
         let start = cursor.group_start(g);
@@ -64,26 +98,18 @@ fn show_starts(rt: &HostRuntime, cursor: &SetCursor) -> io::Result<()> {
     println!(rt; "    end at {end}")
 }
 
-// The load that a copy gives, set before a group.
-fn load_from(alloc: Global, cursor: &SetCursor, g: u64) -> Result<Option<Load>, OutOfMemory>
-    requires { g ≤ group_count cursor.now }
+// The load that a copy of a cursor gives, set before a group.
+fn show_from(rt: &HostRuntime, cursor: &LoadCursor, g: u64, width: Width) -> io::Result<()>
+    requires { g ≤ group_count (cursor_in cursor.now) }
 {
-    let mut copy = cursor.copy(alloc)?;
-    copy.seek(g);
-    Ok(copy.next_load())
-}
-
-fn show_from(rt: &HostRuntime, cursor: &SetCursor, g: u64, width: Width) -> io::Result<()>
-    requires { g ≤ group_count cursor.now }
-{
-    match load_from(rt.alloc(), cursor, g) {
+    match cursor.load_from(rt.alloc(), g) {
         Ok(load) => show_load(rt, "from there ", load, width),
         Err(OutOfMemory) => println!(rt; "    want of memory"),
     }
 }
 
 // The first load of each group, and that there is none behind the last one.
-fn show_groups(rt: &HostRuntime, cursor: &SetCursor, width: Width) -> io::Result<()> {
+fn show_groups(rt: &HostRuntime, cursor: &LoadCursor, width: Width) -> io::Result<()> {
     let groups = cursor.groups();
     for g in 0..groups {
         show_from(rt, cursor, g, width)?;
@@ -91,9 +117,9 @@ fn show_groups(rt: &HostRuntime, cursor: &SetCursor, width: Width) -> io::Result
     show_from(rt, cursor, groups, width)
 }
 
-fn cursor_of(alloc: Global, block: &str) -> Result<(SetCursor, Width), Mistake> {
+fn cursor_of(alloc: Global, block: &str) -> Result<(LoadCursor, Width), Mistake> {
     let statement = statement_of(alloc, block)?;
-    let cursor = open(alloc, &statement, grain(block)?)?;
+    let cursor = open(alloc, &statement, is_merge(block), grain(block)?)?;
     let width = Width {
         tables: statement.reading.tables.len(),
         bys: statement.reading.bys.len(),

@@ -56,6 +56,16 @@ pub fn by_lines(alloc: Global, block: &str) -> Result<List<ByLine<'_>>, Mistake>
     Ok(bys)
 }
 
+/// Whether the statement of a case is a `merge`.
+pub fn is_merge(block: &str) -> bool {
+    for line in front(block).lines() {
+        if line == "merge" {
+            return true;
+        }
+    }
+    false
+}
+
 /// The grain of a case.
 pub fn grain(block: &str) -> Result<u32, Mistake> {
     for line in front(block).lines() {

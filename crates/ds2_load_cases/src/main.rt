@@ -1,7 +1,8 @@
-//! The loads of `set` over small tables.
+//! The loads of `set` and of `merge` over small tables.
 //!
 //! Standard input holds cases, an empty line between two of them. A case is a statement and its tables:
 //!
+//! - `merge`, where the statement is one, and `set` where no line says so;
 //! - `by NAME` and `by NAME descending`, its BY variables in order;
 //! - `grain P`, by how many of them loads are in one group; 0 where no line says it;
 //! - `table`, and below it a table as a CSV file has it.
@@ -13,6 +14,7 @@
 #![tactic(auto)]
 
 mod case;
+mod cursor;
 mod lines;
 mod loads;
 mod mistake;

@@ -14,6 +14,8 @@ pub enum Mistake {
     NoFit,
     #[error("a grain above the number of BY variables")]
     GrainTooFine,
+    #[error("a merge without a grain")]
+    NoGrain,
     #[error("want of memory")]
     OutOfMemory,
 }

@@ -1,16 +1,15 @@
 -- Object files: what is spelled is read, what is read is spelled, each cut is Truncated.
-use Rattle.std.proofs.Common.{◌≡◌, ℕ, suc, ◌+◌, ◌-◌, ◌^◌, ◌<◌, ◌≤◌, Bool, true, false, cond, if◌then◌else◌, ◌==◌, IsTrue, List, [], ◌∷◌, ◌++◌, length, nat_lt, Result, Ok, Err, refl, sym, ap, subst, ◌∙◌, append_assoc, append-nil, length-append, eqb-true, eq-eqb, arith}
+use Rattle.std.proofs.Common.{◌≡◌, ℕ, ◌+◌, ◌-◌, Bool, true, false, cond, if◌then◌else◌, ◌==◌, IsTrue, [], ◌∷◌, ◌++◌, length, Result, Ok, Err, refl, sym, ap, subst, ◌∙◌, append-nil, length-append, eqb-true, arith}
 use Rattle.std.specs.Prelude.{bytes_eq}
 use Rattle.std.proofs.lemmas.Slice.Eq.{bytes_eq-Decides}
 use Rattle.ds2_base.specs.Bytes.{Bytes}
-use Rattle.ds2_object_words.specs.declared.flaw.Flaw.{Flaw}
 use Rattle.ds2_object_words.specs.declared.flaw.Flaw.TheVariants as flaw
 use Rattle.ds2_object_words.specs.PartLaws.{AreBytes, GoesOnAs, IsLawfulPart}
-use Rattle.ds2_object_words.specs.Parts.{FormatPart, FieldRead, number16_part, bytes_part, list_part}
+use Rattle.ds2_object_words.specs.Parts.{FieldRead, number16_part, bytes_part}
 use Rattle.ds2_object_words.proofs.PartLemmas.{bytes_law, rest_bytes}
 use Rattle.ds2_object_words.proofs.NumberLemmas.{number16_law, list_law}
 use Rattle.ds2_object_programs.specs.ProgramSpelling.{data_program_part}
-use Rattle.ds2_object.specs.ObjectSpelling.{magic_bytes, format_version, WrittenObject, programs_part, object_spelled, refusal_of_flaw, then_reads, nothing_behind, version_read, object_read}
+use Rattle.ds2_object.specs.ObjectSpelling.{magic_bytes, format_version, WrittenObject, programs_part, object_spelled, then_reads, nothing_behind, version_read, object_read}
 use Rattle.ds2_object.specs.declared.refusal.ObjectRefusal.{ObjectRefusal}
 use Rattle.ds2_object.specs.declared.refusal.ObjectRefusal.TheVariants as refusal
 use Rattle.ds2_object_programs.proofs.ProgramLemmas.{data_program_law}

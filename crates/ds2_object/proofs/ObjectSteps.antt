@@ -1,5 +1,5 @@
 -- How a file is read, and how an object is written.
-use Rattle.std.proofs.Common.{◌≡◌, ℕ, suc, ◌+◌, ◌-◌, ◌<◌, ◌≤◌, Bool, true, false, cond, if◌then◌else◌, ◌==◌, IsTrue, List, [], ◌∷◌, ◌++◌, length, map, take, drop, reverse, slice_get, Option, Some, None, Result, Ok, Err, refl, sym, ap, subst, ◌∙◌, append_assoc, append-nil, arith, ◌&&◌, SomeIff}
+use Rattle.std.proofs.Common.{◌≡◌, ℕ, Bool, true, false, cond, if◌then◌else◌, ◌==◌, IsTrue, List, [], ◌∷◌, ◌++◌, length, map, reverse, Option, Some, None, Result, Ok, Err, refl, sym, ap, subst, ◌∙◌, append_assoc, append-nil, SomeIff}
 use Rattle.std.specs.Prelude.{bytes_eq}
 use Rattle.std.specs.List.{list_all, AllByRecursion}
 use Rattle.std.specs.Option.{option_map, option_and_then}
@@ -22,7 +22,7 @@ use Rattle.ds2_object_programs.specs.ProgramRules.{data_spelled}
 use Rattle.ds2_object_programs.specs.ProgramSpelling.{WrittenProgram, StagedReading, data_program_part, read_as, all_made, data_parts, written_data}
 use Rattle.ds2_object_programs.proofs.AgainLemmas.{data_again, data_only}
 use Rattle.ds2_object_programs.proofs.MadeSteps.{read_as_ok, read_as_stops}
-use Rattle.ds2_object.specs.ObjectSpelling.{magic_bytes, format_version, WrittenObject, programs_part, object_spelled, refusal_of_flaw, stop_of_flaw, then_reads, nothing_behind, version_read, magic_read, object_read, written_object, object_parts, then_parts, has_no_name, object_linked, IsValidObject, IsSpellingOf, DecodesTo, IsGivenBack}
+use Rattle.ds2_object.specs.ObjectSpelling.{magic_bytes, format_version, WrittenObject, programs_part, stop_of_flaw, then_reads, nothing_behind, version_read, magic_read, object_read, written_object, object_parts, then_parts, has_no_name, object_linked, IsValidObject, IsSpellingOf, DecodesTo, IsGivenBack}
 use Rattle.ds2_object.specs.declared.refusal.ObjectRefusal.{ObjectRefusal}
 use Rattle.ds2_object.specs.declared.refusal.ObjectRefusal.TheVariants as refusal
 use Rattle.ds2_object.proofs.ObjectLemmas.{read_is_spelled, spelled_read}

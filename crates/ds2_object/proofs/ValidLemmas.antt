@@ -1,5 +1,5 @@
 -- Valid code has a spelling.
-use Rattle.std.proofs.Common.{◌≡◌, ℕ, ◌+◌, ◌^◌, ◌<◌, ◌≤◌, Bool, true, false, cond, if◌then◌else◌, not, ◌&&◌, IsTrue, List, [], ◌∷◌, ◌++◌, length, map, nat_lt, nat_le, Option, Some, None, refl, sym, ap, ◌∙◌, leb-true, lt-ltb, arith}
+use Rattle.std.proofs.Common.{◌≡◌, ℕ, ◌+◌, ◌^◌, ◌<◌, ◌≤◌, Bool, true, false, cond, not, ◌&&◌, IsTrue, List, [], ◌∷◌, ◌++◌, length, nat_le, Option, Some, None, refl, leb-true, lt-ltb, arith}
 use Rattle.std.proofs.lemmas.Bool.{ltb-true}
 use Rattle.std.specs.List.{list_all, AllByRecursion}
 use Rattle.std.specs.Option.{option_map_or, is_some}
@@ -9,7 +9,7 @@ use Rattle.ds2_value.specs.declared.ty.Ty.{Ty}
 use Rattle.ds2_code.specs.CodeBound.{falls_through}
 use Rattle.ds2_code.specs.InstructionTable.{kind_of}
 use Rattle.ds2_code.specs.OperandTypes.{OperandTypes, CodeRole, OfUnit, types_behind}
-use Rattle.ds2_code.specs.ValidCode.{CodePoint, point, behind_instruction, AlongList, HasOperandTypes, read_in_range, by_in_range, tables_in_range, reading_in_range, hash_in_range, output_in_range, all_below, parts_in_range, is_short, read_short, reading_short, own_lists_short, hash_short, method_short, lists_short, reference_allowed, constant_allowed, method_allowed, reading_allowed, values_allowed, hash_table_fits, output_fits, reading_fits, layout_fits, stage_parameters, IsValidProgram, IsValidStaged}
+use Rattle.ds2_code.specs.ValidCode.{CodePoint, point, behind_instruction, AlongList, read_in_range, by_in_range, tables_in_range, reading_in_range, hash_in_range, output_in_range, all_below, is_short, read_short, reading_short, own_lists_short, hash_short, method_short, lists_short, reference_allowed, constant_allowed, method_allowed, reading_allowed, values_allowed, hash_table_fits, output_fits, reading_fits, stage_parameters, IsValidProgram, IsValidStaged}
 use Rattle.ds2_code.specs.declared.instr.Instr.{Instr}
 use Rattle.ds2_code.specs.declared.instr.Instr.TheVariants as instr
 use Rattle.ds2_code.specs.declared.parts.ByPart.{ByPart}
@@ -107,7 +107,7 @@ list_spelled code parameters at came before (i ∷ instrs) (p ∷ points) h =
 
 -- ---- programs
 
-program_is_spelled : (code : ProgramParts) (stage : Option ProgramParts) → IsValidProgram code stage → IsTrue (program_spelled code)
+pub program_is_spelled : (code : ProgramParts) (stage : Option ProgramParts) → IsValidProgram code stage → IsTrue (program_spelled code)
 program_is_spelled code stage v =
     and_true (lists_short code && values_allowed code) (list_all instr_spelled code.instrs) (and_true (lists_short code) (values_allowed code) v.lists v.values)
     (list_spelled code (stage_parameters stage) 0 false (point OfUnit []) code.instrs v.types.0 v.types.1.along)
@@ -131,7 +131,7 @@ reading_is_spelled n (reading.Merge tables bys retains) allowed short ranges = t
 reading_is_spelled n (reading.Stage threads slots) allowed short ranges = and_true (is_short slots) (nat_le 1 threads && nat_le threads 64) short allowed
 
 -- the reading of valid code has a spelling
-valid_reading : (code : ProgramParts) (stage : Option ProgramParts) → IsValidProgram code stage → IsTrue (reading_spelled code.reading)
+pub valid_reading : (code : ProgramParts) (stage : Option ProgramParts) → IsValidProgram code stage → IsTrue (reading_spelled code.reading)
 valid_reading code stage v =
     let n = length code.slots in
     let outputs_short = λ (o : OutputPart). is_short o.columns in

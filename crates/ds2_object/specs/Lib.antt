@@ -1,2 +1,3 @@
 pub mod ObjectSpelling
+pub mod MadeTables
 pub mod ObjectExamples

@@ -1,5 +1,5 @@
 -- Object files, byte by byte, with what is read of them.
-use Rattle.std.specs.Prelude.{◌≡◌, [], ◌∷◌, Ok, Err, Some, None}
+use Rattle.std.specs.Prelude.{◌≡◌, [], ◌∷◌, Ok, Err, None}
 use Rattle.ds2_object.specs.ObjectSpelling.{object_spelled, object_read, then_parts}
 use Rattle.ds2_object.specs.declared.refusal.ObjectRefusal.TheVariants.{BadMagic, BadVersion, Truncated, TrailingBytes, BadField}
 

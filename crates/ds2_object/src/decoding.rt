@@ -1,12 +1,13 @@
 //! Objects of bytes.
-ghost use Rattle.std.specs.Prelude.{◌≡◌, IfOk, SomeIff};
+ghost use Rattle.std.specs.Prelude.{◌≡◌, IfOk, IsTrue, SomeIff};
 ghost use Rattle.std.specs.List.{AllByRecursion};
 ghost use Rattle.ds2_code.specs.ValidCode.{IsValidStaged};
 ghost use Rattle.ds2_base.specs.Says.{Says};
 ghost use Rattle.ds2_object_words.specs.Parts.{ReadsPart, items_read};
 ghost use Rattle.ds2_object_programs.specs.ProgramSpelling.{data_program_part, read_as};
-ghost use Rattle.ds2_object.specs.ObjectSpelling.{programs_part, object_parts, nothing_behind, then_reads, version_read, magic_read, object_read, then_parts, stop_of_flaw, IsValidObject, DecodesTo};
+ghost use Rattle.ds2_object.specs.ObjectSpelling.{programs_part, object_parts, nothing_behind, then_reads, version_read, magic_read, object_read, then_parts, stop_of_flaw, object_linked, IsValidObject, DecodesTo};
 
+use crate::linked::links_hold;
 use crate::{ObjectCode, ObjectRefusal};
 use ds2_base::{Bytes, List, OutOfMemory, Stop};
 use ds2_code::StagedParts;
@@ -168,6 +169,17 @@ fn valid_programs(
     Ok(Some(codes))
 }
 
+// The object of these programs, where they are linked.
+fn linked_object(alloc: Global, codes: List<ProgramCode>) -> Result<Option<ObjectCode>, OutOfMemory>
+    ensures { IfOk result (λ object. SomeIff object (IsTrue (object_linked codes)) codes) }
+{
+    if links_hold(alloc, codes.as_slice())? {
+        Ok(Some(ObjectCode::of_linked(codes)))
+    } else {
+        Ok(None)
+    }
+}
+
 // The object of programs that are valid and linked.
 #[tactic(auto, using(crate::proofs::ObjectSteps::valid_linked, crate::proofs::ObjectSteps::not_each_valid))]
 fn valid_object(
@@ -177,7 +189,7 @@ fn valid_object(
     ensures { IfOk result (λ object. SomeIff object (IsValidObject programs) programs) }
 {
     match valid_programs(alloc, programs)? {
-        Some(codes) => Ok(ObjectCode::new(codes)),
+        Some(codes) => linked_object(alloc, codes),
         None => Ok(None),
     }
 }

@@ -8,7 +8,9 @@
 mod decoding;
 mod encoding;
 pub mod laws;
+mod linked;
 mod links;
+mod made;
 mod object;
 mod refusal;
 

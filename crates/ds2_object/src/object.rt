@@ -7,8 +7,8 @@ use ds2_base::List;
 use ds2_valid_code::ProgramCode;
 use std::marker::Model;
 
-/// Programs of valid code. None of them has a thread program's name, and each table that one names is the store's or an output, with
-/// its columns, of an earlier one. A contract sees the list of their parts.
+/// Programs of valid code, fewer than 2 ^ 32. None of them has a thread program's name, and each table that one names is the store's or
+/// an output, with its columns, of an earlier one. A contract sees the list of their parts.
 #[derive(Drop)]
 pub struct ObjectCode {
     programs: List<ProgramCode>,
@@ -27,8 +27,8 @@ impl Model for ObjectCode {
 }
 
 impl ObjectCode {
-    /// The object of these programs. None exactly where one of them has a thread program's name, or names a table by a maker that has
-    /// no such output or is no earlier program.
+    /// The object of these programs. None exactly where there are 2 ^ 32 or more of them, where one has a thread program's name, or
+    /// where one names a table by a maker that has no such output or is no earlier program.
     pub fn new(programs: List<ProgramCode>) -> Option<ObjectCode>
         ensures { SomeIff result (IsTrue (object_linked programs)) programs }
     {
@@ -37,6 +37,14 @@ impl ObjectCode {
         } else {
             None
         }
+    }
+
+    // The object of programs that are linked.
+    pub(crate) fn of_linked(programs: List<ProgramCode>) -> ObjectCode
+        requires { IsTrue (object_linked programs) }
+        ensures { result ≡ programs }
+    {
+        ObjectCode { programs }
     }
 
     /// The programs, in order.

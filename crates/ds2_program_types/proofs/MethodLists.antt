@@ -1,15 +1,14 @@
 -- The methods of a program, typed one by one.
-use Rattle.std.proofs.Common.{◌≡◌, ℕ, ◌+◌, ◌<◌, ◌≤◌, Bool, true, false, List, [], ◌∷◌, ◌++◌, length, get_or, take, map, filter, Option, Some, None, Result, refl, sym, ap, ◌∙◌, subst}
+use Rattle.std.proofs.Common.{◌≡◌, ℕ, ◌+◌, ◌<◌, ◌≤◌, List, [], ◌∷◌, ◌++◌, length, get_or, take, map, Result, refl, sym, ap, ◌∙◌, subst}
 use Rattle.std.specs.Prelude.{IfOk}
 use Rattle.std.proofs.lemmas.List.{append-nil, take_more, take_all}
 use Rattle.ds2_base.specs.declared.place.Refusal.{Refusal}
 use Rattle.ds2_base.specs.declared.stop.OutOfMemory.{OutOfMemory}
-use Rattle.ds2_elaboration.specs.ExpressionTypes.{callable_methods}
 use Rattle.ds2_elaboration.specs.ProgramTypes.{method_refusals}
 use Rattle.ds2_elaboration.specs.Typings.{TypeRefusals}
 use Rattle.ds2_meaning.specs.declared.refusals.TypeKind.{TypeKind}
 use Rattle.ds2_names.specs.NameRules.{from_each}
-use Rattle.ds2_names.specs.SourceUnit.{TableColumns, is_system_name, source_methods, spelled_name}
+use Rattle.ds2_names.specs.SourceUnit.{TableColumns, source_methods}
 use Rattle.ds2_tree.specs.Globals.{GlobalItem, Declared, Listed, Defined, Method}
 use Rattle.ds2_tree.specs.Units.{DataProgram}
 use Rattle.ds2_types.specs.Judgements.{IsOutcome}

@@ -1,10 +1,8 @@
 -- The columns of an output, one by one.
-use Rattle.std.proofs.Common.{◌≡◌, ℕ, Bool, true, false, ◌&&◌, if◌then◌else◌, List, [], ◌∷◌, ◌++◌, map, filter, refl, sym, ap, ◌∙◌, append_assoc}
-use Rattle.std.proofs.lemmas.List.{append-nil, map-append}
-use Rattle.ds2_tree.specs.declared.units.OutputOption.{OutputOption}
+use Rattle.std.proofs.Common.{◌≡◌, ℕ, Bool, true, false, ◌&&◌, if◌then◌else◌, List, [], ◌∷◌, ◌++◌, map, filter, refl, sym, ap, ◌∙◌}
+use Rattle.std.proofs.lemmas.List.{append-nil}
 use Rattle.ds2_tree.specs.declared.units.OutputTable.{OutputTable}
 use Rattle.ds2_meaning.specs.declared.globals.OutputColumn.{OutputColumn}
-use Rattle.ds2_meaning.specs.declared.globals.OutputTable as typed_output
 use Rattle.ds2_meaning.specs.declared.globals.Variable.{Variable}
 use Rattle.ds2_names.specs.NameRules.{is_output_column, options_of}
 use Rattle.ds2_names.specs.SourceUnit.{UnitSource}
@@ -12,7 +10,7 @@ use Rattle.ds2_elaboration.specs.ProgramTypes.{made_column}
 use Rattle.ds2_given_names.specs.OutputParts.{AreStatementLists, AreOptionLists, passes_lists}
 use Rattle.ds2_given_names.specs.declared.lists.KeepDrop.{KeepDrop}
 use Rattle.ds2_given_names.proofs.OutputLemmas.{passes_is}
-use Rattle.ds2_program_types.specs.TypedOutputs.{passes_both, columns_made_of, outputs_made_of}
+use Rattle.ds2_program_types.specs.TypedOutputs.{passes_both, columns_made_of}
 use Rattle.ds2_program_types.specs.declared.outputs.OutputParts.{OutputParts}
 
 module _ (parts : OutputParts) (variables : List Variable) (o : OutputTable) where

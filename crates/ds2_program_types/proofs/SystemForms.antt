@@ -1,13 +1,12 @@
 -- One more method behind the others: one that can be called, or a system method.
 use Rattle.std.proofs.Common.{◌≡◌, ℕ, cond, Bool, true, false, ◌||◌, bytes_eq, codes, List, [], ◌∷◌, ◌++◌, map, filter, Option, Some, None, refl, sym, ap, ◌∙◌, subst}
-use Rattle.std.specs.Prelude.{find, not, is_some}
+use Rattle.std.specs.Prelude.{find, not}
 use Rattle.std.specs.Option.{option_or}
 use Rattle.std.proofs.lemmas.List.{append-nil}
 use Rattle.std.proofs.lemmas.Slice.Eq.{bytes_eq-Decides}
 use Rattle.ds2_tree.specs.Globals.{Method}
 use Rattle.ds2_tree.specs.Units.{DataProgram}
 use Rattle.ds2_meaning.specs.Method.{MethodTree}
-use Rattle.ds2_meaning.specs.ProgramTree.{BodyTree}
 use Rattle.ds2_meaning.specs.View.{typed_method, system_tree}
 use Rattle.ds2_meaning.specs.declared.methods.Method as typed
 use Rattle.ds2_meaning.specs.declared.methods.SystemMethod.{SystemMethod}
@@ -17,7 +16,7 @@ use Rattle.ds2_scope.proofs.TableLemmas.{or_none}
 use Rattle.ds2_elaboration.specs.ExpressionTypes.{callable_methods}
 use Rattle.ds2_elaboration.specs.ProgramTypes.{method_tree_of, body_of_method}
 use Rattle.ds2_expression_types.proofs.ArgumentLists.{map-push}
-use Rattle.ds2_program_types.specs.TypedMethodLists.{IsSystem, AreMethodsOf}
+use Rattle.ds2_program_types.specs.TypedMethodLists.{IsSystem, IsSystemOf, AreMethodsOf, kept_place, place_of_name}
 use Rattle.ds2_program_types.specs.declared.methods.TypedMethods.{TypedMethods}
 
 -- the first of these methods, and of one more behind them
@@ -64,29 +63,29 @@ module _ (tables : TableColumns) (u : DataProgram) (methods : List Method) (own 
       find_push (λ (x : Method). bytes_eq (spelled_name x.name) name) methods own
       ∙ ap (λ (b : Bool). option_or (method_named methods name) (cond b (Some own) None)) e ∙ or_none (method_named methods name) in
       record {
-        there = h.there ∙ sym (ap is_some same);
+        place = h.place ∙ sym (ap place_of_name same);
         body = h.body ∙ sym (ap (body_of_method tables u) same);
       }
 
-  first_of : (x : Option Method) (m : Option SystemMethod) (more : SystemMethod) → is_some m ≡ is_some x → system_tree m ≡ body_of_method tables u x
-      → system_tree (Some more) ≡ body_of_method tables u (Some own)
-      → (is_some (option_or m (Some more)) ≡ is_some (option_or x (Some own))) × (system_tree (option_or m (Some more)) ≡ body_of_method tables u (option_or x (Some own)))
-  first_of None None more e f g = (refl, g)
-  first_of (Some x) (Some m) more e f g = (refl, f)
+  first_of : (x : Option Method) (m : Option SystemMethod) (more : SystemMethod) → kept_place m ≡ place_of_name x → system_tree m ≡ body_of_method tables u x
+      → IsSystemOf tables u own more
+      → (kept_place (option_or m (Some more)) ≡ place_of_name (option_or x (Some own))) × (system_tree (option_or m (Some more)) ≡ body_of_method tables u (option_or x (Some own)))
+  first_of None None more e f g = (ap (λ p. Some p) g.0, g.1)
+  first_of (Some x) (Some m) more e f g = (e, f)
   first_of None (Some m) more e f g = cc
   first_of (Some x) None more e f g = cc
 
   -- a method of this name: of two the first counts
   pub this_system : (name : List ℕ) (m next : Option SystemMethod) (more : SystemMethod) → bytes_eq (spelled_name own.name) name ≡ true → IsSystem tables u methods name m
-      → system_tree (Some more) ≡ body_of_method tables u (Some own) → next ≡ option_or m (Some more) → IsSystem tables u (methods ++ own ∷ []) name next
+      → IsSystemOf tables u own more → next ≡ option_or m (Some more) → IsSystem tables u (methods ++ own ∷ []) name next
   this_system name m next more e h g n =
       let same : method_named (methods ++ own ∷ []) name ≡ option_or (method_named methods name) (Some own) =
       find_push (λ (x : Method). bytes_eq (spelled_name x.name) name) methods own
       ∙ ap (λ (b : Bool). option_or (method_named methods name) (cond b (Some own) None)) e in
-      let first = first_of (method_named methods name) m more h.there h.body g in
+      let first = first_of (method_named methods name) m more h.place h.body g in
       subst (λ (o : Option SystemMethod). IsSystem tables u (methods ++ own ∷ []) name o) (sym n)
       (record {
-        there = first.0 ∙ sym (ap is_some same);
+        place = first.0 ∙ sym (ap place_of_name same);
         body = first.1 ∙ sym (ap (body_of_method tables u) same);
       })
 
@@ -129,7 +128,7 @@ module _ (tables : TableColumns) (u : DataProgram) (methods : List Method) (own 
 
   -- one more `init`
   pub init_added : (t : TypedMethods) (next : Option SystemMethod) (m : SystemMethod) → AreMethodsOf tables u methods t → is_system_name (spelled_name own.name) ≡ true
-      → bytes_eq (spelled_name own.name) (codes "init") ≡ true → system_tree (Some m) ≡ body_of_method tables u (Some own) → next ≡ option_or t.init (Some m)
+      → bytes_eq (spelled_name own.name) (codes "init") ≡ true → IsSystemOf tables u own m → next ≡ option_or t.init (Some m)
       → AreMethodsOf tables u (methods ++ own ∷ []) (record { methods = t.methods; init = next; run = t.run; term = t.term })
   init_added t next m h s e g n = record {
     callable = callable_kept t.methods h.callable s;
@@ -140,7 +139,7 @@ module _ (tables : TableColumns) (u : DataProgram) (methods : List Method) (own 
 
   -- one more `run`
   pub run_added : (t : TypedMethods) (next : Option SystemMethod) (m : SystemMethod) → AreMethodsOf tables u methods t → is_system_name (spelled_name own.name) ≡ true
-      → bytes_eq (spelled_name own.name) (codes "run") ≡ true → system_tree (Some m) ≡ body_of_method tables u (Some own) → next ≡ option_or t.run (Some m)
+      → bytes_eq (spelled_name own.name) (codes "run") ≡ true → IsSystemOf tables u own m → next ≡ option_or t.run (Some m)
       → AreMethodsOf tables u (methods ++ own ∷ []) (record { methods = t.methods; init = t.init; run = next; term = t.term })
   run_added t next m h s e g n = record {
     callable = callable_kept t.methods h.callable s;
@@ -151,7 +150,7 @@ module _ (tables : TableColumns) (u : DataProgram) (methods : List Method) (own 
 
   -- one more `term`: a system method that is neither of the others
   pub term_added : (t : TypedMethods) (next : Option SystemMethod) (m : SystemMethod) → AreMethodsOf tables u methods t → is_system_name (spelled_name own.name) ≡ true
-      → bytes_eq (spelled_name own.name) (codes "init") ≡ false → bytes_eq (spelled_name own.name) (codes "run") ≡ false → system_tree (Some m) ≡ body_of_method tables u (Some own)
+      → bytes_eq (spelled_name own.name) (codes "init") ≡ false → bytes_eq (spelled_name own.name) (codes "run") ≡ false → IsSystemOf tables u own m
       → next ≡ option_or t.term (Some m) → AreMethodsOf tables u (methods ++ own ∷ []) (record { methods = t.methods; init = t.init; run = t.run; term = next })
   term_added t next m h s e f g n =
       let third = last_of_three (bytes_eq (spelled_name own.name) (codes "init")) (bytes_eq (spelled_name own.name) (codes "run")) (bytes_eq (spelled_name own.name) (codes "term")) s e f in

@@ -1,5 +1,5 @@
 -- The tables of a program, from those of its parts.
-use Rattle.std.proofs.Common.{◌≡◌, ℕ, List, ◌++◌, map, length, Result, Ok, Err, refl, sym, ap, ◌∙◌, subst}
+use Rattle.std.proofs.Common.{◌≡◌, ℕ, List, ◌++◌, map, Result, ◌∙◌, subst}
 use Rattle.std.specs.Prelude.{IfOk}
 use Rattle.std.specs.HashMap.{HashMap}
 use Rattle.ds2_base.specs.declared.stop.OutOfMemory.{OutOfMemory}

@@ -6,3 +6,4 @@ pub mod TypedMethodLists
 pub mod RetainedNames
 pub mod TypedOutputs
 pub mod ProgramParts
+pub mod TypedPrograms

@@ -1,5 +1,5 @@
 -- The outputs that a program makes, by their names.
-use Rattle.std.specs.Prelude.{◌≡◌, ℕ, ◌+◌, nat_eq, bytes_eq, codes, if◌then◌else◌, not, List, [], ◌∷◌, filter, map, position, Option, Some, None}
+use Rattle.std.specs.Prelude.{◌≡◌, ℕ, ◌+◌, nat_eq, bytes_eq, codes, if◌then◌else◌, not, List, filter, map, position, Option, Some, None}
 use Rattle.std.specs.Cmp.Lexicographic.{pointwise}
 use Rattle.std.specs.HashMap.{HashMap, get}
 use Rattle.ds2_tree.specs.declared.units.OutputTable.{OutputTable}

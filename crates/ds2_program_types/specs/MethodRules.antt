@@ -1,7 +1,7 @@
 -- The rules of types that the methods and columns of a program break, one by one.
-use Rattle.std.specs.Prelude.{◌≡◌, ℕ, List, [], ◌∷◌, Option, Some, None, Result, Ok, Err}
+use Rattle.std.specs.Prelude.{ℕ, List, [], Option, Some, None, Result, Ok, Err}
 use Rattle.ds2_base.specs.declared.place.Refusal.{Refusal}
-use Rattle.ds2_tree.specs.Globals.{Method, GlobalItem, Defined}
+use Rattle.ds2_tree.specs.Globals.{GlobalItem, Defined}
 use Rattle.ds2_tree.specs.Units.{DataProgram}
 use Rattle.ds2_tree.specs.declared.readings.Input as source_input
 use Rattle.ds2_meaning.specs.IsTyped.{type_in}

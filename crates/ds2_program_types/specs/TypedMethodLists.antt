@@ -1,5 +1,7 @@
 -- The methods of a program, as the code holds them while they are typed.
-use Rattle.std.specs.Prelude.{◌≡◌, ℕ, bytes_eq, codes, List, map, is_some, Option, Some, None}
+use Rattle.std.specs.Prelude.{◌≡◌, ℕ, codes, List, map, Option, Some}
+use Rattle.std.specs.Option.{option_map}
+use Rattle.ds2_base.specs.declared.place.Place.{Place}
 use Rattle.ds2_tree.specs.Globals.{Method}
 use Rattle.ds2_tree.specs.Units.{DataProgram}
 use Rattle.ds2_meaning.specs.View.{typed_method, system_tree}
@@ -10,9 +12,21 @@ use Rattle.ds2_elaboration.specs.ExpressionTypes.{callable_methods}
 use Rattle.ds2_elaboration.specs.ProgramTypes.{method_tree_of, body_of_method}
 use Rattle.ds2_program_types.specs.declared.methods.TypedMethods.{TypedMethods}
 
+-- the place that a system method keeps, where there is one
+abbrev pub kept_place : Option SystemMethod → Option Place
+kept_place m = option_map (λ (s : SystemMethod). s.place) m
+
+-- the place of the name of a method, where there is one
+abbrev pub place_of_name : Option Method → Option Place
+place_of_name m = option_map (λ (own : Method). own.name.place) m
+
+-- a system method is this one, typed: it keeps the place of its name, and its statements are typed
+abbrev pub IsSystemOf : TableColumns → DataProgram → Method → SystemMethod → Type 0
+IsSystemOf tables u own m = (m.place ≡ own.name.place) × (system_tree (Some m) ≡ body_of_method tables u (Some own))
+
 -- a system method of these methods, or none where there is none of this name
 pub record IsSystem (tables : TableColumns) (u : DataProgram) (methods : List Method) (name : List ℕ) (m : Option SystemMethod) : Type 0 where
-  pub there : is_some m ≡ is_some (method_named methods name)
+  pub place : kept_place m ≡ place_of_name (method_named methods name)
   pub body : system_tree m ≡ body_of_method tables u (method_named methods name)
 
 -- these methods, typed

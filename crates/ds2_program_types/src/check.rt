@@ -1,11 +1,10 @@
 //! What a data program becomes: a typed program, or the refusal of its types.
 ghost use Rattle.std.specs.Prelude.{◌≡◌, [], IfOk, map};
-ghost use Rattle.ds2_elaboration.specs.ProgramTypes.{broken_type_rules, typed_program};
+ghost use Rattle.ds2_elaboration.specs.ProgramTypes.{broken_type_rules};
 ghost use Rattle.ds2_elaboration.specs.SourceTypes.{program_variables};
-ghost use Rattle.ds2_meaning.specs.ProgramTree.{OverTables};
-ghost use Rattle.ds2_meaning.specs.View.{typed_data_program};
 ghost use Rattle.ds2_names.specs.SourceUnit.{columns_stored, names_of_source, source_instances, source_methods};
 ghost use Rattle.ds2_program_types.specs.TypedMethodLists.{AreMethodsOf};
+ghost use Rattle.ds2_program_types.specs.TypedPrograms.{IsTypedData};
 ghost use Rattle.ds2_scope.specs.ProgramNames.{NamesAre};
 ghost use Rattle.ds2_tree.specs.UnitViews.{data_tree, global_tree};
 ghost use Rattle.ds2_types.specs.Judgements.{IsOutcome};
@@ -55,7 +54,7 @@ fn typed_data(
     names: &ProgramNames,
 ) -> Result<CheckOutcome, OutOfMemory>
     requires { NamesAre names.now (names_of_source (columns_stored tables.now) (data_tree program.now)) }
-    ensures { IfOk result (IsOutcome (λ d. typed_data_program d ≡ OverTables (typed_program (columns_stored tables.now) made.now (data_tree program.now)))
+    ensures { IfOk result (IsOutcome (IsTypedData (columns_stored tables.now) made.now (data_tree program.now))
         (broken_type_rules (columns_stored tables.now) (data_tree program.now))) }
 {
     let declared = program_variables(alloc, program.globals.as_slice())?;
@@ -80,7 +79,7 @@ pub fn check(
     program: &DataProgram,
 ) -> Result<CheckOutcome, OutOfMemory>
     requires { source_instances (map global_tree program.now.globals) ≡ [] }
-    ensures { IfOk result (IsOutcome (λ d. typed_data_program d ≡ OverTables (typed_program (columns_stored tables.now) made.now (data_tree program.now)))
+    ensures { IfOk result (IsOutcome (IsTypedData (columns_stored tables.now) made.now (data_tree program.now))
         (broken_type_rules (columns_stored tables.now) (data_tree program.now))) }
 {
     let names = names_of_program(alloc, tables, program)?;

@@ -1,9 +1,9 @@
 //! The methods of a program, typed.
 ghost use Rattle.std.specs.Prelude.{◌≡◌, ◌++◌, ◌∷◌, [], true, false, List as Items, Some, IfOk, map};
 ghost use Rattle.std.specs.Option.{option_or};
-ghost use Rattle.ds2_elaboration.specs.ProgramTypes.{method_tree_of, body_of_method, method_refusals};
+ghost use Rattle.ds2_elaboration.specs.ProgramTypes.{method_tree_of, method_refusals};
 ghost use Rattle.ds2_elaboration.specs.Typings.{TypeRefusals};
-ghost use Rattle.ds2_meaning.specs.View.{typed_method, system_tree};
+ghost use Rattle.ds2_meaning.specs.View.{typed_method};
 ghost use Rattle.ds2_names.specs.NameRules.{from_each};
 ghost use Rattle.ds2_names.specs.SourceUnit.{TableColumns, is_system_name, source_methods, spelled_name};
 ghost use Rattle.ds2_tree.specs.Globals.{Method};
@@ -11,7 +11,7 @@ ghost use Rattle.ds2_tree.specs.UnitViews.{method_tree, global_tree};
 ghost use Rattle.ds2_tree.specs.Units.{DataProgram};
 ghost use Rattle.ds2_types.specs.Judgements.{first_type_refusal, IsOutcome};
 ghost use Rattle.ds2_program_types.specs.MethodRules.{part_rules, under_rule};
-ghost use Rattle.ds2_program_types.specs.TypedMethodLists.{AreMethodsOf};
+ghost use Rattle.ds2_program_types.specs.TypedMethodLists.{AreMethodsOf, IsSystemOf};
 ghost use Rattle.ds2_program_types.specs.UnitScopes.{AreUnitTables};
 
 use crate::bodies::{body, return_rule};
@@ -90,7 +90,7 @@ pub fn system_method(
     m: &SourceMethod,
 ) -> Result<Result<SystemMethod, Refusal<TypeKind>>, OutOfMemory>
     ensures { (tables : TableColumns) (u : DataProgram) → AreUnitTables tables u unit.now
-        → IfOk result (IsOutcome (λ s. system_tree (Some s) ≡ body_of_method tables u (Some (method_tree m.now))) (method_refusals tables u (method_tree m.now))) }
+        → IfOk result (IsOutcome (IsSystemOf tables u (method_tree m.now)) (method_refusals tables u (method_tree m.now))) }
 {
     let outcome = body(alloc, unit, m)?;
     match under_rule(return_rule(m), outcome) {
@@ -154,7 +154,7 @@ fn first_system(so_far: Option<SystemMethod>, m: SystemMethod) -> Option<SystemM
 /// Methods with one more system method, of this name; of two of one name the first counts.
 fn with_system(so_far: TypedMethods, name: &[u8], m: SystemMethod) -> TypedMethods
     ensures { (tables : TableColumns) (u : DataProgram) (methods : Items Method) (own : Method) → AreMethodsOf tables u methods so_far → is_system_name (spelled_name own.name) ≡ true
-        → name.now ≡ spelled_name own.name → system_tree (Some m) ≡ body_of_method tables u (Some own) → AreMethodsOf tables u (methods ++ own ∷ []) result }
+        → name.now ≡ spelled_name own.name → IsSystemOf tables u own m → AreMethodsOf tables u (methods ++ own ∷ []) result }
 {
     let TypedMethods {
         methods,
@@ -216,7 +216,7 @@ fn further_system(
     m: Result<SystemMethod, Refusal<TypeKind>>,
 ) -> MethodsOutcome
     ensures { (tables : TableColumns) (u : DataProgram) (methods : Items Method) (own : Method) (xs ys : TypeRefusals) → IsOutcome (AreMethodsOf tables u methods) xs so_far
-        → is_system_name (spelled_name own.name) ≡ true → name.now ≡ spelled_name own.name → IsOutcome (λ s. system_tree (Some s) ≡ body_of_method tables u (Some own)) ys m
+        → is_system_name (spelled_name own.name) ≡ true → name.now ≡ spelled_name own.name → IsOutcome (IsSystemOf tables u own) ys m
         → IsOutcome (AreMethodsOf tables u (methods ++ own ∷ [])) (xs ++ ys) result }
 {
     match of_both(so_far, m) {

@@ -1,11 +1,12 @@
 //! A typed program, out of its parts.
 ghost use Rattle.std.specs.Prelude.{◌≡◌, [], None as Nothing, IfOk, map};
-ghost use Rattle.ds2_elaboration.specs.ProgramTypes.{made_output, made_outputs, typed_program};
+ghost use Rattle.ds2_elaboration.specs.ProgramTypes.{made_output, made_outputs};
 ghost use Rattle.ds2_meaning.specs.ProgramTree.{OverTables};
 ghost use Rattle.ds2_meaning.specs.View.{typed_data_program, unit_tree};
 ghost use Rattle.ds2_names.specs.SourceUnit.{columns_stored, names_of_source, source_methods, vector_names};
 ghost use Rattle.ds2_program_types.specs.ProgramParts.{ArePartsOf, IsMadeOf};
 ghost use Rattle.ds2_program_types.specs.TypedMethodLists.{AreMethodsOf};
+ghost use Rattle.ds2_program_types.specs.TypedPrograms.{IsTypedData};
 ghost use Rattle.ds2_tree.specs.UnitViews.{data_tree};
 
 use crate::methods::TypedMethods;
@@ -78,7 +79,8 @@ fn program_of(alloc: Global, parts: ProgramParts, methods: TypedMethods) -> Prog
 
 /// A data program that reads from no thread program.
 fn over_tables(program: Program) -> TypedData
-    ensures { typed_data_program result ≡ OverTables (unit_tree Nothing [] program) }
+    ensures tree { typed_data_program result ≡ OverTables (unit_tree Nothing [] program) }
+    ensures program { result.program ≡ program }
 {
     TypedData {
         program,
@@ -144,7 +146,7 @@ pub fn typed_unit(
     requires names { names.now ≡ vector_names (names_of_source (columns_stored tables.now) (data_tree program.now)) }
     requires columns { columns.now ≡ (names_of_source (columns_stored tables.now) (data_tree program.now)).columns }
     requires methods { AreMethodsOf (columns_stored tables.now) (data_tree program.now) (source_methods (data_tree program.now).globals) methods }
-    ensures { IfOk result (λ d. typed_data_program d ≡ OverTables (typed_program (columns_stored tables.now) made.now (data_tree program.now))) }
+    ensures { IfOk result (IsTypedData (columns_stored tables.now) made.now (data_tree program.now)) }
 {
     let parts = program_parts(alloc, tables, made, program, names, columns)?;
     Ok(over_tables(program_of(alloc, parts, methods)))

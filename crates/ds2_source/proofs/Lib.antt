@@ -1,3 +1,4 @@
 pub mod TextLemmas
 pub mod BuiltLemmas
 pub mod FirstMentions
+pub mod StoreTables

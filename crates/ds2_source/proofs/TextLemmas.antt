@@ -1,5 +1,5 @@
 -- The tree that was read of a text.
-use Rattle.std.proofs.Common.{◌≡◌, ◌<◌, ◌+◌, ◌^◌, inl, inr, subst, List, length, Ok}
+use Rattle.std.proofs.Common.{◌<◌, ◌+◌, ◌^◌, inl, inr, subst, List, length, Ok}
 use Rattle.ds2_base.specs.Bytes.{Bytes}
 use Rattle.ds2_token.specs.Standing.{StandsFor}
 use Rattle.ds2_token.specs.declared.token.Token.{Token}

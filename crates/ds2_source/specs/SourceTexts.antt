@@ -30,7 +30,7 @@ GivesTree text (Ok source) = IsSourceAnswer text (Ok (source_tree source))
 GivesTree text (Err (Refused refusal)) = (first : text_refusal.SourceRefusal) × IsSourceAnswer text (Err first) × (refusal ≡ refusal_of_text first)
 GivesTree text (Err OutOfMemory) = Unit {0}
 
--- a source as a text has it: it is of the grammar, and its tokens stand for the text
+-- a source as some text has it: it is of the grammar, and its tokens stand for the text. Which text `read_source` has read, `GivesTree` says
 pub record StandsInText (parts : List SourcePart) : Type 0 where
   pub text : Bytes
   pub short : length text + 1 < 2 ^ 32

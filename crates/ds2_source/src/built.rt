@@ -1,8 +1,10 @@
 //! Which sources are of a form that is built so far.
 ghost use Rattle.std.specs.Prelude.{◌≡◌, ◌&&◌, is_none, map, true};
+ghost use Rattle.std.specs.Bool.{OnTrue};
 ghost use Rattle.std.specs.Option.{option_map_or};
 ghost use Rattle.std.specs.List.{list_all, list_any};
 ghost use Rattle.ds2_tree.specs.UnitViews.{global_tree, part_tree, source_tree};
+ghost use Rattle.ds2_elaboration.specs.Elaboration.{IsDataSource};
 ghost use Rattle.ds2_source.specs.BuiltSources.{has_no_flag, is_built_reading, is_built_global, is_built_part, is_data_part, has_one_program_at_most, is_built_source};
 
 use ds2_tree::{By, Declaration, GlobalItem, Input, Reading, Source, SourcePart};
@@ -144,10 +146,19 @@ fn has_one_program_at_most(parts: &[SourcePart]) -> bool
     true
 }
 
-/// Whether a source is of a form that is built so far. It is not exactly where it has a package, a thread program, a declaration of
-/// either, of a hash object or of an iterator, `by`, `merge`, `in=`, or more than one data program.
-pub fn is_built_source(source: &Source) -> bool
-    ensures { result ≡ is_built_source (source_tree source.now) }
+// Whether a source of these parts is built.
+fn is_built(parts: &[SourcePart]) -> bool
+    ensures { result ≡ is_built_source (map part_tree parts.now) }
 {
-    are_built_parts(source.parts.as_slice()) && has_one_program_at_most(source.parts.as_slice())
+    are_built_parts(parts) && has_one_program_at_most(parts)
+}
+
+/// Whether a source is of a form that is built so far. It is not exactly where it has a package, a thread program, a declaration of
+/// either, of a hash object or of an iterator, `by`, `merge`, `in=`, or more than one data program. A source that is built has data
+/// programs without instances alone.
+pub fn is_built_source(source: &Source) -> bool
+    ensures built { result ≡ is_built_source (source_tree source.now) }
+    ensures data { OnTrue result (IsDataSource (source_tree source.now)) }
+{
+    is_built(source.parts.as_slice())
 }

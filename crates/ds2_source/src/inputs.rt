@@ -1,35 +1,35 @@
 //! The tables that must come from the store.
-ghost use Rattle.std.specs.Prelude.{◌≡◌, IfOk, IsTrue};
-ghost use Rattle.ds2_tree.specs.UnitViews.{source_tree};
+ghost use Rattle.std.specs.Prelude.{◌≡◌, IfOk, map};
+ghost use Rattle.ds2_tree.specs.UnitViews.{part_tree, source_tree};
+ghost use Rattle.ds2_elaboration.specs.Elaboration.{IsDataSource};
 ghost use Rattle.ds2_source.specs.Answers.{AnswersWith};
-ghost use Rattle.ds2_source.specs.BuiltSources.{is_built_source};
 ghost use Rattle.ds2_source.specs.InputTables.{source_inputs, names_or_refusal};
 
-use crate::mentions::{first_mentions, mentioned_tables};
-use crate::programs::first_program;
+use crate::mentions::add_part;
 use crate::{SourceKind, SourceRefusal};
 use ds2_base::{List, Name, OutOfMemory, Place, Stop};
 use ds2_declared_types::names::names_alone;
 use ds2_meaning::ScopeKind;
 use ds2_names::PlacedName;
-use ds2_tree::Source;
+use ds2_scope::NameSet;
+use ds2_tree::{Source, SourcePart};
 use std::alloc::Global;
+use std::collections::HashSet;
 
 /// How many tables of the store a source may mention.
 pub const MOST_TABLES: usize = 16;
 
-// The tables that a source mentions, each at its first mention.
-fn source_inputs(alloc: Global, source: &Source) -> Result<List<PlacedName>, OutOfMemory>
-    requires { IsTrue (is_built_source (source_tree source.now)) }
-    ensures { IfOk result (λ tables. tables ≡ source_inputs (source_tree source.now)) }
+// The tables of the store that the parts of a source mention, each at its first mention.
+fn source_inputs(alloc: Global, parts: &[SourcePart]) -> Result<List<PlacedName>, OutOfMemory>
+    requires { IsDataSource (map part_tree parts.now) }
+    ensures { IfOk result (λ tables. tables ≡ source_inputs (map part_tree parts.now)) }
 {
-    match first_program(source.parts.as_slice()) {
-        None => Ok(List::new(alloc)),
-        Some(program) => {
-            let tables = mentioned_tables(alloc, program.globals.as_slice())?;
-            first_mentions(alloc, tables.as_slice())
-        }
+    let mut known: NameSet = HashSet::new(alloc);
+    let mut first: List<PlacedName> = List::new(alloc);
+    'parts: for part in parts {
+        add_part(alloc, &mut known, &mut first, part)?;
     }
+    Ok(first)
 }
 
 // The refusal of a table too many.
@@ -52,12 +52,14 @@ fn names_or_refusal(alloc: Global, tables: &[PlacedName]) -> Result<List<Name>, 
     }
 }
 
-/// The tables that must come from the store for a source that is built, in the order of their first mention. TooManyNames comes exactly
-/// where there is a 17th, at its first mention.
+/// The tables that must come from the store for a source of data programs without instances, in the order of their first mention: those
+/// that no earlier program makes. TooManyNames comes exactly where there is a 17th, at its first mention.
 pub fn input_names(alloc: Global, source: &Source) -> Result<List<Name>, Stop<SourceRefusal>>
-    requires { IsTrue (is_built_source (source_tree source.now)) }
+    requires { IsDataSource (source_tree source.now) }
     ensures { AnswersWith (names_or_refusal (source_inputs (source_tree source.now))) result }
 {
-    let tables = source_inputs(alloc, source)?;
-    names_or_refusal(alloc, tables.as_slice())
+    let parts = source.parts.as_slice();
+    let tables = source_inputs(alloc, parts)?;
+    let all = tables.as_slice();
+    names_or_refusal(alloc, all)
 }

@@ -6,7 +6,9 @@
 //!
 //! ```text
 //! let source = read_source(alloc, &text)?;
-//! let tables = input_names(alloc, &source)?;
+//! if is_built_source(&source) {
+//!     let tables = input_names(alloc, &source)?;
+//! }
 //! ```
 #![tactic(auto)]
 

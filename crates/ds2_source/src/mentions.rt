@@ -1,19 +1,22 @@
-//! The tables that a data program mentions.
+//! The tables that the data programs of a source mention.
 ghost use Rattle.std.specs.Prelude.{◌≡◌, ◌∷◌, ◌++◌, ◌||◌, [], ℕ, List as Items, IfOk, OnOk, bytes_eq, if◌then◌else◌, map, nat_eq};
 ghost use Rattle.std.specs.Cmp.Lexicographic.{pointwise};
 ghost use Rattle.std.specs.HashSet.{contains};
-ghost use Rattle.ds2_tree.specs.UnitViews.{global_tree};
+ghost use Rattle.ds2_tree.specs.UnitViews.{data_tree, global_tree, part_tree};
+ghost use Rattle.ds2_tree.specs.Units.{AData};
 ghost use Rattle.ds2_tree.specs.declared.readings.Input.{Input as InputTree};
+ghost use Rattle.ds2_meaning.specs.ProgramTree.{is_listed};
 ghost use Rattle.ds2_names.specs.NameRules.{from_each};
-ghost use Rattle.ds2_names.specs.SourceLimits.{first_mentions, tables_in_item};
-ghost use Rattle.ds2_names.specs.SourceUnit.{placed_name, source_instances};
+ghost use Rattle.ds2_names.specs.SourceLimits.{tables_in_item};
+ghost use Rattle.ds2_names.specs.SourceUnit.{names_alone, placed_name, source_instances};
+ghost use Rattle.ds2_elaboration.specs.Elaboration.{IsDataPart};
+ghost use Rattle.ds2_source.specs.InputTables.{first_not_known, tables_in_part, names_made_by_outputs, known_behind};
 
 use ds2_base::{List, OutOfMemory};
 use ds2_names::PlacedName;
-use ds2_scope::{NameSet, add_name, placed_name, tables_of};
-use ds2_tree::{Declaration, GlobalItem, Input};
+use ds2_scope::{NameSet, add_name, placed_name, spelled_name, tables_of};
+use ds2_tree::{DataProgram, Declaration, GlobalItem, Input, OutputTable, SourcePart};
 use std::alloc::Global;
-use std::collections::HashSet;
 
 // Adds the tables of inputs.
 fn push_tables(
@@ -51,11 +54,8 @@ fn push_mentioned(
     }
 }
 
-/// The tables that a unit mentions that declares no instances, in order.
-pub(crate) fn mentioned_tables(
-    alloc: Global,
-    globals: &[GlobalItem],
-) -> Result<List<PlacedName>, OutOfMemory>
+// The tables that a unit mentions that declares no instances, in order.
+fn mentioned_tables(alloc: Global, globals: &[GlobalItem]) -> Result<List<PlacedName>, OutOfMemory>
     requires { source_instances (map global_tree globals.now) ≡ [] }
     ensures { IfOk result (λ found. found ≡ from_each tables_in_item (map global_tree globals.now)) }
 {
@@ -68,17 +68,17 @@ pub(crate) fn mentioned_tables(
     Ok(found)
 }
 
-// Adds a table to those that were seen, and to a list where it was not seen before.
+// Adds a table to those that are known, and to a list where it was not known before.
 fn add_first(
     alloc: Global,
-    seen: &mut NameSet,
+    known: &mut NameSet,
     first: &mut List<PlacedName>,
     table: &PlacedName,
 ) -> Result<(), OutOfMemory>
-    ensures seen { OnOk result ((name : Items ℕ) → contains (pointwise nat_eq) seen.new name ≡ (bytes_eq table.now.name name || contains (pointwise nat_eq) seen.old name)) }
-    ensures first { OnOk result (first.new ≡ first.old ++ (if contains (pointwise nat_eq) seen.old table.now.name then [] else table.now ∷ [])) }
+    ensures known { OnOk result ((name : Items ℕ) → contains (pointwise nat_eq) known.new name ≡ (bytes_eq table.now.name name || contains (pointwise nat_eq) known.old name)) }
+    ensures first { OnOk result (first.new ≡ first.old ++ (if contains (pointwise nat_eq) known.old table.now.name then [] else table.now ∷ [])) }
 {
-    if add_name(alloc, seen, table.name.as_slice())? {
+    if add_name(alloc, known, table.name.as_slice())? {
         let name = List::from_slice(alloc, table.name.as_slice())?;
         first.push(PlacedName {
             name,
@@ -89,17 +89,90 @@ fn add_first(
     }
 }
 
-/// Tables, each at its first mention.
-pub(crate) fn first_mentions(
+// Adds tables to those that are known, and to a list those that were not, each at its first mention.
+fn add_first_mentions(
     alloc: Global,
+    known: &mut NameSet,
+    first: &mut List<PlacedName>,
     tables: &[PlacedName],
-) -> Result<List<PlacedName>, OutOfMemory>
-    ensures { IfOk result (λ first. first ≡ first_mentions [] tables.now) }
+) -> Result<(), OutOfMemory>
+    ensures known { OnOk result ((name : Items ℕ) → contains (pointwise nat_eq) known.new name ≡ (is_listed (names_alone tables.now) name || contains (pointwise nat_eq) known.old name)) }
+    ensures first { OnOk result (first.new ≡ first.old ++ first_not_known (contains (pointwise nat_eq) known.old) tables.now) }
 {
-    let mut seen: NameSet = HashSet::new(alloc);
-    let mut first: List<PlacedName> = List::new(alloc);
     'tables: for table in tables {
-        add_first(alloc, &mut seen, &mut first, table)?;
+        add_first(alloc, known, first, table)?;
     }
-    Ok(first)
+    Ok(())
+}
+
+// Adds the table of an output to those that are known; `_null_` is none.
+fn add_output(alloc: Global, known: &mut NameSet, o: &OutputTable) -> Result<(), OutOfMemory>
+    ensures { OnOk result ((name : Items ℕ) → contains (pointwise nat_eq) known.new name ≡ (is_listed (names_made_by_outputs (o.now ∷ [])) name || contains (pointwise nat_eq) known.old name)) }
+{
+    let name = spelled_name(alloc, &o.table)?;
+    let spelled = name.as_slice();
+    let is_null = spelled == b"_null_".as_slice();
+    if is_null {
+        return Ok(());
+    }
+    add_name(alloc, known, spelled)?;
+    Ok(())
+}
+
+// Adds the tables of outputs to those that are known.
+fn add_outputs(
+    alloc: Global,
+    known: &mut NameSet,
+    outputs: &[OutputTable],
+) -> Result<(), OutOfMemory>
+    ensures { OnOk result ((name : Items ℕ) → contains (pointwise nat_eq) known.new name ≡ (is_listed (names_made_by_outputs outputs.now) name || contains (pointwise nat_eq) known.old name)) }
+{
+    'outputs: for o in outputs {
+        add_output(alloc, known, o)?;
+    }
+    Ok(())
+}
+
+// Adds the tables that a program mentions that declares no instances, and then those that it makes.
+fn add_program(
+    alloc: Global,
+    known: &mut NameSet,
+    first: &mut List<PlacedName>,
+    program: &DataProgram,
+) -> Result<(), OutOfMemory>
+    requires { source_instances (map global_tree program.now.globals) ≡ [] }
+    ensures known { OnOk result ((name : Items ℕ) → contains (pointwise nat_eq) known.new name ≡ known_behind (contains (pointwise nat_eq) known.old) (AData (data_tree program.now)) name) }
+    ensures first { OnOk result (first.new ≡ first.old ++ first_not_known (contains (pointwise nat_eq) known.old) (tables_in_part (AData (data_tree program.now)))) }
+{
+    let globals = program.globals.as_slice();
+    let tables = mentioned_tables(alloc, globals)?;
+    let all = tables.as_slice();
+    add_first_mentions(alloc, known, first, all)?;
+    let outputs = program.outputs.as_slice();
+    add_outputs(alloc, known, outputs)?;
+    Ok(())
+}
+
+/// Adds the tables of a part of a source to those that are known, and those of the store to a list, each at its first mention.
+pub(crate) fn add_part(
+    alloc: Global,
+    known: &mut NameSet,
+    first: &mut List<PlacedName>,
+    part: &SourcePart,
+) -> Result<(), OutOfMemory>
+    requires { IsDataPart (part_tree part.now) }
+    ensures known { OnOk result ((name : Items ℕ) → contains (pointwise nat_eq) known.new name ≡ known_behind (contains (pointwise nat_eq) known.old) (part_tree part.now) name) }
+    ensures first { OnOk result (first.new ≡ first.old ++ first_not_known (contains (pointwise nat_eq) known.old) (tables_in_part (part_tree part.now))) }
+{
+    match part {
+        SourcePart::Data(program) => {
+            add_program(alloc, known, first, program)?;
+            Ok(())
+        }
+        SourcePart::Proc { .. } => Ok(()),
+        SourcePart::Run { .. } => Ok(()),
+        SourcePart::Quit { .. } => Ok(()),
+        SourcePart::Package(_) => Ok(()),
+        SourcePart::Thread(_) => Ok(()),
+    }
 }

@@ -4,7 +4,9 @@
 //! What that is stands in `ds2_elaboration`.
 //!
 //! ```text
-//! let programs = typed_programs(alloc, &source, &schemas)?;
+//! if is_built_source(&source) {
+//!     let programs = typed_programs(alloc, &source, &schemas)?;
+//! }
 //! ```
 #![tactic(auto)]
 

@@ -1,7 +1,4 @@
-use Rattle.std.proofs.Common.{length, map, IsTrue}
-use Rattle.std.specs.List.{list_all}
-use Rattle.ds2_object_programs.specs.ProgramSpelling.{data_program_part, written_data}
-use Rattle.ds2_object.specs.ObjectSpelling.{has_no_name}
+use Rattle.std.proofs.Common.{length}
 use Rattle.ds2_object.proofs.ObjectSteps.{ProgramsLeft}
 use Rattle.ds2_object.proofs.encoding.write_programs.Given as goal
 

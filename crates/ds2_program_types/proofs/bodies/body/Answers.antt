@@ -1,4 +1,4 @@
-use Rattle.std.proofs.Common.{◌≡◌, ap, ◌∙◌, subst, List}
+use Rattle.std.proofs.Common.{◌≡◌, ◌∙◌, subst}
 use Rattle.std.specs.Prelude.{IfOk}
 use Rattle.ds2_elaboration.specs.ProgramTypes.{scope_of_method}
 use Rattle.ds2_elaboration.specs.StatementTypes.{statements_refusals, statements_node}

@@ -1,7 +1,7 @@
 use Rattle.ds2_program_types.proofs.BodyForms.{nothing_to_return, surely_returned, not_returned}
 use Rattle.ds2_tree.specs.UnitViews.{method_tree}
 use Rattle.ds2_elaboration.specs.StatementTypes.{list_surely_returns}
-use Rattle.std.proofs.Common.{◌≡◌, true, false, sym, ap, ◌∙◌, arith}
+use Rattle.std.proofs.Common.{◌≡◌, true, false, arith}
 use Rattle.std.proofs.lemmas.Grind.{common_steps}
 use Rattle.ds2_program_types.proofs.bodies.return_rule.Goals as goal
 

@@ -1,7 +1,6 @@
-use Rattle.std.proofs.Common.{◌≡◌, Ok, Err, ap, ◌∙◌, arith}
+use Rattle.std.proofs.Common.{Ok, Err, ◌∙◌, arith}
 use Rattle.std.proofs.lemmas.Grind.{common_steps}
 use Rattle.ds2_elaboration.specs.ProgramTypes.{broken_type_rules}
-use Rattle.ds2_elaboration.specs.SourceTypes.{program_variables}
 use Rattle.ds2_names.specs.SourceUnit.{columns_stored, source_methods}
 use Rattle.ds2_tree.specs.UnitViews.{data_tree}
 use Rattle.ds2_statement_types.proofs.PartOutcomes.{stands_of}

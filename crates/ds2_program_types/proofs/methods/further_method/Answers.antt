@@ -1,6 +1,6 @@
-use Rattle.std.proofs.Common.{◌≡◌, true, false, sym, ap, ◌∙◌}
+use Rattle.std.proofs.Common.{sym, ap, ◌∙◌}
 use Rattle.ds2_elaboration.specs.ProgramTypes.{method_refusals}
-use Rattle.ds2_names.specs.SourceUnit.{is_system_name, spelled_name}
+use Rattle.ds2_names.specs.SourceUnit.{is_system_name}
 use Rattle.ds2_tree.specs.UnitViews.{method_tree}
 use Rattle.ds2_program_types.proofs.methods.further_method.Goals as goal
 

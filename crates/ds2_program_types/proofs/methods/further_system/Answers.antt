@@ -1,20 +1,17 @@
-use Rattle.std.proofs.Common.{◌≡◌, Some, Ok, Err}
-use Rattle.ds2_elaboration.specs.ProgramTypes.{body_of_method}
-use Rattle.ds2_meaning.specs.View.{system_tree}
-use Rattle.ds2_meaning.specs.declared.methods.SystemMethod.{SystemMethod}
+use Rattle.std.proofs.Common.{Ok, Err}
 use Rattle.ds2_statement_types.proofs.PartOutcomes.{AreBoth, both_stand, stands_of}
-use Rattle.ds2_program_types.specs.TypedMethodLists.{AreMethodsOf}
+use Rattle.ds2_program_types.specs.TypedMethodLists.{AreMethodsOf, IsSystemOf}
 use Rattle.ds2_program_types.proofs.methods.further_system.Goals as goal
 
 pub returns-in-Err : goal.returns-in-Err
 returns-in-Err c = λ tables u methods own xs ys h s n k.
-    stands_of (AreBoth (AreMethodsOf tables u methods) (λ (t : SystemMethod). system_tree (Some t) ≡ body_of_method tables u (Some own))) _ c.of_both.result (Err c.in-Err.refusal)
-    (both_stand (AreMethodsOf tables u methods) (λ (t : SystemMethod). system_tree (Some t) ≡ body_of_method tables u (Some own)) xs ys c.args.so_far c.args.m c.of_both.result h k c.of_both.ensures)
+    stands_of (AreBoth (AreMethodsOf tables u methods) (IsSystemOf tables u own)) _ c.of_both.result (Err c.in-Err.refusal)
+    (both_stand (AreMethodsOf tables u methods) (IsSystemOf tables u own) xs ys c.args.so_far c.args.m c.of_both.result h k c.of_both.ensures)
     c.in-Err.is
 
 pub returns-in-Ok : goal.returns-in-Ok
 returns-in-Ok c = λ tables u methods own xs ys h s n k.
-    let so = stands_of (AreBoth (AreMethodsOf tables u methods) (λ (t : SystemMethod). system_tree (Some t) ≡ body_of_method tables u (Some own))) _ c.of_both.result (Ok c.in-Ok.parts)
-    (both_stand (AreMethodsOf tables u methods) (λ (t : SystemMethod). system_tree (Some t) ≡ body_of_method tables u (Some own)) xs ys c.args.so_far c.args.m c.of_both.result h k c.of_both.ensures)
+    let so = stands_of (AreBoth (AreMethodsOf tables u methods) (IsSystemOf tables u own)) _ c.of_both.result (Ok c.in-Ok.parts)
+    (both_stand (AreMethodsOf tables u methods) (IsSystemOf tables u own) xs ys c.args.so_far c.args.m c.of_both.result h k c.of_both.ensures)
     c.in-Ok.is in
     (so.0, c.with_system.ensures tables u methods own so.1.0 s n so.1.1)

@@ -1,4 +1,4 @@
-use Rattle.std.proofs.Common.{◌≡◌, List, Ok, Err, ap, ◌∙◌}
+use Rattle.std.proofs.Common.{◌≡◌, List, Ok, Err, refl, ap, ◌∙◌}
 use Rattle.ds2_elaboration.specs.ProgramTypes.{method_refusals, return_rule, scope_of_method}
 use Rattle.ds2_elaboration.specs.SourceTypes.{declared_variables}
 use Rattle.ds2_elaboration.specs.StatementTypes.{statements_refusals, statements_node}
@@ -27,4 +27,4 @@ returns-in_ok-locals-in-Ok c = λ tables u t.
     (stands_under (λ (l : List Statement). typed_statements l ≡ statements_node scope m.body) (return_rule m) (statements_refusals scope m.body) c.return_rule.result c.in_ok-outcome.outcome
     c.under_rule.result c.return_rule.ensures (c.in_ok-outcome.ensures tables u t) c.under_rule.ensures)
     c.in-Ok.is in
-    (so.0, same_body tables u m c.in_ok-locals-in-Ok.locals c.in-Ok.body (c.in_ok-locals-in-Ok.ensures ∙ ap declared_variables c.as_slice.ensures) so.1)
+    (so.0, (refl, same_body tables u m c.in_ok-locals-in-Ok.locals c.in-Ok.body (c.in_ok-locals-in-Ok.ensures ∙ ap declared_variables c.as_slice.ensures) so.1))

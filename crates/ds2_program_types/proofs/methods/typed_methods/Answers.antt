@@ -1,5 +1,4 @@
 use Rattle.std.proofs.Common.{take, refl, arith}
-use Rattle.ds2_names.specs.SourceUnit.{source_methods}
 use Rattle.ds2_tree.specs.UnitViews.{global_tree}
 use Rattle.ds2_program_types.proofs.MethodLists.{methods_among, rules_among, one_more_typed, all_typed}
 use Rattle.ds2_program_types.proofs.methods.typed_methods.Goals as goal

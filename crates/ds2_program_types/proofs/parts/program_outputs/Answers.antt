@@ -1,4 +1,4 @@
-use Rattle.std.proofs.Common.{◌≡◌, map, ap, ◌∙◌, subst, List}
+use Rattle.std.proofs.Common.{◌≡◌, map, ◌∙◌, subst, List}
 use Rattle.std.specs.Prelude.{IfOk}
 use Rattle.ds2_elaboration.specs.ProgramTypes.{made_outputs, vector_variables}
 use Rattle.ds2_names.specs.SourceUnit.{PlacedName, columns_stored, names_alone, unit_of_data}

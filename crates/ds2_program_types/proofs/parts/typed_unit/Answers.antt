@@ -1,13 +1,23 @@
-use Rattle.std.proofs.Common.{ap, ◌∙◌}
+use Rattle.std.proofs.Common.{ap, sym, subst, ◌∙◌}
 use Rattle.ds2_meaning.specs.ProgramTree.{UnitTree, OverTables}
-use Rattle.ds2_names.specs.SourceUnit.{columns_stored}
+use Rattle.ds2_meaning.specs.declared.units.Program.{Program}
+use Rattle.ds2_names.specs.SourceUnit.{columns_stored, source_methods}
 use Rattle.ds2_tree.specs.UnitViews.{data_tree}
-use Rattle.ds2_program_types.proofs.PartForms.{same_program}
+use Rattle.ds2_program_types.specs.TypedPrograms.{HavePlaces}
+use Rattle.ds2_program_types.proofs.PartForms.{same_program, same_places}
 use Rattle.ds2_program_types.proofs.parts.typed_unit.Goals as goal
 
 pub returns : goal.returns
 returns c =
-    c.over_tables.ensures
-    ∙ ap (λ (t : UnitTree). OverTables t)
-    (same_program (columns_stored c.args.tables.now) c.args.made.now (data_tree c.args.program.now) c.program_of.result c.in_ok-parts.parts c.args.methods c.program_of.ensures c.in_ok-parts.ensures
-    c.requires.methods)
+    let tables = columns_stored c.args.tables.now in
+    let u = data_tree c.args.program.now in
+    let program = c.program_of.result in
+    record {
+      tree =
+          c.over_tables.ensures.tree
+          ∙ ap (λ (t : UnitTree). OverTables t)
+          (same_program tables c.args.made.now u program c.in_ok-parts.parts c.args.methods c.program_of.ensures c.in_ok-parts.ensures c.requires.methods);
+      places =
+          subst (λ (p : Program). HavePlaces (source_methods u.globals) p) (sym c.over_tables.ensures.program)
+          (same_places tables u program c.in_ok-parts.parts c.args.methods c.program_of.ensures c.requires.methods);
+    }

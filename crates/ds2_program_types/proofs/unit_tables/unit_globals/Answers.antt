@@ -1,4 +1,4 @@
-use Rattle.std.proofs.Common.{◌≡◌, List, map, ap, ◌∙◌}
+use Rattle.std.proofs.Common.{List, map, ap, ◌∙◌}
 use Rattle.ds2_elaboration.specs.ProgramTypes.{vector_variables}
 use Rattle.ds2_elaboration.specs.SourceTypes.{unjoined_columns}
 use Rattle.ds2_names.specs.SourceUnit.{columns_stored, names_alone, names_of_source, reading_of_run, source_methods, tables_of_reading}

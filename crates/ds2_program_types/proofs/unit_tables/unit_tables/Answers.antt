@@ -1,4 +1,4 @@
-use Rattle.std.proofs.Common.{◌≡◌, map, ap, ◌∙◌, subst, List, length}
+use Rattle.std.proofs.Common.{map, ap, ◌∙◌, subst, length}
 use Rattle.ds2_elaboration.specs.ExpressionTypes.{callable_methods}
 use Rattle.ds2_names.specs.SourceUnit.{names_alone, source_methods}
 use Rattle.ds2_tree.specs.UnitViews.{global_tree}

@@ -1,4 +1,4 @@
-use Rattle.std.proofs.Common.{◌≡◌, List, map, ap, ◌∙◌}
+use Rattle.std.proofs.Common.{List, map, ap, ◌∙◌}
 use Rattle.ds2_tree.specs.UnitViews.{data_tree, global_tree}
 use Rattle.ds2_tree.specs.declared.globals.GlobalItem.{GlobalItem}
 use Rattle.ds2_elaboration.specs.SourceTypes.{declared_variables}

@@ -1,31 +1,32 @@
-use Rattle.std.proofs.Common.{◌≡◌, IfOk, [], Some, None, ap, subst, ◌∙◌, arith}
+use Rattle.std.proofs.Common.{◌+◌, ◌++◌, List, drop, nat_eq, ap, sym, subst, ◌∙◌, arith}
 use Rattle.std.proofs.lemmas.Grind.{common_steps}
 use Rattle.std.specs.Prelude.{map}
-use Rattle.ds2_tree.specs.UnitViews.{global_tree, data_tree, source_tree}
-use Rattle.ds2_names.specs.NameRules.{from_each}
-use Rattle.ds2_names.specs.SourceLimits.{first_mentions, tables_in_item}
-use Rattle.ds2_names.specs.SourceUnit.{source_instances}
-use Rattle.ds2_source.specs.SourcePrograms.{first_program}
-use Rattle.ds2_source.proofs.BuiltLemmas.{found_declares_none, found_mentions, nothing_found}
+use Rattle.std.specs.Cmp.Lexicographic.{pointwise}
+use Rattle.std.specs.HashSet.{contains}
+use Rattle.ds2_tree.specs.UnitViews.{part_tree}
+use Rattle.ds2_tree.specs.declared.units.SourcePart.{SourcePart}
+use Rattle.ds2_elaboration.specs.Elaboration.{IsDataSource}
+use Rattle.ds2_scope.proofs.SetLemmas.{item_first}
+use Rattle.ds2_source.proofs.StoreTables.{stored_behind, none_known, one_part}
 use Rattle.ds2_source.proofs.inputs.source_inputs.Goals as goal
 
-pub mentioned_tables-requires : goal.mentioned_tables-requires
-mentioned_tables-requires c =
-    let u = data_tree c.in-Some.program.now in
-    let found : Some u ≡ first_program (source_tree c.args.source.now) = grind (arith, common_steps) in
-    ap (λ gs. source_instances (map global_tree gs)) c.as_slice-in-Some.ensures ∙ found_declares_none (source_tree c.args.source.now) c.requires u found
+pub parts-init : goal.parts-init
+parts-init c =
+    let k = none_known (contains (pointwise nat_eq) c.new-known.result) (λ name. grind (arith, common_steps)) (map part_tree c.args.parts.now) in
+    (c.requires, grind (arith, common_steps, k))
 
-pub returns-in-None : goal.returns-in-None
-returns-in-None c =
-    let found : None ≡ first_program (source_tree c.args.source.now) = grind (arith, common_steps) in
-    c.new.ensures ∙ nothing_found (source_tree c.args.source.now) c.requires found
+pub add_part-requires : goal.add_part-requires
+add_part-requires c =
+    let split = item_first c.args.parts.now c.parts.part-index c.part-item.result c.part-item.is (omega arith) in
+    (subst (λ (ps : List SourcePart). IsDataSource (map part_tree ps)) split c.parts.invariant.0).0
 
-pub returns-in_ok-tables-in-Some : goal.returns-in_ok-tables-in-Some
-returns-in_ok-tables-in-Some c =
-    let u = data_tree c.in-Some.program.now in
-    let found : Some u ≡ first_program (source_tree c.args.source.now) = grind (arith, common_steps) in
-    let same =
-    ap (first_mentions [])
-    (c.as_slice-in-Some-2.ensures ∙ c.in_ok-tables-in-Some.ensures ∙ ap (λ gs. from_each tables_in_item (map global_tree gs)) c.as_slice-in-Some.ensures)
-    ∙ found_mentions (source_tree c.args.source.now) c.requires u found in
-    subst (λ z. IfOk c.first_mentions.result (λ tables. tables ≡ z)) same c.first_mentions.ensures
+pub parts-preserved : goal.parts-preserved
+parts-preserved c =
+    let split = item_first c.args.parts.now c.parts.part-index c.part-item.result c.part-item.is (omega arith) in
+    let before = contains (pointwise nat_eq) c.parts.known in (
+      (subst (λ (ps : List SourcePart). IsDataSource (map part_tree ps)) split c.parts.invariant.0).1,
+      one_part before (contains (pointwise nat_eq) c.add_part.new.known) c.parts.first c.add_part.new.first (part_tree c.part-item.result) (map part_tree (drop (c.parts.part-index + 1) c.args.parts.now))
+          c.in_ok-add_part.ensures.known c.in_ok-add_part.ensures.first
+          ∙ ap (λ (ps : List SourcePart). c.parts.first ++ stored_behind before (map part_tree ps)) (sym split)
+          ∙ c.parts.invariant.1,
+    )

@@ -1,0 +1,2 @@
+pub mod LocalCode
+pub mod CodeStage

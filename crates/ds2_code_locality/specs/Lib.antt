@@ -1,0 +1,2 @@
+pub mod CodeIndependence
+pub mod CodeStates

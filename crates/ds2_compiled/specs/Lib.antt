@@ -1,0 +1,3 @@
+-- What a source is compiled to.
+pub mod CompiledSources
+pub mod CodesOfPrograms

@@ -1,0 +1,9 @@
+pub mod Deeds
+pub mod KeptLocations
+pub mod Independence
+pub mod Walk
+pub mod Verdict
+pub mod Soundness
+pub mod LocalityExamples
+pub mod FurtherVerdicts
+pub mod IndependentSums

@@ -1,0 +1,10 @@
+pub mod Bits
+pub mod KeyGroups
+pub mod KeyLoads
+pub mod KeySplits
+pub mod KeyStates
+pub mod KeyWalk
+pub mod LoadMeans
+pub mod NextMerge
+pub mod Opening
+pub mod TableRows

@@ -1,0 +1,14 @@
+use Rattle.std.proofs.Common.{◌≤◌, sym, subst, arith}
+use Rattle.ds2_by_order.specs.CursorState.{Cursor, group_count}
+use Rattle.ds2_merge.specs.KeyPlaces.{loads_given}
+use Rattle.ds2_merge.proofs.Opening.{cursor_of, not_past}
+use Rattle.ds2_merge.proofs.cursor.MergeCursor.group_start.Goals as goal
+
+pub unreachable-requires : goal.unreachable-requires
+unreachable-requires c =
+    let P : Cursor → Type 0 = λ v. c.args.g ≤ group_count v in
+    let few : P (cursor_of c.self.inside.tables c.self.inside.grain (loads_given c.self.inside.place)) = subst P (sym c.self.view_is) c.requires in
+    not_past c.self.inside.groups c.args.g (omega (arith, few, c.self.invariant.1.count)) (sym c.in-None.ensures)
+
+pub returns : goal.returns
+returns c = let start = c.self.invariant.1.each c.args.g _ (sym c.in-Some.ensures) in rw (← c.self.view_is) start.1

@@ -1,0 +1,26 @@
+use Rattle.std.proofs.Common.{ap, arith, length, ◌∙◌}
+use Rattle.ds2_by_order.specs.KeyOrder.{InputKeys}
+use Rattle.ds2_merge.specs.KeyPlaces.{between_keys, loads_given}
+use Rattle.ds2_merge.proofs.Opening.{by_count, can_read, ready_at_start, opened_is}
+use Rattle.ds2_merge.proofs.cursor.MergeCursor.open.Goals as goal
+
+pub group_places-requires-clause-grain : goal.group_places-requires-clause-grain
+group_places-requires-clause-grain c =
+    omega (arith, ap (λ (k : InputKeys). length k.descending) c.in_ok-tables.ensures, by_count c.args.reading.now, c.requires.grain)
+
+pub group_places-requires-clause-tables : goal.group_places-requires-clause-tables
+group_places-requires-clause-tables c =
+    can_read c.args.tables.now c.args.reading.now c.in_ok-tables.tables c.requires.fits c.in_ok-tables.ensures c.have_keys.ensures c.in_ok-count_rows.ensures
+
+pub invariant_of-result : goal.invariant_of-result
+invariant_of-result c = (
+  rw (c.between-place.ensures, c.start.ensures)
+      (ready_at_start c.in_ok-tables.tables
+      (can_read c.args.tables.now c.args.reading.now c.in_ok-tables.tables c.requires.fits c.in_ok-tables.ensures c.have_keys.ensures c.in_ok-count_rows.ensures)),
+  c.in_ok-groups.ensures,
+)
+
+pub returns : goal.returns
+returns c =
+    opened_is c.args.tables.now c.args.reading.now c.args.grain c.in_ok-tables.tables _ c.in_ok-tables.ensures
+    (ap loads_given (c.between-place.ensures ∙ ap between_keys c.start.ensures))

@@ -1,0 +1,2 @@
+pub mod SlotCells
+pub mod WrittenRows

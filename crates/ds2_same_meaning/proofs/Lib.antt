@@ -1,0 +1,3 @@
+pub mod TablesAlike
+pub mod OutputsAlike
+pub mod SamePrograms

@@ -1,0 +1,2 @@
+-- When code means the same as a program.
+pub mod SameMeaning

@@ -1,0 +1,93 @@
+-- When code means the same as a program.
+use Rattle.std.specs.Prelude.{◌≡◌, ℕ, List, [], ◌∷◌, ◌++◌, map, Option, Some, None}
+use Rattle.ds2_value.specs.Row.{Columns}
+use Rattle.ds2_value.specs.Run.{Written}
+use Rattle.ds2_table.specs.Table.{Contents}
+use Rattle.ds2_meaning.specs.IsTyped.{IsTypedUnit, ReadsNoStage, thread_parameters}
+use Rattle.ds2_meaning.specs.ProgramMeaning.{MadeTable, program_answer, tables_made}
+use Rattle.ds2_meaning.specs.ProgramTree.{InstanceTree, UnitTree, ProgramTree, OverTables, OverStage, reader_of}
+use Rattle.ds2_meaning.specs.Reading.{TableRows, inputs_of}
+use Rattle.ds2_meaning.specs.TableLaws.{tables_mentioned}
+use Rattle.ds2_meaning.specs.declared.hashes.DeclaredHash.{DeclaredHash}
+use Rattle.ds2_meaning.specs.declared.hashes.LoadedTable.{LoadedTable}
+use Rattle.ds2_meaning.specs.declared.readings.Input.{Input}
+use Rattle.ds2_meaning.specs.declared.readings.MentionedTable.{MentionedTable}
+use Rattle.ds2_code.specs.declared.parts.OutputPart.{OutputPart}
+use Rattle.ds2_code.specs.declared.parts.ProgramParts.{ProgramParts}
+use Rattle.ds2_code.specs.declared.parts.StagedParts.{StagedParts}
+use Rattle.ds2_code.specs.declared.parts.TableReference.{TableReference}
+use Rattle.ds2_code_answer.specs.CodeAnswer.{code_answer}
+use Rattle.ds2_code_answer.specs.CodeTables.{program_references, columns_named}
+use Rattle.ds2_same_answer.specs.SameAnswer.{staged_code, HaveRowsMentioned, AreLikeAnswers}
+use Rattle.ds2_unit.specs.Outputs.{tables_written}
+use Rattle.ds2_unit_counts.specs.CountsByWay.{CountsByWay}
+
+-- over any tables, with every budget and at every grain, code answers as a program means
+abbrev pub CodeAnswersAs : ProgramTree → StagedParts → Type 0
+CodeAnswersAs p code =
+    (tables : TableRows) (contents : List Contents) (budget grain : ℕ) → HaveRowsMentioned p tables contents
+    → AreLikeAnswers (code_answer code contents budget grain) (program_answer p [] tables budget grain)
+
+-- ---- tables that are read
+
+-- the table that a reference in code means
+abbrev pub table_referred : TableReference → MentionedTable
+table_referred reference = record { name = reference.name; maker = reference.maker }
+
+-- the columns of a table of a reading statement
+abbrev pub columns_read : Input → Columns
+columns_read input = input.columns
+
+-- the columns of the table that a hash object is loaded from, where there is one
+abbrev pub columns_of_load : Option LoadedTable → List Columns
+columns_of_load None = []
+columns_of_load (Some loaded) = loaded.columns ∷ []
+
+-- those of the tables that hash objects are loaded from
+abbrev pub columns_loaded : List DeclaredHash → List Columns
+columns_loaded [] = []
+columns_loaded (h ∷ hashes) = columns_of_load h.loaded ++ columns_loaded hashes
+
+-- those of the tables that the hash objects of instances are loaded from
+abbrev pub columns_loaded_by : List InstanceTree → List Columns
+columns_loaded_by [] = []
+columns_loaded_by (i ∷ instances) = columns_loaded i.objects.hashes ++ columns_loaded_by instances
+
+-- those of the tables that the hash objects of a program and of its instances are loaded from
+abbrev pub columns_at_opening : UnitTree → List Columns
+columns_at_opening p = columns_loaded p.objects.hashes ++ columns_loaded_by p.instances
+
+-- those of the tables that a program mentions, in the same order
+abbrev pub columns_mentioned : ProgramTree → List Columns
+columns_mentioned (OverTables p) = columns_at_opening p ++ map columns_read (inputs_of p.reading)
+columns_mentioned (OverStage p stage) = columns_at_opening p ++ columns_mentioned stage
+
+-- ---- tables that are made
+
+-- tables that outputs of code make, each with the name of its output and whether it writes over a file
+abbrev pub tables_of_outputs : List OutputPart → List Contents → List MadeTable
+tables_of_outputs [] tables = []
+tables_of_outputs (o ∷ outputs) [] = []
+tables_of_outputs (o ∷ outputs) (table ∷ tables) = record { name = o.name; overwrites = o.overwrites; contents = table } ∷ tables_of_outputs outputs tables
+
+-- the tables that code makes of the rows that it has written
+abbrev pub code_tables_made : ProgramParts → List Written → List MadeTable
+code_tables_made code rows = tables_of_outputs code.outputs (tables_written code rows)
+
+-- ---- the same meaning
+
+-- code means the same as a program: it answers as the program means; the way of a call tells how many instructions it executes; it
+-- mentions the same tables with the same columns in the same order; of any rows it makes the same tables; and it has the name of the same
+-- thread program, where it is one
+pub record MeansSame (p : ProgramTree) (code : StagedParts) : Type 0 where
+  pub answers : CodeAnswersAs p code
+  pub counts : CountsByWay (reader_of p) code.program
+  pub tables : map table_referred (program_references code.program code.stages) ≡ tables_mentioned p
+  pub columns : map columns_named (program_references code.program code.stages) ≡ columns_mentioned p
+  pub outputs : (rows : List Written) → code_tables_made code.program rows ≡ tables_made 0 (reader_of p).outputs rows
+  pub name : code.program.name ≡ (reader_of p).thread
+
+-- the code of each typed program that reads tables or nothing, whose instances of thread programs have names, means the same as the program
+abbrev pub TypedProgramsMeanSame : Type 0
+TypedProgramsMeanSame =
+    (p : UnitTree) → IsTypedUnit p → ReadsNoStage p.reading → thread_parameters p.threads [] ≡ None → MeansSame (OverTables p) (staged_code (OverTables p))
