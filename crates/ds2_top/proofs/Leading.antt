@@ -4,10 +4,9 @@ use Rattle.std.proofs.lemmas.List.{take_all}
 use Rattle.ds2_outside.specs.Files.{Files}
 use Rattle.ds2_top.specs.declared.halt.Halt.{Halt}
 use Rattle.ds2_top.specs.declared.halt.Halt.TheVariants.{Ended, OutOfMemory}
-use Rattle.ds2_top.specs.declared.steps.Step.{Step}
 use Rattle.ds2_top.specs.Halt.{Does, Halts, Leads}
 use Rattle.ds2_top.specs.Outcome.{Short, TornTold, told_with}
-use Rattle.ds2_top.specs.Script.{Script, Ends, Says, Reads, Writes, front, fronts}
+use Rattle.ds2_answer.specs.Script.{Script, Ends, Says, Reads, Writes, part_by_part}
 
 not_torn : (told : Option Files) (name bytes : List ℕ) → TornTold told name bytes told
 not_torn None name bytes = tt
@@ -40,37 +39,55 @@ does_on whole middle rest said text told between (Ok value) log now a b =
 does_on whole middle rest said text told between (Err (Ended status)) log now a b = a.ends status log now b
 does_on whole middle rest said text told between (Err OutOfMemory) log now a b = a.short now b
 
--- one step more of those that are left
-pub step_more : (told between now : Option Files) (steps left after : List Step) (step : Step) (said text log : List ℕ) (result : Result (Unit {0}) Halt)
-    → ((rest : Script) → Leads (fronts steps rest) (fronts left rest) said told text between)
-    → left ≡ step ∷ after
-    → ((rest : Script) → Does (front step rest) (λ _. rest) text between result log now)
-    → (rest : Script) → Does (fronts steps rest) (λ _. fronts after rest) said told result log now
-step_more told between now steps left after step said text log result a is b rest =
-    does_on (fronts steps rest) (front step (fronts after rest)) (λ _. fronts after rest) said text told between result log now
-    (subst (λ (l : List Step). Leads (fronts steps rest) (fronts l rest) said told text between) is (a rest)) (b (fronts after rest))
+-- what halts ends with this halt
+pub halts_with : {T U : Type 0} (whole middle : Script) (rest : T → Script) (given : U → Script) (said text : List ℕ) (told between now : Option Files) (halt : Halt) (result : Result T Halt) (log : List ℕ)
+    → IsErrAnd result (λ e. e ≡ halt) → Leads whole middle said told text between → Does middle given text between (Err halt) log now → Does whole rest said told result log now
+halts_with whole middle rest given said text told between now halt (Ok value) log is a b = absurd is
+halts_with whole middle rest given said text told between now halt (Err e) log is a b =
+    subst (λ (h : Halt). Halts whole said told h log now) (sym is) (does_on whole middle given said text told between (Err halt) log now a b)
 
--- the first of some steps, and those after it
-pub item_is : (left : List Step) (step : Step) → 1 ≤ length left → step ≡ get_or left 0 step → left ≡ step ∷ take (length left - 1) (drop 1 left)
-item_is [] step some is = absurd (omega arith)
-item_is (first ∷ rest) step some is =
+-- a call that finds no memory has left what stood before
+pub no_memory : {T : Type 0} (whole : Script) (rest : T → Script) (said log : List ℕ) (told now : Option Files) (result : Result T Halt)
+    → IsErrAnd result (λ e. e ≡ OutOfMemory) → now ≡ told → Does whole rest said told result log now
+no_memory whole rest said log told now (Ok value) is same = absurd is
+no_memory whole rest said log told now (Err e) is same =
+    subst (λ (h : Halt). Halts whole said told h log now) (sym is) (subst (λ (n : Option Files). Short whole told n) (sym same) (at_once whole told))
+
+-- the first of some items, and those after it
+pub item_is : {T : Type 0} (left : List T) (x : T) → 1 ≤ length left → x ≡ get_or left 0 x → left ≡ x ∷ take (length left - 1) (drop 1 left)
+item_is [] x some is = absurd (omega arith)
+item_is (first ∷ rest) x some is =
     let enough : length rest ≤ length (first ∷ rest) - 1 = omega arith in
-    ap (λ (s : Step). s ∷ rest) (sym is) ∙ ap (λ (r : List Step). step ∷ r) (sym (take_all (length (first ∷ rest) - 1) rest enough))
+    ap (λ s. s ∷ rest) (sym is) ∙ ap (λ r. x ∷ r) (sym (take_all (length (first ∷ rest) - 1) rest enough))
 
--- no steps are left
-pub none_left : (told now : Option Files) (steps left : List Step) (said log : List ℕ)
-    → ((rest : Script) → Leads (fronts steps rest) (fronts left rest) said told log now) → length left < 1
-    → (rest : Script) → Leads (fronts steps rest) rest said told log now
-none_left told now steps [] said log a none = a
-none_left told now steps (step ∷ left) said log a none = absurd (omega arith)
+-- no items are left
+pub none_is_left : {T : Type 0} (left : List T) → length left < 1 → left ≡ []
+none_is_left [] none = refl
+none_is_left (x ∷ left) none = absurd (omega arith)
 
--- what halts in a part of the steps halts in the whole
-pub step_halts : (told between now : Option Files) (steps left after : List Step) (step : Step) (said text log : List ℕ) (halt : Halt) (result : Result (Unit {0}) Halt)
-    → IsErrAnd result (λ e. e ≡ halt)
-    → ((rest : Script) → Leads (fronts steps rest) (fronts left rest) said told text between)
-    → left ≡ step ∷ after
-    → ((rest : Script) → Does {T = Unit {0}} (front step rest) (λ _. rest) text between (Err halt) log now)
-    → (rest : Script) → Does (fronts steps rest) (λ _. rest) said told result log now
-step_halts told between now steps left after step said text log halt (Ok value) is a at b rest = absurd is
-step_halts told between now steps left after step said text log halt (Err e) is a at b rest =
-    subst (λ (h : Halt). Halts (fronts steps rest) said told h log now) (sym is) (step_more told between now steps left after step said text log (Err halt) a at b rest)
+module _ {T : Type 0} (part : T → Script → Script) where
+  -- one item more of those that are left
+  pub part_more : (told between now : Option Files) (xs left after : List T) (x : T) (said text log : List ℕ) (result : Result (Unit {0}) Halt)
+      → ((rest : Script) → Leads (part_by_part part xs rest) (part_by_part part left rest) said told text between)
+      → left ≡ x ∷ after
+      → ((rest : Script) → Does (part x rest) (λ _. rest) text between result log now)
+      → (rest : Script) → Does (part_by_part part xs rest) (λ _. part_by_part part after rest) said told result log now
+  part_more told between now xs left after x said text log result a is b rest =
+      does_on (part_by_part part xs rest) (part x (part_by_part part after rest)) (λ _. part_by_part part after rest) said text told between result log now
+      (subst (λ (l : List T). Leads (part_by_part part xs rest) (part_by_part part l rest) said told text between) is (a rest)) (b (part_by_part part after rest))
+
+  pub parts_done : (told now : Option Files) (xs left : List T) (said log : List ℕ)
+      → ((rest : Script) → Leads (part_by_part part xs rest) (part_by_part part left rest) said told log now) → length left < 1
+      → (rest : Script) → Leads (part_by_part part xs rest) rest said told log now
+  parts_done told now xs left said log a none rest = subst (λ (l : List T). Leads (part_by_part part xs rest) (part_by_part part l rest) said told log now) (none_is_left left none) (a rest)
+
+  -- what halts in a part halts in the whole
+  pub part_halts : (told between now : Option Files) (xs left after : List T) (x : T) (said text log : List ℕ) (halt : Halt) (result : Result (Unit {0}) Halt)
+      → IsErrAnd result (λ e. e ≡ halt)
+      → ((rest : Script) → Leads (part_by_part part xs rest) (part_by_part part left rest) said told text between)
+      → left ≡ x ∷ after
+      → ((rest : Script) → Does {T = Unit {0}} (part x rest) (λ _. rest) text between (Err halt) log now)
+      → (rest : Script) → Does (part_by_part part xs rest) (λ _. rest) said told result log now
+  part_halts told between now xs left after x said text log halt (Ok value) is a at b rest = absurd is
+  part_halts told between now xs left after x said text log halt (Err e) is a at b rest =
+      subst (λ (h : Halt). Halts (part_by_part part xs rest) said told h log now) (sym is) (part_more told between now xs left after x said text log (Err halt) a at b rest)

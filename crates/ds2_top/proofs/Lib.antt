@@ -1,9 +1,9 @@
-pub mod Faults
+pub mod Apart
 pub mod Leading
 pub mod Loads
-pub mod Numbers
-pub mod OneThread
+pub mod TableReads
+pub mod StoredTables
+pub mod ProgramTexts
+pub mod SourceSteps
 pub mod Plain
 pub mod Promises
-pub mod Refusals
-pub mod Tables

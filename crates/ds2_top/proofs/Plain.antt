@@ -1,16 +1,16 @@
 -- From what came of a script to what a command leaves.
 use Rattle.std.proofs.Common.{◌≡◌, ◌⊎◌, inl, inr, ℕ, List, [], ◌∷◌, ◌++◌, codes, refl, sym, ap, ◌∙◌, subst, append_assoc, Option, Some, IfSome, IsSome}
 use Rattle.ds2_outside.specs.Files.{Files, LeavesPart, with_file}
-use Rattle.ds2_top.specs.declared.status.Status.{Status}
-use Rattle.ds2_top.specs.declared.status.Status.TheVariants as ended
-use Rattle.ds2_top.specs.Status.{IsAnswerStatus}
-use Rattle.ds2_top.specs.Actions.{Action, Line, ReadOf, WriteOf, line_of, files_after, log_text, files_left, actions, status_of}
+use Rattle.ds2_answer.specs.declared.status.Status.{Status}
+use Rattle.ds2_answer.specs.declared.status.Status.TheVariants as ended
+use Rattle.ds2_answer.specs.Status.{IsAnswerStatus}
+use Rattle.ds2_answer.specs.Actions.{Action, Line, ReadOf, WriteOf, line_of, files_after, log_text, files_left, actions, status_of}
 use Rattle.ds2_top.specs.Leaves.{ReadFailed, WriteFailed, Between, AtWrite, IsText, MemoryLog, Leaves}
-use Rattle.ds2_top.specs.Lines.{fault_line, memory_line}
+use Rattle.ds2_answer.specs.Lines.{fault_line, memory_line}
 use Rattle.ds2_top.specs.Outcome.{CameOf, Short, told_with}
 use Rattle.ds2_top.specs.Outside.{Outside, HoldsFiles, LogGainsPart, LogRose, ReadsRose, WritesRose}
 use Rattle.ds2_top.specs.Reported.{Reported, TakesSome}
-use Rattle.ds2_top.specs.Script.{Script, Ends, Says, Reads, Writes}
+use Rattle.ds2_answer.specs.Script.{Script, Ends, Says, Reads, Writes}
 
 -- the text x is what was said before and then this
 record Behind (said x : List ℕ) (P : List ℕ → Type 0) : Type 0 where

@@ -4,10 +4,10 @@ use Rattle.ds2_outside.specs.Causes.{HasCause}
 use Rattle.ds2_outside.specs.Files.{Files}
 use Rattle.ds2_top.specs.declared.halt.Halt.{Halt}
 use Rattle.ds2_top.specs.declared.halt.Halt.TheVariants.{Ended, OutOfMemory}
-use Rattle.ds2_top.specs.declared.status.Status.{Status}
-use Rattle.ds2_top.specs.declared.status.Status.TheVariants.{Done}
+use Rattle.ds2_answer.specs.declared.status.Status.{Status}
+use Rattle.ds2_answer.specs.declared.status.Status.TheVariants.{Done}
 use Rattle.ds2_top.specs.Outcome.{CameOf, Short}
-use Rattle.ds2_top.specs.Script.{Script, Ends}
+use Rattle.ds2_answer.specs.Script.{Script, Ends}
 
 -- whatever comes of the rest is what comes of the whole
 pub record Leads (whole rest : Script) (said : List ℕ) (told : Option Files) (log : List ℕ) (next : Option Files) : Type 0 where

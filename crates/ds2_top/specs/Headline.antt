@@ -2,16 +2,16 @@
 use Rattle.std.specs.Prelude.{◌≡◌, ◌⊎◌, ℕ, List, None, IfSome}
 use Rattle.ds2_compile.specs.Laws.{SourcesRead}
 use Rattle.ds2_outside.specs.Files.{Files}
-use Rattle.ds2_top.specs.declared.status.Status.{Status}
-use Rattle.ds2_top.specs.declared.status.Status.TheVariants as ended
-use Rattle.ds2_top.specs.Actions.{actions, log_text, status_of}
-use Rattle.ds2_top.specs.Answer.{answer}
+use Rattle.ds2_answer.specs.declared.status.Status.{Status}
+use Rattle.ds2_answer.specs.declared.status.Status.TheVariants as ended
+use Rattle.ds2_answer.specs.Actions.{actions, log_text, status_of}
+use Rattle.ds2_answer.specs.Answer.{answer}
 use Rattle.ds2_top.specs.Fault.{LeavesFault}
 use Rattle.ds2_top.specs.Leaves.{Did, Leaves}
 use Rattle.ds2_top.specs.Outside.{Outside, Gained, HoldsFiles, LogGains, LogRose, ReadsRose, WritesRose}
-use Rattle.ds2_top.specs.Script.{Script}
-use Rattle.ds2_top.specs.Status.{IsRefusal}
-use Rattle.ds2_top.specs.Words.{command_of}
+use Rattle.ds2_answer.specs.Script.{Script}
+use Rattle.ds2_answer.specs.Status.{IsRefusal}
+use Rattle.ds2_answer.specs.Words.{command_of}
 
 -- a refusal is that of the answer: each file is as it was, and the log has gained its line or, where it has failed, a first part of it
 pub record LeavesRefusal (answer : Script) (files : Files) (before now : Outside) (status : Status) : Type 0 where

@@ -1,12 +1,12 @@
 -- What a command leaves in the files and the log, at each status.
 use Rattle.std.specs.Prelude.{◌≡◌, ◌⊎◌, ℕ, List, [], ◌∷◌, ◌++◌, codes}
 use Rattle.ds2_outside.specs.Files.{Files}
-use Rattle.ds2_top.specs.declared.status.Status.{Status}
-use Rattle.ds2_top.specs.declared.status.Status.TheVariants as ended
-use Rattle.ds2_top.specs.Actions.{Action, ReadOf, WriteOf, actions, files_left, log_text, status_of}
-use Rattle.ds2_top.specs.Lines.{fault_line, memory_line}
+use Rattle.ds2_answer.specs.declared.status.Status.{Status}
+use Rattle.ds2_answer.specs.declared.status.Status.TheVariants as ended
+use Rattle.ds2_answer.specs.Actions.{Action, ReadOf, WriteOf, actions, files_left, log_text, status_of}
+use Rattle.ds2_answer.specs.Lines.{fault_line, memory_line}
 use Rattle.ds2_top.specs.Outside.{Outside, Gained, HoldsFiles, HoldsTorn, LogGains, LogGainsPart, LogRose, ReadsRose, WritesRose}
-use Rattle.ds2_top.specs.Script.{Script}
+use Rattle.ds2_answer.specs.Script.{Script}
 
 -- a read among the actions has failed; x is the text up to it, and its line
 pub record ReadFailed (all : List Action) (files : Files) (x : List ℕ) (before now : Outside) : Type 0 where

@@ -1,15 +1,11 @@
-pub mod Actions
-pub mod Answer
-pub mod Built
-pub mod Fault
-pub mod Halt
-pub mod Headline
-pub mod Leaves
-pub mod Lines
-pub mod Load
-pub mod Outcome
+-- What the top call promises, and what its inner calls leave.
 pub mod Outside
+pub mod Outcome
+pub mod Halt
+pub mod Load
+pub mod ReadTables
+pub mod ProgramRuns
+pub mod Leaves
 pub mod Reported
-pub mod Script
-pub mod Status
-pub mod Words
+pub mod Fault
+pub mod Headline

@@ -1,11 +1,11 @@
 -- What came of a script.
 use Rattle.std.specs.Prelude.{◌≡◌, ◌⊎◌, ℕ, List, ◌++◌, codes, Option, IfSome, option_map}
 use Rattle.ds2_outside.specs.Files.{Files, with_file, LeavesPart}
-use Rattle.ds2_top.specs.declared.status.Status.{Status}
-use Rattle.ds2_top.specs.declared.status.Status.TheVariants as ended
-use Rattle.ds2_top.specs.Lines.{fault_line}
-use Rattle.ds2_top.specs.Script.{Script, Ends, Says, Reads, Writes}
-use Rattle.ds2_top.specs.Status.{IsAnswerStatus}
+use Rattle.ds2_answer.specs.declared.status.Status.{Status}
+use Rattle.ds2_answer.specs.declared.status.Status.TheVariants as ended
+use Rattle.ds2_answer.specs.Lines.{fault_line}
+use Rattle.ds2_answer.specs.Script.{Script, Ends, Says, Reads, Writes}
+use Rattle.ds2_answer.specs.Status.{IsAnswerStatus}
 
 -- the files that a store tells, with these bytes under this name
 abbrev pub told_with : Option Files → List ℕ → List ℕ → Option Files

@@ -1,9 +1,9 @@
 -- What the writing of a log answers and leaves.
 use Rattle.std.specs.Prelude.{◌≡◌, ◌⊎◌, ℕ, List, ◌++◌, Option, Some, IfSome}
 use Rattle.ds2_outside.specs.Written.{TakesPart}
-use Rattle.ds2_top.specs.declared.status.Status.{Status}
-use Rattle.ds2_top.specs.declared.status.Status.TheVariants.{Memory}
-use Rattle.ds2_top.specs.Status.{log_failed}
+use Rattle.ds2_answer.specs.declared.status.Status.{Status}
+use Rattle.ds2_answer.specs.declared.status.Status.TheVariants.{Memory}
+use Rattle.ds2_answer.specs.Status.{log_failed}
 
 -- where the log told what it held, it has taken this text
 abbrev pub Takes : List ℕ → Option (List ℕ) → Option (List ℕ) → Type 0

@@ -1,6 +1,13 @@
 //! How a command ends before its last step.
-use crate::Status;
-use ds2_base::OutOfMemory;
+ghost use Rattle.std.specs.Prelude.{codes};
+ghost use Rattle.ds2_answer.specs.Lines.{error_line, fault_line, fault_text, file_line, source_line, usage_line};
+ghost use Rattle.ds2_top.specs.Halt.{EndsAs};
+
+use ds2_answer::lines::{say_error, say_fault, say_refused, say_source_refused, say_usage};
+use ds2_answer::{FileKind, SourceReason, Status};
+use ds2_base::{Bytes, OutOfMemory, Place, Text};
+use ds2_value::Fault;
+use std::alloc::Global;
 
 /// Why a command goes no further. `?` carries it up to the call that writes the log.
 #[derive(Clone, Copy, Debug, PartialEq, Eq)]
@@ -19,5 +26,70 @@ impl From<OutOfMemory> for Halt {
 
     fn from(_: OutOfMemory) -> Self {
         Halt::OutOfMemory
+    }
+}
+
+/// Says that the words are no command, which ends it.
+pub(crate) fn refuse_words(log: &mut Bytes) -> Halt
+    ensures { EndsAs Status.Usage usage_line log.old result log.new }
+{
+    match say_usage(log) {
+        Ok(()) => Halt::Ended(Status::Usage),
+        Err(OutOfMemory) => Halt::OutOfMemory,
+    }
+}
+
+/// Says that a file is refused, which ends the command.
+pub(crate) fn refuse_file(alloc: Global, name: &Text, kind: FileKind, log: &mut Bytes) -> Halt
+    ensures { EndsAs Status.File (file_line name.now kind) log.old result log.new }
+{
+    match say_refused(alloc, name, kind, log) {
+        Ok(()) => Halt::Ended(Status::File),
+        Err(OutOfMemory) => Halt::OutOfMemory,
+    }
+}
+
+/// Says that the source is refused, which ends the command.
+pub(crate) fn refuse_source(
+    alloc: Global,
+    reason: SourceReason,
+    place: Place,
+    log: &mut Bytes,
+) -> Halt
+    ensures { EndsAs Status.Source (source_line reason place) log.old result log.new }
+{
+    match say_source_refused(alloc, reason, place, log) {
+        Ok(()) => Halt::Ended(Status::Source),
+        Err(OutOfMemory) => Halt::OutOfMemory,
+    }
+}
+
+/// Says in which fault a program has ended, which ends the command.
+pub(crate) fn end_in_fault(alloc: Global, fault: Fault, place: Place, log: &mut Bytes) -> Halt
+    ensures { EndsAs Status.Fault (error_line (fault_text fault) place) log.old result log.new }
+{
+    match say_error(alloc, fault, place, log) {
+        Ok(()) => Halt::Ended(Status::Fault),
+        Err(OutOfMemory) => Halt::OutOfMemory,
+    }
+}
+
+/// Says that the read of a file has failed, which ends the command.
+pub(crate) fn fail_read(alloc: Global, name: &Text, log: &mut Bytes) -> Halt
+    ensures { EndsAs Status.Read (fault_line (codes "Read") name.now) log.old result log.new }
+{
+    match say_fault(alloc, "Read", name, log) {
+        Ok(()) => Halt::Ended(Status::Read),
+        Err(OutOfMemory) => Halt::OutOfMemory,
+    }
+}
+
+/// Says that the write of a file has failed, which ends the command.
+pub(crate) fn fail_write(alloc: Global, name: &Text, log: &mut Bytes) -> Halt
+    ensures { EndsAs Status.Write (fault_line (codes "Write") name.now) log.old result log.new }
+{
+    match say_fault(alloc, "Write", name, log) {
+        Ok(()) => Halt::Ended(Status::Write),
+        Err(OutOfMemory) => Halt::OutOfMemory,
     }
 }

@@ -7,20 +7,17 @@
 //! ```
 #![tactic(auto)]
 
-mod built;
+mod files;
 mod halt;
-mod lines;
-mod load;
-mod output_text;
-mod outputs;
-mod program;
+mod programs;
 mod report;
 mod run;
-mod status;
-mod steps;
+mod runner;
+mod sources;
+mod stored;
+mod tables;
 mod top;
-mod words;
 
+pub use ds2_answer::Status;
 use halt::Halt;
-pub use status::Status;
 pub use top::{ds2, ds2_alone};

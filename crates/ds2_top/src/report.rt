@@ -1,10 +1,10 @@
 //! The writing of the log.
 ghost use Rattle.std.specs.Prelude.{◌≡◌};
 ghost use Rattle.ds2_outside.specs.Causes.{Rose};
-ghost use Rattle.ds2_top.specs.Lines.{memory_line};
+ghost use Rattle.ds2_answer.specs.Lines.{memory_line};
 ghost use Rattle.ds2_top.specs.Reported.{Reported, TakesLine};
 
-use crate::Status;
+use ds2_answer::Status;
 use ds2_base::{Bytes, List};
 use ds2_outside::{Sink, WriteStop};
 use std::alloc::Global;

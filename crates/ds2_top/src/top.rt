@@ -2,9 +2,12 @@
 ghost use Rattle.std.specs.Prelude.{◌≡◌};
 ghost use Rattle.ds2_top.specs.Headline.{Headline};
 
+use crate::Halt;
 use crate::report::{report, report_memory};
 use crate::run::run;
-use crate::{Halt, Status};
+use crate::runner::Alone;
+use ds2_answer::Status;
+use ds2_answer::laws::{faults_are_first, refusals_write_nothing, refused_words_are_usage};
 use ds2_base::{List, Text};
 use ds2_compile::laws::sources_are_read;
 use ds2_outside::{Gate, Sink, Store};
@@ -28,8 +31,11 @@ pub fn ds2_alone<T: Store, L: Sink>(
         result }
 {
     sources_are_read();
+    refused_words_are_usage();
+    refusals_write_nothing();
+    faults_are_first();
     let mut text = List::new(alloc);
-    match run(alloc, words, &mut text, store) {
+    match run(alloc, &Alone, words, &mut text, store) {
         Ok(()) => report(Status::Done, &text, log),
         Err(Halt::Ended(status)) => report(status, &text, log),
         Err(Halt::OutOfMemory) => report_memory(alloc, log),

@@ -1,10 +1,10 @@
 use Rattle.std.proofs.Common.{◌≡◌, ℕ, List, refl, subst, Some}
-use Rattle.ds2_top.specs.declared.words.Command.{Command}
-use Rattle.ds2_top.specs.declared.words.Command.TheVariants.{Run}
-use Rattle.ds2_top.specs.Answer.{on_command}
+use Rattle.ds2_answer.specs.declared.words.Command.{Command}
+use Rattle.ds2_answer.specs.declared.words.Command.TheVariants.{Run}
+use Rattle.ds2_answer.specs.Answer.{on_command}
 use Rattle.ds2_top.specs.Halt.{DoesAll}
 use Rattle.ds2_top.specs.Load.{OverFiles}
-use Rattle.ds2_top.specs.Words.{budget_in, source_in}
+use Rattle.ds2_answer.specs.Words.{budget_in, source_in}
 use Rattle.ds2_top.proofs.run.do_command.Goals as goal
 
 of_parts : (command : Command) → Run (source_in command) (budget_in command) ≡ command

@@ -1,0 +1,31 @@
+//! Why files and sources are refused.
+use ds2_csv::{CsvRefusal, MOST_BYTES};
+use ds2_source::SourceKind;
+
+/// The most bytes of a source.
+pub const SOURCE_LIMIT: u64 = 262_144;
+
+/// The most bytes of a table's file.
+pub const TABLE_LIMIT: u64 = MOST_BYTES as u64;
+
+/// Why a source is refused.
+#[derive(Clone, Copy, Debug, PartialEq, Eq)]
+pub enum SourceReason {
+    /// It breaks a rule of tokens, of the grammar, of names or of types.
+    Rule(SourceKind),
+    /// It is in a form that isn't built yet.
+    NotBuilt,
+}
+
+/// Why a file is refused.
+#[derive(Clone, Copy, Debug, PartialEq, Eq)]
+pub enum FileKind {
+    /// There is no file of this name.
+    Absent,
+    /// It is longer than its limit.
+    TooLarge,
+    /// It is a source, and its bytes are not UTF-8.
+    NotUtf8,
+    /// Its bytes are no table.
+    Table(CsvRefusal),
+}

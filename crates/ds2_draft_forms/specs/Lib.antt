@@ -1,5 +1,0 @@
-pub mod Parts
-pub mod ExpressionForms
-pub mod StatementForms
-pub mod Forms
-pub mod Rows
