@@ -98,8 +98,8 @@ def answers(block):
         return ["the statement does not fit its tables"]
     if grain > len(bys):
         return ["a grain above the number of BY variables"]
-    if is_merge and grain == 0:
-        return ["a merge without a grain"]
+    if grain == 0 and (is_merge or bys):
+        return ["no grain, which a merge and BY variables ask for"]
     keys = [[[row[names.index(name)] for name, _ in bys] for row in contents] for names, _, contents in tables]
     loads = merge_loads(bys, keys) if is_merge else set_loads(bys, keys)
 

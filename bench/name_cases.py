@@ -1,21 +1,23 @@
 #!/usr/bin/env python3
-"""Works out the answers of ds2_name_cases anew, from the rules of names as they are written below, and compares them with its stdout.
+"""Works out anew, from the rules of names as they are written below, how the names of the sources of ds2_cases are refused, and compares that
+with its stdout.
 
-usage: bench/name_cases.py [--write]
+usage: bench/name_cases.py
 
 The trees of the sources come from the parser of bench/parse_cases.py. Each rule is a function below that gives every place at which a
-data program without instances breaks it. For the first data program that breaks one, an answer has the least place of each rule. With
---write it writes stdout.
+data program without instances breaks it. The refusal is that of the least place, and at one place that of the first kind; a 17th table of
+the store comes before all of them. Sources that are no text, that are long, or that are refused otherwise are left out.
 """
 import itertools
-import pathlib
 import re
 import sys
 
+import command_cases
 import parse_cases
 
 KINDS = """UnknownName DuplicateName UnknownMethod WrongCount NotVariable AliasedArgument TooManyNames BadNumber Misplaced
     NoColumns""".split()
+TYPE_KINDS = ["TypeClash", "ScaleTooLarge", "NotTruth", "NoReturn"]
 SYSTEM = ("init", "run", "term")
 # How many arguments a function takes, at least and at most.
 FUNCTIONS = {
@@ -471,39 +473,48 @@ def answer(text, tables):
     return "its names fit"
 
 
-def answers(lines):
-    """Each line with the text and the tables that it stands for; None for a line that is no source."""
-    front, tables = "", []
-    for line in lines:
-        if line.startswith("#"):
-            front, tables = "", []
-        elif line.startswith("@ "):
-            words = line[2:].lower().split(" ")
-            tables = tables + [(words[0], words[1:])]
-        elif line.startswith(": "):
-            front = line[2:]
-        elif line:
-            yield line, answer(parse_cases.unescaped(front + line), tables)
-            continue
-        yield line, None
+def table_too_many(node):
+    """The place of the first mention of a 17th table of the store, over all programs of a source."""
+    known, made, found = [], [], []
+    for data in kids(node, "data"):
+        program = Program(data, [], [])
+        for method in program.methods:
+            for i in kids(method.reading, "input") if method.reading else []:
+                name = spelled(i[1][0])
+                if name not in known + made:
+                    known.append(name)
+                    found.append(i[1][0].place)
+        made += [spelled(o.table) for o in program.outputs]
+    return found[16] if len(found) > 16 else None
+
+
+def refusal(text, tables):
+    """The refusal that the names of a source get; None where they fit, or where there is no tree."""
+    lexed = parse_cases.tokens(text.removeprefix("\ufeff"))
+    read = lexed and parse_cases.earley(lexed[0], True)[0]
+    if not read:
+        return None
+    many = table_too_many(read)
+    if many:
+        return "TooManyNames at {}:{}".format(*many)
+    said = answer(text, tables)
+    return None if said == "its names fit" else said.split(", ")[0]
 
 
 def main():
-    folder = pathlib.Path(__file__).parent.parent / "crates" / "ds2_name_cases"
-    lines = (folder / "stdin").read_text(encoding="utf-8").splitlines()
-    stands = (folder / "stdout").read_text(encoding="utf-8").splitlines() if (folder / "stdout").exists() else []
-    out, count = [], 0
-    for line, wanted in answers(lines):
-        out.append(line)
-        if wanted:
-            count += 1
-            out.append(f"    {wanted}")
-    if "--write" in sys.argv[1:]:
-        (folder / "stdout").write_text("\n".join(out) + "\n", encoding="utf-8")
-    differ = [(i + 1, a, b) for i, (a, b) in enumerate(itertools.zip_longest(stands, out)) if a != b]
-    for number, a, b in differ:
-        print(f"line {number}: {a} stands there, and {b} is due")
-    print(f"{count} sources, {len(differ)} lines differ")
+    count, differ = 0, 0
+    for case in command_cases.read_cases():
+        text, stands = case.source(), case.refusal()
+        is_named = stands and stands.split(" ")[0] in KINDS + TYPE_KINDS
+        if text is None or not (is_named or case.status in (0, 6)):
+            continue
+        names = [name.removesuffix(".csv") for name in case.files if name.endswith(".csv")]
+        due = refusal(text, [(name, case.columns(name)) for name in names])
+        count += 1
+        if due != (stands if stands and stands.split(" ")[0] in KINDS else None):
+            differ += 1
+            print(f"{case.title}: {stands} stands there, and {due} is due")
+    print(f"{count} sources, {differ} differ")
     sys.exit(1 if differ else 0)
 
 

@@ -1,14 +1,84 @@
 #!/bin/sh
-# Times ds2_resolve looking at the names of data programs of 64, 128 and 256 KB with 250, 500 and 1,000 globals and as many names in one
-# method, in nanoseconds a token, the best of five runs. Builds the program first where it is not built.
+# Times what `ds2 run` does with data programs of 64, 128 and 256 KB before a row is read, with 250, 500 and 1,000 globals and as many
+# names in one method; then with columns of four tables in place of the globals.
+#
+# Each program is run with four ends: a word with which no source goes on, an unknown name, a text for a number, and none of them. So the
+# command ends behind the tree, behind the names, behind the types, and behind the code and its run; what an end takes longer than
+# the one before it is the time of one step. Prints nanoseconds a token, the best of five rounds of ten runs each.
 set -eu
 
 top=$(cd "$(dirname "$0")/.." && pwd)
-crate=$top/crates/ds2_name_bench
-ours=$crate/out/ds2_name_bench
-if [ ! -x "$ours" ]; then
-    (cd "$crate" && rt run >/dev/null 2>&1)
-fi
-for turn in 1 2 3 4 5; do
-    "$ours" time
-done | sort -t: -k1,1V -k2,2n | awk -F: '!seen[$1]++'
+work=$(mktemp -d)
+trap 'rm -rf "$work"' EXIT
+cd "$work"
+printf 'data _null_; enddata;\n' >none.ds2
+"$top/ds2" run none.ds2
+
+# program BYTES NAMES KIND END: the source, with a variable and a parameter beside the names. How many tokens stand before its end goes
+# into the file `tokens`.
+program() {
+    awk -v bytes="$(($1 - 200))" -v count="$2" -v kind="$3" -v end="$4" '
+    function names(letter, count,    i, all) { all = ""; for (i = 0; i < count; i++) all = all " " letter i; return all }
+    BEGIN {
+        text = "data _null_; dcl bigint sum" (kind == "globals" ? names("g", count) : "")
+        text = text "; method add(in_out bigint total); dcl bigint" names("l", count) ";"
+        tokens = 17 + (kind == "globals" ? 2 : 1) * count
+        printf "%s", text; written = length(text)
+        for (turn = 0; written < bytes; turn++) {
+            g = turn % count; l = (turn * 7) % count
+            text = "\nl" l " = g" g " + total * abs(l" l ");\nif g" g " > l" l " then put g" g " total=;"
+            printf "%s", text; written += length(text); tokens += 21
+        }
+        set = (kind == "globals" ? "" : " set t0 t1 t2 t3;")
+        if (end == "tree") print "\nend; method run();" set " add(sum); end; end;"
+        if (end == "names") print "\nend; method run();" set " add(nothing); end; enddata;"
+        if (end == "types") print "\nend; method run();" set " sum = \047x\047; end; enddata;"
+        if (end == "code") print "\nend; method run();" set " add(sum); end; enddata;"
+        print tokens >"tokens"
+    }'
+}
+
+# tables NAMES: four tables, which have a quarter of the columns each, and no row.
+tables() {
+    for number in 0 1 2 3; do
+        awk -v from="$(($1 * number / 4))" -v to="$(($1 * (number + 1) / 4))" 'BEGIN {
+            for (i = from; i < to; i++) printf "%sg%d bigint", (i > from ? "," : ""), i
+            print ""
+        }' >"t$number.csv"
+    done
+}
+
+# nanoseconds END: ten runs of the program with this end.
+nanoseconds() {
+    from=$(date +%s%N)
+    for turn in 1 2 3 4 5 6 7 8 9 10; do
+        "$top/crates/ds2/out/ds2" run "$1.ds2" >log || true
+    done
+    to=$(date +%s%N)
+    echo $((to - from))
+}
+
+for kind in globals columns; do
+    for size in '65536 249' '131072 499' '262144 999'; do
+        tables "${size#* }"
+        for end in tree names types code; do
+            program ${size% *} "${size#* }" "$kind" "$end" >"$end.ds2"
+            "$top/crates/ds2/out/ds2" run "$end.ds2" >"$end.log" || true
+        done
+        grep -q 'refused: Unexpected' tree.log
+        grep -q 'refused: UnknownName' names.log
+        grep -q 'refused: TypeClash' types.log
+        [ ! -s code.log ]
+        for round in 1 2 3 4 5; do
+            for end in tree names types code; do
+                echo "$end $(nanoseconds "$end")"
+            done
+        done | awk -v kind="$kind" -v count="${size#* }" -v tokens="$(cat tokens)" '
+            !($1 in least) || $2 < least[$1] { least[$1] = $2 }
+            function each(time) { return time / 10 / tokens }
+            END {
+                printf "%d %s and a variable, %d tokens: tree %.0f, names %.0f, types %.0f, code %.0f nanoseconds a token\n", count, kind, tokens,
+                    each(least["tree"]), each(least["names"] - least["tree"]), each(least["types"] - least["names"]), each(least["code"] - least["types"])
+            }'
+    done
+done

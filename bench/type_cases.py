@@ -1,17 +1,16 @@
 #!/usr/bin/env python3
-"""Works out the answers of ds2_type_cases anew, from the rules of types as they are written below, and compares them with its stdout.
+"""Works out anew, from the rules of types as they are written below, how the expressions of ds2_cases are refused, and compares that with its
+stdout.
 
-usage: bench/type_cases.py [--write]
+usage: bench/type_cases.py
 
 The trees of the expressions come from the parser of bench/parse_cases.py. Of each expression it keeps what is known of its type and every
-rule that is broken in it; an answer has the one that is given: that of the least place, and at one place that of the first kind. With
---write it writes stdout.
+rule that is broken in it; the refusal is that of the least place, and at one place that of the first kind.
 """
-import itertools
-import pathlib
 import re
 import sys
 
+import command_cases
 import parse_cases
 
 KINDS = ["TypeClash", "ScaleTooLarge", "NotTruth"]
@@ -264,36 +263,43 @@ def answer(setting, text):
     return "{} at {}:{}, {}".format(KINDS[kind], *place, typing)
 
 
-def answers(lines):
-    """Each line with its answer; None for a line that is no expression."""
+def setting_of(front):
+    """What stands for the names of an expression behind this text, and the type of the variable that it is assigned to."""
     setting = Setting()
-    for line in lines:
-        if line.startswith("#"):
-            setting = Setting()
-        elif line.startswith("@ "):
-            setting.take(line[2:])
-        elif line:
-            yield line, answer(setting, parse_cases.unescaped(line))
-            continue
-        yield line, None
+    declared, body, own = re.match(r"data o; dcl (?:\S+) result; (.*)(method (?:run|init)\(\); )(.*)result =$", front).groups()
+    for sort, words in (("variable", declared), ("local", own)):
+        for ty, name in re.findall(r"(?:^|; )dcl (\S+) (\w+)(?=;)", words):
+            setting.take(f"{sort} {name} {ty}")
+    for name, parameters, returns in re.findall(r"method (\w+)\((.*?)\)(?: returns (\S+))?; (?:return null; )?end;", declared):
+        kinds = re.findall(r"(in_out )?(\w+(?:\(.*?\))?) p\d", parameters)
+        words = ["in_out:" + ty if in_out else ty for in_out, ty in kinds] + (["returns", returns] if returns else [])
+        setting.take(" ".join(["method", name, *words]))
+    return setting, re.match(r"data o; dcl (\S+) result;", front).group(1)
+
+
+def due(source):
+    """The refusal of the second line of a source, an expression, and of the column k where the tables of the third line do not fit."""
+    global UNJOINED
+    front, expression, behind = source.split("\n")[:3]
+    setting, ty = setting_of(front)
+    if " set " in behind:
+        UNJOINED = (3, behind.index(" t;") + 2)
+        setting.take("variable k bigint")
+        setting.take("unjoined k")
+    refusal, _, typing = answer(setting, expression).partition(", ")
+    return refusal if typing in ("no type", ty) else f"{refusal} with {typing}"
 
 
 def main():
-    folder = pathlib.Path(__file__).parent.parent / "crates" / "ds2_type_cases"
-    lines = (folder / "stdin").read_text(encoding="utf-8").splitlines()
-    stands = (folder / "stdout").read_text(encoding="utf-8").splitlines() if (folder / "stdout").exists() else []
-    out, count = [], 0
-    for line, wanted in answers(lines):
-        out.append(line)
-        if wanted:
+    count, differ = 0, 0
+    for case in command_cases.read_cases():
+        if case.heading.startswith("Types of expressions."):
             count += 1
-            out.append(f"    {wanted}")
-    if "--write" in sys.argv[1:]:
-        (folder / "stdout").write_text("\n".join(out) + "\n", encoding="utf-8")
-    differ = [(i + 1, a, b) for i, (a, b) in enumerate(itertools.zip_longest(stands, out)) if a != b]
-    for number, a, b in differ:
-        print(f"line {number}: {a} stands there, and {b} is due")
-    print(f"{count} expressions, {len(differ)} lines differ")
+            wanted = due(case.source())
+            if wanted != case.refusal():
+                differ += 1
+                print(f"{case.title}: {case.refusal()} stands there, and {wanted} is due")
+    print(f"{count} expressions, {differ} differ")
     sys.exit(1 if differ else 0)
 
 

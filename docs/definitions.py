@@ -10,6 +10,7 @@ these cite, and then all that they stand on. The others follow, crate by crate i
 crates.txt, and in each crate file by file in the order of specs/Lib.antt, each behind those that it
 uses.
 """
+import functools
 import re
 import sys
 from pathlib import Path
@@ -20,6 +21,7 @@ HEADLINE = ("ds2_top", "ds2")
 
 ITEM = re.compile(r"^((?:abbrev |unfoldable )?(?:pub )?(?:abbrev |unfoldable )?)(data |record )?([^\s(){}:;,]+)(?= )(.*)$")
 IMPORT = re.compile(r"^(?:ghost )?use Rattle\.(\w+)\.specs\.([\w.]+)\.(?:\{([^}]*)\}|([^\s.{};]+))(?: as (\S+))?;?$")
+PASSED_ON = re.compile(r"^pub use Rattle\.(\w+)\.specs\.(\w+)(?: as (\w+))?$", re.M)
 TOKEN = re.compile(r"[^\s(){}\[\];,.]+")
 
 
@@ -102,7 +104,20 @@ def imports(text, found):
         if not words:
             continue
         local = words[2] if len(words) == 3 and words[1] == "as" else (alias or words[0])
+        crate, file = passed_on().get((crate, file), (crate, file))
         found[local.strip("◌")] = (crate, file, words[0])
+
+
+@functools.cache
+def passed_on():
+    """Files of specs/ that a crate passes on, by a line `pub use Rattle.LOW.specs.FILE` of its Lib.antt: by crate and file, whose they are."""
+    found = {}
+    for crate in crates():
+        library = TOP / "crates" / crate / "specs" / "Lib.antt"
+        for low, file, alias in re.findall(PASSED_ON, library.read_text()) if library.exists() else []:
+            found[crate, alias or file] = (low, file)
+    owner = lambda place: owner(found[place]) if place in found else place
+    return {place: owner(place) for place in found}
 
 
 def crates():

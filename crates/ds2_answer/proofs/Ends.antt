@@ -9,13 +9,13 @@ use Rattle.ds2_table.specs.Table.{Contents}
 use Rattle.ds2_csv.specs.Reads.{reads}
 use Rattle.ds2_csv.specs.declared.refusal.CsvRefusal.{CsvRefusal}
 use Rattle.ds2_outside.specs.Files.{Files, file}
-use Rattle.ds2_tree.specs.Units.{SourcePart}
-use Rattle.ds2_compile.specs.Laws.{SourcesRead}
-use Rattle.ds2_compile.specs.SourceAnswer.{SourceAnswer}
-use Rattle.ds2_meaning.specs.ProgramMeaning.{program_answer, MadeTable, tables_left}
-use Rattle.ds2_meaning.specs.ProgramTree.{UnitTree, OverTables}
-use Rattle.ds2_meaning.specs.Reading.{TableRows}
-use Rattle.ds2_elaboration.specs.Elaboration.{ProgramRefusal, elaborated_source}
+use Rattle.ds2_source.specs.Units.{SourcePart}
+use Rattle.ds2_source.specs.AnswersOfTexts.{SourcesRead}
+use Rattle.ds2_source.specs.SourceAnswer.{SourceAnswer}
+use Rattle.ds2_source.specs.ProgramMeaning.{program_answer, MadeTable, tables_left}
+use Rattle.ds2_source.specs.ProgramTree.{UnitTree, OverTables}
+use Rattle.ds2_source.specs.Reading.{TableRows}
+use Rattle.ds2_source.specs.Elaboration.{ProgramRefusal, elaborated_source}
 use Rattle.ds2_source.specs.BuiltSources.{is_built_source}
 use Rattle.ds2_source.specs.InputTables.{source_inputs, names_or_refusal}
 use Rattle.ds2_source.specs.declared.kinds.SourceRefusal.{SourceRefusal}

@@ -1,11 +1,11 @@
 -- A source that is built becomes one program at most.
 use Rattle.std.proofs.Common.{◌≡◌, Bool, true, false, not, ◌&&◌, List, [], ◌∷◌, refl, sym, subst, Result, Ok, Err}
 use Rattle.std.specs.List.{list_any, list_all}
-use Rattle.ds2_tree.specs.Units.{SourcePart, Proc, Run, Quit, APackage, AThread, AData}
-use Rattle.ds2_meaning.specs.ProgramTree.{UnitTree}
-use Rattle.ds2_names.specs.SourceLimits.{BeforeUnit, before_all, behind_part}
-use Rattle.ds2_names.specs.SourceUnit.{TableColumns}
-use Rattle.ds2_elaboration.specs.Elaboration.{ProgramRefusal, elaborated_program, tables_behind, before_others, and_then_others, elaborated_parts, elaborated_source}
+use Rattle.ds2_source.specs.Units.{SourcePart, Proc, Run, Quit, APackage, AThread, AData}
+use Rattle.ds2_source.specs.ProgramTree.{UnitTree}
+use Rattle.ds2_source.specs.SourceLimits.{BeforeUnit, before_all, behind_part}
+use Rattle.ds2_source.specs.SourceUnit.{TableColumns}
+use Rattle.ds2_source.specs.Elaboration.{ProgramRefusal, elaborated_program, tables_behind, before_others, and_then_others, elaborated_parts, elaborated_source}
 use Rattle.ds2_source.specs.BuiltSources.{is_data_part, is_built_part, has_one_program_at_most, is_built_source}
 
 -- an outcome of one program at most

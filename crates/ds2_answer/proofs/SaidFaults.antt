@@ -7,9 +7,9 @@ use Rattle.ds2_value.specs.declared.fault.Ending.{Ending}
 use Rattle.ds2_value.specs.declared.fault.Fault.{Fault}
 use Rattle.ds2_table.specs.OneThread.{Answer}
 use Rattle.ds2_outside.specs.Files.{Files}
-use Rattle.ds2_compile.specs.Laws.{OneSourceAnswer, SourcesRead}
-use Rattle.ds2_meaning.specs.ProgramMeaning.{program_answer, MadeTable, tables_left}
-use Rattle.ds2_meaning.specs.ProgramTree.{OverTables}
+use Rattle.ds2_source.specs.AnswersOfTexts.{OneSourceAnswer, SourcesRead}
+use Rattle.ds2_source.specs.ProgramMeaning.{program_answer, MadeTable, tables_left}
+use Rattle.ds2_source.specs.ProgramTree.{OverTables}
 use Rattle.ds2_answer.specs.declared.kinds.TheConstants.{SOURCE_LIMIT}
 use Rattle.ds2_answer.specs.declared.status.Status.TheVariants as ended
 use Rattle.ds2_answer.specs.Actions.{actions, log_text}

@@ -11,19 +11,18 @@ use Rattle.ds2_csv.specs.Reads.{reads}
 use Rattle.ds2_csv.specs.Text as csv
 use Rattle.ds2_csv.specs.declared.refusal.CsvRefusal.{CsvRefusal}
 use Rattle.ds2_outside.specs.Files.{Files}
-use Rattle.ds2_tree.specs.Units.{SourcePart}
-use Rattle.ds2_compile.specs.Laws.{SourcesRead}
-use Rattle.ds2_compile.specs.SourceAnswer.{SourceAnswer}
-use Rattle.ds2_meaning.specs.ProgramMeaning.{program_answer, MadeTable, tables_left}
-use Rattle.ds2_meaning.specs.ProgramTree.{UnitTree, OverTables}
-use Rattle.ds2_meaning.specs.Reading.{TableRows}
-use Rattle.ds2_names.specs.SourceUnit.{TableColumns}
-use Rattle.ds2_elaboration.specs.Elaboration.{ProgramRefusal, elaborated_source}
+use Rattle.ds2_source.specs.Units.{SourcePart}
+use Rattle.ds2_source.specs.AnswersOfTexts.{SourcesRead}
+use Rattle.ds2_source.specs.SourceAnswer.{SourceAnswer}
+use Rattle.ds2_source.specs.ProgramMeaning.{program_answer, MadeTable, tables_left}
+use Rattle.ds2_source.specs.ProgramTree.{UnitTree, OverTables}
+use Rattle.ds2_source.specs.Reading.{TableRows}
+use Rattle.ds2_source.specs.SourceUnit.{TableColumns}
+use Rattle.ds2_source.specs.Elaboration.{ProgramRefusal, elaborated_source}
 use Rattle.ds2_source.specs.BuiltSources.{is_built_source}
 use Rattle.ds2_source.specs.InputTables.{source_inputs, names_or_refusal}
-use Rattle.ds2_source.specs.SourceTexts.{refusal_of_text}
 use Rattle.ds2_source.specs.declared.kinds.SourceRefusal.{SourceRefusal}
-use Rattle.ds2_typed_source.specs.SourceOutcomes.{source_refusal_of}
+use Rattle.ds2_source.specs.SourceRefusals.{source_refusal_of}
 use Rattle.ds2_answer.specs.declared.kinds.FileKind.TheVariants as file
 use Rattle.ds2_answer.specs.declared.kinds.SourceReason.TheVariants.{Rule, NotBuilt}
 use Rattle.ds2_answer.specs.declared.kinds.TheConstants.{SOURCE_LIMIT, TABLE_LIMIT}
@@ -124,7 +123,7 @@ on_built true parts budget files = on_inputs (names_or_refusal (source_inputs pa
 
 -- a text that is no source is refused, or its tree is looked at
 abbrev pub on_source : SourceAnswer → ℕ → Files → Script
-on_source (Err refusal) budget files = on_refusal (refusal_of_text refusal)
+on_source (Err refusal) budget files = on_refusal refusal
 on_source (Ok parts) budget files = on_built (is_built_source parts) parts budget files
 
 -- a file of a source that is no text is refused, or its text is read

@@ -2,7 +2,7 @@
 use Rattle.std.specs.Prelude.{◌≡◌, ℕ, List, None}
 use Rattle.ds2_base.specs.declared.place.Place.{Place}
 use Rattle.ds2_value.specs.declared.fault.Fault.{Fault}
-use Rattle.ds2_compile.specs.Laws.{SourcesRead}
+use Rattle.ds2_source.specs.AnswersOfTexts.{SourcesRead}
 use Rattle.ds2_outside.specs.Files.{Files}
 use Rattle.ds2_answer.specs.declared.status.Status.TheVariants as ended
 use Rattle.ds2_answer.specs.Actions.{actions, files_left, log_text, status_of}

@@ -8,11 +8,11 @@ use Rattle.ds2_value.specs.declared.fault.Fault.{Fault}
 use Rattle.ds2_table.specs.OneThread.{Answer}
 use Rattle.ds2_csv.specs.Reads.{reads}
 use Rattle.ds2_outside.specs.Files.{Files, file}
-use Rattle.ds2_tree.specs.Units.{SourcePart}
-use Rattle.ds2_compile.specs.SourceAnswer.{IsSourceAnswer}
-use Rattle.ds2_meaning.specs.ProgramMeaning.{program_answer}
-use Rattle.ds2_meaning.specs.ProgramTree.{UnitTree, OverTables}
-use Rattle.ds2_elaboration.specs.Elaboration.{elaborated_source}
+use Rattle.ds2_source.specs.Units.{SourcePart}
+use Rattle.ds2_source.specs.SourceAnswer.{IsSourceAnswer}
+use Rattle.ds2_source.specs.ProgramMeaning.{program_answer}
+use Rattle.ds2_source.specs.ProgramTree.{UnitTree, OverTables}
+use Rattle.ds2_source.specs.Elaboration.{elaborated_source}
 use Rattle.ds2_source.specs.BuiltSources.{is_built_source}
 use Rattle.ds2_source.specs.InputTables.{source_inputs, names_or_refusal}
 use Rattle.ds2_answer.specs.declared.kinds.TheConstants.{SOURCE_LIMIT, TABLE_LIMIT}

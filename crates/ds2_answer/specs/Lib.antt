@@ -8,3 +8,5 @@ pub mod Load
 pub mod Answer
 pub mod Fault
 pub mod AnswerLaws
+pub use Rattle.ds2_csv.specs.Reads
+pub use Rattle.ds2_csv.specs.declared.refusal.CsvRefusal

@@ -7,14 +7,14 @@ use Rattle.ds2_value.specs.declared.fault.Fault.{Fault}
 use Rattle.ds2_value.specs.declared.fault.Fault.TheVariants.{Overflow, DivideByZero, Range, NoWhen, BudgetSpent, DepthReached}
 use Rattle.ds2_csv.specs.declared.refusal.CsvKind.{CsvKind}
 use Rattle.ds2_csv.specs.declared.refusal.CsvKind.TheVariants as csv
-use Rattle.ds2_token.specs.declared.kinds.LexKind.{LexKind}
-use Rattle.ds2_token.specs.declared.kinds.LexKind.TheVariants.{BadCharacter, OpenText, OpenComment, NumberTooLong, DoubleConstant, BadName, TextTooLong}
-use Rattle.ds2_grammar.specs.declared.kind.ParseKind.{ParseKind}
-use Rattle.ds2_grammar.specs.declared.kind.ParseKind.TheVariants.{Unexpected, TooDeep}
-use Rattle.ds2_meaning.specs.declared.refusals.ScopeKind.{ScopeKind}
-use Rattle.ds2_meaning.specs.declared.refusals.ScopeKind.TheVariants as scope
-use Rattle.ds2_meaning.specs.declared.refusals.TypeKind.{TypeKind}
-use Rattle.ds2_meaning.specs.declared.refusals.TypeKind.TheVariants as types
+use Rattle.ds2_source.specs.LexKind.{LexKind}
+use Rattle.ds2_source.specs.LexKind.TheVariants.{BadCharacter, OpenText, OpenComment, NumberTooLong, DoubleConstant, BadName, TextTooLong}
+use Rattle.ds2_source.specs.ParseKind.{ParseKind}
+use Rattle.ds2_source.specs.ParseKind.TheVariants.{Unexpected, TooDeep}
+use Rattle.ds2_source.specs.ScopeKind.{ScopeKind}
+use Rattle.ds2_source.specs.ScopeKind.TheVariants as scope
+use Rattle.ds2_source.specs.TypeKind.{TypeKind}
+use Rattle.ds2_source.specs.TypeKind.TheVariants as types
 use Rattle.ds2_source.specs.declared.kinds.SourceKind.TheVariants.{Lex, Parse, Scope, Types}
 use Rattle.ds2_answer.specs.declared.kinds.SourceReason.{SourceReason}
 use Rattle.ds2_answer.specs.declared.kinds.SourceReason.TheVariants.{Rule, NotBuilt}

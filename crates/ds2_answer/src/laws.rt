@@ -1,7 +1,7 @@
 //! Laws of the answer, over the definitions alone: each function's contract is one, and its body does nothing.
 ghost use Rattle.ds2_answer.specs.AnswerLaws.{FaultsAreFirst, FaultsAreSaid, RefusalsWriteNothing, RefusedWordsAreUsage};
 
-use ds2_compile::laws::one_source_answer;
+use ds2_source::laws::one_source_answer;
 
 /// Words that are no command are answered with their line alone, and no others with that status.
 pub fn refused_words_are_usage()

@@ -18,6 +18,7 @@ pub mod lines;
 mod status;
 mod words;
 
+pub use ds2_csv::{CsvRefusal, read_table};
 pub use kinds::{FileKind, SOURCE_LIMIT, SourceReason, TABLE_LIMIT};
 pub use status::Status;
 pub use words::{Command, DEFAULT_BUDGET, MOST_BUDGET, read_words};

@@ -6,10 +6,7 @@ ghost use Rattle.ds2_answer.specs.Lines.{error_line, fault_line, fault_text, fil
 use crate::{FileKind, SourceReason};
 use ds2_base::{Bytes, Name, OutOfMemory, Place, Text};
 use ds2_csv::{CsvKind, CsvRefusal};
-use ds2_grammar::ParseKind;
-use ds2_meaning::{ScopeKind, TypeKind};
-use ds2_source::SourceKind;
-use ds2_token::LexKind;
+use ds2_source::{LexKind, ParseKind, ScopeKind, SourceKind, TypeKind};
 use ds2_value::Fault;
 use std::alloc::{AllocError, Global};
 

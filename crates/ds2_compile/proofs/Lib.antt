@@ -1,1 +1,5 @@
-pub mod SourceAnswers
+pub mod StagedCodes
+pub mod SchemaLemmas
+pub mod SourceTables
+pub mod PlainPrograms
+pub mod CompiledOutcomes

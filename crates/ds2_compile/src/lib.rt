@@ -1,17 +1,22 @@
-//! From the text of a source on.
+//! From a source to code.
 //!
-//! [`read_source`] gives the syntax tree of a text, or its first refusal with kind and place. What that is stands in
-//! `specs/SourceAnswer.antt`, by the tokens that stand for the text and the grammar that reads them; [`laws`] say that there is
-//! exactly one answer for each text.
+//! [`compile`] gives the code of the programs of a source, or the source's first refusal. Each program's code means the same as the
+//! program: over any tables and with every budget both leave the same rows and lines and end alike.
 //!
 //! ```text
 //! let source = read_source(alloc, &text)?;
+//! let compiled = compile(alloc, &source, &schemas)?;
 //! ```
 #![tactic(auto)]
 
-mod kinds;
-pub mod laws;
-mod source;
+mod compiling;
+mod schemas;
 
-pub use kinds::{SourceKind, SourceRefusal};
-pub use source::read_source;
+pub use compiling::{Compiled, compile};
+pub use ds2_code::{HashPart, HashTable, ReadPart, ReadingPart, TableReference};
+pub use ds2_names::{NamedSchema, Schemas};
+pub use ds2_source::laws::{one_source_answer, sources_are_read};
+pub use ds2_source::{SourceRefusal, input_names, is_built_source, read_source};
+pub use ds2_tree::Source;
+pub use ds2_valid_code::ProgramCode;
+pub use ds2_value::Schema;

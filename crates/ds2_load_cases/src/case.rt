@@ -1,5 +1,5 @@
 //! One case.
-ghost use Rattle.std.specs.Prelude.{◌≤◌, IsTrue, length};
+ghost use Rattle.std.specs.Prelude.{◌≡◌, ◌≤◌, IsTrue, length};
 ghost use Rattle.ds2_reading.specs.ReadingFits.{reading_fits_tables};
 ghost use Rattle.ds2_by_order.specs.CursorState.{group_count};
 ghost use Rattle.ds2_load_cases.specs.LoadCursors.{cursor_in};
@@ -23,10 +23,20 @@ struct Width {
     bys: usize,
 }
 
+// A cursor of `set` without BY variables.
+fn open_rows(alloc: Global, statement: &Statement) -> Result<LoadCursor, Mistake>
+    requires fits { IsTrue (reading_fits_tables statement.now.tables statement.now.reading) }
+    requires bys { length statement.now.reading.bys ≡ 0 }
+{
+    let cursor = SetCursor::open(alloc, &statement.reading, &statement.tables, 0)?;
+    Ok(LoadCursor::Set(cursor))
+}
+
 // A cursor of `set`.
 fn open_set(alloc: Global, statement: &Statement, grain: u32) -> Result<LoadCursor, Mistake>
     requires fits { IsTrue (reading_fits_tables statement.now.tables statement.now.reading) }
     requires grain { grain ≤ length statement.now.reading.bys }
+    requires above { 1 ≤ grain }
 {
     let cursor = SetCursor::open(alloc, &statement.reading, &statement.tables, grain)?;
     Ok(LoadCursor::Set(cursor))
@@ -36,12 +46,28 @@ fn open_set(alloc: Global, statement: &Statement, grain: u32) -> Result<LoadCurs
 fn open_merge(alloc: Global, statement: &Statement, grain: u32) -> Result<LoadCursor, Mistake>
     requires fits { IsTrue (reading_fits_tables statement.now.tables statement.now.reading) }
     requires grain { grain ≤ length statement.now.reading.bys }
+    requires above { 1 ≤ grain }
 {
-    if grain == 0 {
-        return Err(Mistake::NoGrain);
-    }
     let cursor = MergeCursor::open(alloc, &statement.reading, &statement.tables, grain)?;
     Ok(LoadCursor::Merge(cursor))
+}
+
+// The cursor of a statement with groups by BY variables.
+fn open_by(
+    alloc: Global,
+    statement: &Statement,
+    is_merge: bool,
+    grain: u32,
+) -> Result<LoadCursor, Mistake>
+    requires fits { IsTrue (reading_fits_tables statement.now.tables statement.now.reading) }
+    requires grain { grain ≤ length statement.now.reading.bys }
+    requires above { 1 ≤ grain }
+{
+    if is_merge {
+        open_merge(alloc, statement, grain)
+    } else {
+        open_set(alloc, statement, grain)
+    }
 }
 
 // The cursor of a statement.
@@ -57,11 +83,13 @@ fn open(
     if grain as usize > statement.reading.bys.len() {
         return Err(Mistake::GrainTooFine);
     }
-    if is_merge {
-        open_merge(alloc, statement, grain)
-    } else {
-        open_set(alloc, statement, grain)
+    if grain > 0 {
+        return open_by(alloc, statement, is_merge, grain);
     }
+    if is_merge || !statement.reading.bys.is_empty() {
+        return Err(Mistake::NoGrain);
+    }
+    open_rows(alloc, statement)
 }
 
 // A load behind some words, or that there is none.

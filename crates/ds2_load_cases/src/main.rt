@@ -4,7 +4,7 @@
 //!
 //! - `merge`, where the statement is one, and `set` where no line says so;
 //! - `by NAME` and `by NAME descending`, its BY variables in order;
-//! - `grain P`, by how many of them loads are in one group; 0 where no line says it;
+//! - `grain P`, by how many of them loads are in one group; 0, which a statement with BY variables cannot have, where no line says it;
 //! - `table`, and below it a table as a CSV file has it.
 //!
 //! Standard output gets the case again and, below it, its loads in order: for each table the number of its row, from 1, or `-`; `fresh`

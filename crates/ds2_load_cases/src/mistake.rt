@@ -14,7 +14,7 @@ pub enum Mistake {
     NoFit,
     #[error("a grain above the number of BY variables")]
     GrainTooFine,
-    #[error("a merge without a grain")]
+    #[error("no grain, which a merge and BY variables ask for")]
     NoGrain,
     #[error("want of memory")]
     OutOfMemory,

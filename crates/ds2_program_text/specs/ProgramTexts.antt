@@ -3,11 +3,11 @@ use Rattle.std.specs.Prelude.{◌≡◌, ℕ, Bool, List, [], length, map, Some}
 use Rattle.ds2_table.specs.OneThread.{Answer}
 use Rattle.ds2_table.specs.Table.{Contents}
 use Rattle.ds2_csv.specs.Text as csv
-use Rattle.ds2_meaning.specs.ProgramMeaning.{program_answer, MadeTable, tables_made}
-use Rattle.ds2_meaning.specs.ProgramTree.{UnitTree, ProgramTree, reader_of}
-use Rattle.ds2_meaning.specs.Reading.{TableRows}
+use Rattle.ds2_same_meaning.specs.ProgramMeaning.{program_answer, MadeTable, tables_made}
+use Rattle.ds2_same_meaning.specs.ProgramTree.{UnitTree, ProgramTree, reader_of}
+use Rattle.ds2_same_meaning.specs.Reading.{TableRows}
 use Rattle.ds2_code.specs.declared.parts.StagedParts.{StagedParts}
-use Rattle.ds2_same_answer.specs.SameAnswer.{HaveRowsMentioned}
+use Rattle.ds2_same_meaning.specs.SameAnswer.{HaveRowsMentioned}
 use Rattle.ds2_same_meaning.specs.SameMeaning.{MeansSame}
 use Rattle.ds2_program_text.specs.declared.program_text.ProgramText.{ProgramText}
 use Rattle.ds2_program_text.specs.declared.written_table.WrittenTable.{WrittenTable}

@@ -18,6 +18,9 @@ mod run;
 mod table_sink;
 mod written_table;
 
+pub use ds2_reading::Tables;
+pub use ds2_table::Table;
+pub use ds2_value::{Ending, Fault};
 pub use program_text::ProgramText;
 pub use run::run_program;
 pub use written_table::WrittenTable;

@@ -2,7 +2,7 @@
 ghost use Rattle.std.specs.Prelude.{◌≡◌, ◌≤◌, [], map, IfOk};
 ghost use Rattle.ds2_code.specs.declared.parts.OutputPart.{OutputPart};
 ghost use Rattle.ds2_machine.specs.declared.machine.TheConstants.{MOST_BUDGET};
-ghost use Rattle.ds2_code_answer.specs.CodeTables.{AreTablesOfCode};
+ghost use Rattle.ds2_same_meaning.specs.CodeTables.{AreTablesOfCode};
 ghost use Rattle.ds2_unit.specs.UnitsRun.{IsBuiltReading};
 ghost use Rattle.ds2_program_text.specs.OutputHeads.{table_without_rows};
 ghost use Rattle.ds2_program_text.specs.ProgramTexts.{LeavesAsMeant};

@@ -45,7 +45,8 @@ impl Model for SetCursor {
 }
 
 impl SetCursor {
-    /// Sorts the rows of the tables and finds where the groups of this grain begin.
+    /// Sorts the rows of the tables and finds where the groups of this grain begin: a grain above 0 where there are BY variables, at
+    /// most as many as these.
     pub fn open(
         alloc: Global,
         reading: &Reading,
@@ -54,6 +55,7 @@ impl SetCursor {
     ) -> Result<SetCursor, OutOfMemory>
         requires fits { IsTrue (reading_fits_tables tables.now reading.now) }
         requires grain { grain ≤ length reading.now.bys }
+        requires above { 1 ≤ length reading.now.bys → 1 ≤ grain }
         ensures { IfOk result (λ cursor. cursor
             ≡ cursor_at_start (length reading.now.tables) (length reading.now.bys) grain
             (set_loads (directions_of reading.now.bys) (keys_of_reading tables.now reading.now))) }
@@ -79,7 +81,8 @@ impl SetCursor {
         next_load(&self.tables, &mut self.place)
     }
 
-    /// The number of groups: at grain p > 0 of loads with equal values of the first p BY variables, at grain 0 of loads.
+    /// The number of groups: at grain p > 0 of loads with equal values of the first p BY variables, at grain 0, without BY variables, of
+    /// loads.
     pub fn groups(&self) -> u64
         ensures { result ≡ group_count self.now }
     {

@@ -1,55 +1,12 @@
 //! Which sources are of a form that is built so far.
-ghost use Rattle.std.specs.Prelude.{◌≡◌, ◌&&◌, is_none, map, true};
+ghost use Rattle.std.specs.Prelude.{◌≡◌, map};
 ghost use Rattle.std.specs.Bool.{OnTrue};
-ghost use Rattle.std.specs.Option.{option_map_or};
 ghost use Rattle.std.specs.List.{list_all, list_any};
 ghost use Rattle.ds2_tree.specs.UnitViews.{global_tree, part_tree, source_tree};
 ghost use Rattle.ds2_elaboration.specs.Elaboration.{IsDataSource};
-ghost use Rattle.ds2_source.specs.BuiltSources.{has_no_flag, is_built_reading, is_built_global, is_built_part, is_data_part, has_one_program_at_most, is_built_source};
+ghost use Rattle.ds2_source.specs.BuiltSources.{is_built_global, is_built_part, is_data_part, has_one_program_at_most, is_built_source};
 
-use ds2_tree::{By, Declaration, GlobalItem, Input, Reading, Source, SourcePart};
-
-// Whether an input has no `in=`.
-fn has_no_flag(input: &Input) -> bool
-    ensures { result ≡ has_no_flag input.now }
-{
-    input.flag.is_none()
-}
-
-// Whether no input has an `in=`.
-fn have_no_flags(inputs: &[Input]) -> bool
-    ensures { result ≡ list_all has_no_flag inputs.now }
-{
-    inputs.iter().all(|input| has_no_flag(input))
-}
-
-// Whether `set` has neither a `by` nor an `in=`.
-fn is_built_set(inputs: &[Input], by: &Option<By>) -> bool
-    ensures { result ≡ (is_none by.now && list_all has_no_flag inputs.now) }
-{
-    by.is_none() && have_no_flags(inputs)
-}
-
-// Whether a reading statement is built.
-fn is_built_reading(reading: &Reading) -> bool
-    ensures { result ≡ is_built_reading reading.now }
-{
-    match reading {
-        Reading::Set { inputs, by, .. } => is_built_set(inputs.as_slice(), by),
-        Reading::SetFrom { .. } => true,
-        Reading::Merge { .. } => false,
-    }
-}
-
-// Whether a method without a reading statement, or with this one, is built.
-fn is_built_method(reading: &Option<Reading>) -> bool
-    ensures { result ≡ option_map_or is_built_reading reading.now true }
-{
-    match reading {
-        None => true,
-        Some(reading) => is_built_reading(reading),
-    }
-}
+use ds2_tree::{Declaration, GlobalItem, Source, SourcePart};
 
 // Whether a part of a unit is built.
 fn is_built_global(global: &GlobalItem) -> bool
@@ -57,7 +14,7 @@ fn is_built_global(global: &GlobalItem) -> bool
 {
     match global {
         GlobalItem::Listed { .. } => true,
-        GlobalItem::Method(m) => is_built_method(&m.reading),
+        GlobalItem::Method(_) => true,
         GlobalItem::Declaration(declaration) => match declaration {
             Declaration::Variables(_) => true,
             Declaration::Instance { .. } => false,
@@ -154,8 +111,8 @@ fn is_built(parts: &[SourcePart]) -> bool
 }
 
 /// Whether a source is of a form that is built so far. It is not exactly where it has a package, a thread program, a declaration of
-/// either, of a hash object or of an iterator, `by`, `merge`, `in=`, or more than one data program. A source that is built has data
-/// programs without instances alone.
+/// either, of a hash object or of an iterator, or more than one data program. A source that is built has data programs without instances
+/// alone.
 pub fn is_built_source(source: &Source) -> bool
     ensures built { result ≡ is_built_source (source_tree source.now) }
     ensures data { OnTrue result (IsDataSource (source_tree source.now)) }

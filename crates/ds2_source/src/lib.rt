@@ -2,7 +2,8 @@
 //!
 //! [`read_source`] gives the syntax tree of a text or its first refusal, [`is_built_source`] tells whether a tree is of a form that is
 //! built so far, and [`input_names`] gives the tables that must come from the store. [`SourceRefusal`] has the kinds of all refusals of a
-//! source.
+//! source. What a text is read as stands in `specs/SourceAnswer.antt`, by the tokens that stand for the text and the grammar that reads
+//! them; [`laws`] say that there is exactly one answer for each text.
 //!
 //! ```text
 //! let source = read_source(alloc, &text)?;
@@ -15,11 +16,15 @@
 mod built;
 mod inputs;
 mod kinds;
+pub mod laws;
 mod mentions;
 mod programs;
 mod source;
 
 pub use built::is_built_source;
+pub use ds2_grammar::ParseKind;
+pub use ds2_meaning::{ScopeKind, TypeKind};
+pub use ds2_token::LexKind;
 pub use inputs::{MOST_TABLES, input_names};
 pub use kinds::{SourceKind, SourceRefusal};
 pub use programs::first_program;

@@ -1,35 +1,42 @@
 //! The tree of a source.
-ghost use Rattle.std.specs.Prelude.{◌≡◌, ◌<◌, ◌+◌, ◌^◌, IfOk, length};
+ghost use Rattle.std.specs.Prelude.{◌<◌, ◌+◌, ◌^◌, IfOk, length};
 ghost use Rattle.ds2_tree.specs.UnitViews.{source_tree};
-ghost use Rattle.ds2_source.specs.SourceTexts.{refusal_of_text, GivesTree, StandsInText};
+ghost use Rattle.ds2_source.specs.SourceAnswer.{GivesAnswerForTokens, GivesSourceAnswer};
+ghost use Rattle.ds2_source.specs.SourceTexts.{StandsInText};
 
 use crate::{SourceKind, SourceRefusal};
-use ds2_base::{Stop, Text};
+use ds2_base::{List, Place, Refusal, Stop, Text};
+use ds2_parse::parse;
+use ds2_token::{Token, end_place, tokens};
 use ds2_tree::Source;
 use std::alloc::Global;
 
-// A refusal of a text, among those of a source.
-fn of_text(refusal: ds2_compile::SourceRefusal) -> SourceRefusal
-    ensures { result ≡ refusal_of_text refusal }
+// The tree of the tokens of a text that ends at `end`.
+fn parsed(alloc: Global, tokens: &List<Token>, end: Place) -> Result<Source, Stop<SourceRefusal>>
+    ensures { GivesAnswerForTokens end tokens.now result }
 {
-    let kind = match refusal.kind {
-        ds2_compile::SourceKind::Lex(kind) => SourceKind::Lex(kind),
-        ds2_compile::SourceKind::Parse(kind) => SourceKind::Parse(kind),
-    };
-    SourceRefusal {
-        kind,
-        place: refusal.place,
+    match parse(alloc, tokens, end) {
+        Ok(source) => Ok(source),
+        Err(Stop::Refused(Refusal { kind, place })) => Err(Stop::Refused(SourceRefusal {
+            kind: SourceKind::Parse(kind),
+            place,
+        })),
+        Err(Stop::OutOfMemory) => Err(Stop::OutOfMemory),
     }
 }
 
 /// The syntax tree of a text. It is refused with the lexer's first refusal or, where all of it is tokens, with the parser's.
+#[tactic(auto, using(crate::proofs::TextLemmas::tree_in_text))]
 pub fn read_source(alloc: Global, text: &Text) -> Result<Source, Stop<SourceRefusal>>
-    ensures answer { GivesTree text.now result }
+    ensures answer { GivesSourceAnswer text.now result }
     ensures tree { length text.now + 1 < 2 ^ 32 → IfOk result (λ source. StandsInText (source_tree source)) }
 {
-    match ds2_compile::read_source(alloc, text) {
-        Ok(source) => Ok(source),
-        Err(Stop::Refused(refusal)) => Err(Stop::Refused(of_text(refusal))),
+    match tokens(alloc, text) {
+        Ok(tokens) => parsed(alloc, &tokens, end_place(text)),
+        Err(Stop::Refused(Refusal { kind, place })) => Err(Stop::Refused(SourceRefusal {
+            kind: SourceKind::Lex(kind),
+            place,
+        })),
         Err(Stop::OutOfMemory) => Err(Stop::OutOfMemory),
     }
 }

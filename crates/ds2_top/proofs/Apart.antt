@@ -3,14 +3,14 @@ use Rattle.std.proofs.Common.{◌≡◌, ℕ, ◌+◌, Bool, true, false, bytes_
 use Rattle.std.specs.Prelude.{if◌then◌else◌}
 use Rattle.std.proofs.lemmas.List.{map-append}
 use Rattle.std.proofs.lemmas.List.Folds.{list_any-append}
-use Rattle.ds2_tree.specs.Units.{SourcePart}
-use Rattle.ds2_meaning.specs.ProgramTree.{is_listed}
-use Rattle.ds2_meaning.specs.declared.readings.MentionedTable.{MentionedTable}
-use Rattle.ds2_names.specs.SourceLimits.{first_mentions, store_tables, tables_of_store, tables_made_by, globals_in, outputs_in, data_programs_in}
-use Rattle.ds2_names.specs.SourceUnit.{PlacedName, names_alone}
-use Rattle.ds2_source.specs.InputTables.{source_inputs, names_or_refusal, unless_beyond}
-use Rattle.ds2_source.specs.declared.inputs.TheConstants.{MOST_TABLES}
-use Rattle.ds2_source.specs.declared.kinds.SourceRefusal.{SourceRefusal}
+use Rattle.ds2_compile.specs.Units.{SourcePart}
+use Rattle.ds2_compile.specs.ProgramTree.{is_listed}
+use Rattle.ds2_compile.specs.MentionedTable.{MentionedTable}
+use Rattle.ds2_compile.specs.SourceLimits.{first_mentions, store_tables, tables_of_store, tables_made_by, globals_in, outputs_in, data_programs_in}
+use Rattle.ds2_compile.specs.SourceUnit.{PlacedName, names_alone}
+use Rattle.ds2_compile.specs.InputTables.{source_inputs, names_or_refusal, unless_beyond}
+use Rattle.ds2_compile.specs.InputConstants.{MOST_TABLES}
+use Rattle.ds2_compile.specs.SourceRefusal.{SourceRefusal}
 use Rattle.ds2_top.specs.ReadTables.{AreApart, AreApartFrom}
 
 -- two tests that tell the same

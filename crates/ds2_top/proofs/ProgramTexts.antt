@@ -3,20 +3,20 @@ use Rattle.std.proofs.Common.{◌≡◌, ◌<◌, ◌∙◌, IsErrAnd, ℕ, List
 use Rattle.std.specs.List.{AllByRecursion}
 use Rattle.std.proofs.lemmas.List.{append-nil}
 use Rattle.ds2_base.specs.declared.place.Place.{Place}
-use Rattle.ds2_value.specs.declared.fault.Fault.{Fault}
-use Rattle.ds2_value.specs.declared.fault.Ending.{Ending}
-use Rattle.ds2_value.specs.declared.fault.Ending.TheVariants.{Normal, Faulted}
-use Rattle.ds2_table.specs.OneThread.{Answer}
-use Rattle.ds2_table.specs.Table.{Contents}
+use Rattle.ds2_program_text.specs.Fault.{Fault}
+use Rattle.ds2_program_text.specs.Ending.{Ending}
+use Rattle.ds2_program_text.specs.Ending.TheVariants.{Normal, Faulted}
+use Rattle.ds2_program_text.specs.OneThread.{Answer}
+use Rattle.ds2_program_text.specs.Table.{Contents}
 use Rattle.ds2_outside.specs.Files.{Files}
-use Rattle.ds2_names.specs.SourceUnit.{TableColumns}
-use Rattle.ds2_meaning.specs.ProgramMeaning.{MadeTable, program_answer, tables_left, tables_left_at, tables_made}
-use Rattle.ds2_meaning.specs.ProgramTree.{UnitTree, OverTables}
-use Rattle.ds2_code.specs.declared.parts.StagedParts.{StagedParts}
-use Rattle.ds2_code_answer.specs.CodeTables.{AreTablesOfCode, program_references}
-use Rattle.ds2_same_answer.specs.SameAnswer.{HaveRowsMentioned}
-use Rattle.ds2_same_meaning.specs.SameMeaning.{MeansSame}
-use Rattle.ds2_compiled.specs.CompiledSources.{AreCompiledPrograms}
+use Rattle.ds2_compile.specs.SourceUnit.{TableColumns}
+use Rattle.ds2_compile.specs.ProgramMeaning.{MadeTable, program_answer, tables_left, tables_left_at, tables_made}
+use Rattle.ds2_compile.specs.ProgramTree.{UnitTree, OverTables}
+use Rattle.ds2_compile.specs.StagedParts.{StagedParts}
+use Rattle.ds2_compile.specs.CodeTables.{AreTablesOfCode, program_references}
+use Rattle.ds2_compile.specs.SameAnswer.{HaveRowsMentioned}
+use Rattle.ds2_compile.specs.SameMeaning.{MeansSame}
+use Rattle.ds2_compile.specs.CompiledSources.{AreCompiledPrograms}
 use Rattle.ds2_program_text.specs.ProgramTexts.{IsTextOfAnswer, LeavesAsMeant, made_as_text}
 use Rattle.ds2_program_text.specs.declared.program_text.ProgramText.{ProgramText}
 use Rattle.ds2_program_text.specs.declared.written_table.WrittenTable.{WrittenTable}

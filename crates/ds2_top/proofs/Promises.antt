@@ -1,7 +1,7 @@
 -- The promises of the top call, each from what a command leaves.
 use Rattle.std.proofs.Common.{◌≡◌, ◌⊎◌, ◌∙◌, ◌++◌, inl, inr, ℕ, List, [], length, refl, sym, ap, subst, arith, ◌≤◌, Option, Some, None, IfSome, IsSome, Result, Ok, Err}
 use Rattle.std.proofs.lemmas.List.{take_all}
-use Rattle.ds2_compile.specs.Laws.{SourcesRead}
+use Rattle.ds2_compile.specs.AnswersOfTexts.{SourcesRead}
 use Rattle.ds2_outside.specs.Files.{Files}
 use Rattle.ds2_top.specs.declared.halt.Halt.{Halt}
 use Rattle.ds2_top.specs.declared.halt.Halt.TheVariants.{Ended, OutOfMemory}

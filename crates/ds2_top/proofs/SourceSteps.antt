@@ -8,26 +8,24 @@ use Rattle.ds2_base.specs.Text.{text_of}
 use Rattle.ds2_base.specs.declared.place.Place.{Place}
 use Rattle.ds2_base.specs.declared.stop.Stop.{Stop}
 use Rattle.ds2_base.specs.declared.stop.Stop.TheVariants.{Refused}
-use Rattle.ds2_table.specs.Table.{Contents}
-use Rattle.ds2_csv.specs.Reads.{reads}
+use Rattle.ds2_program_text.specs.Table.{Contents}
+use Rattle.ds2_answer.specs.Reads.{reads}
 use Rattle.ds2_outside.specs.Files.{Files, with_file}
-use Rattle.ds2_tree.specs.Units.{SourcePart}
-use Rattle.ds2_compile.specs.Laws.{OneSourceAnswer, SourcesRead}
+use Rattle.ds2_compile.specs.Units.{SourcePart}
+use Rattle.ds2_compile.specs.AnswersOfTexts.{OneSourceAnswer, SourcesRead}
 use Rattle.ds2_compile.specs.SourceAnswer.{SourceAnswer, IsSourceAnswer}
-use Rattle.ds2_compile.specs.declared.kinds.SourceRefusal as text_refusal
-use Rattle.ds2_names.specs.SourceUnit.{TableColumns, names_alone}
-use Rattle.ds2_code.specs.declared.parts.StagedParts.{StagedParts}
-use Rattle.ds2_source.specs.Answers.{AnswersWith}
-use Rattle.ds2_meaning.specs.ProgramTree.{UnitTree}
-use Rattle.ds2_meaning.specs.Reading.{TableRows}
-use Rattle.ds2_elaboration.specs.Elaboration.{ProgramRefusal, elaborated_source}
-use Rattle.ds2_source.specs.BuiltSources.{is_built_source}
-use Rattle.ds2_source.specs.InputTables.{source_inputs, names_or_refusal}
-use Rattle.ds2_source.specs.SourceTexts.{refusal_of_text}
-use Rattle.ds2_source.specs.declared.kinds.SourceRefusal.{SourceRefusal}
-use Rattle.ds2_typed_source.specs.SourceOutcomes.{source_refusal_of}
-use Rattle.ds2_compiled.specs.CompiledSources.{AreCompiledPrograms, IsCompiled, IsOutcomeCompiled}
-use Rattle.ds2_compiled.specs.declared.compiling.Compiled.{Compiled}
+use Rattle.ds2_compile.specs.SourceUnit.{TableColumns, names_alone}
+use Rattle.ds2_compile.specs.StagedParts.{StagedParts}
+use Rattle.ds2_compile.specs.Answers.{AnswersWith}
+use Rattle.ds2_compile.specs.ProgramTree.{UnitTree}
+use Rattle.ds2_compile.specs.Reading.{TableRows}
+use Rattle.ds2_compile.specs.Elaboration.{ProgramRefusal, elaborated_source}
+use Rattle.ds2_compile.specs.BuiltSources.{is_built_source}
+use Rattle.ds2_compile.specs.InputTables.{source_inputs, names_or_refusal}
+use Rattle.ds2_compile.specs.SourceRefusal.{SourceRefusal}
+use Rattle.ds2_compile.specs.SourceRefusals.{source_refusal_of}
+use Rattle.ds2_compile.specs.CompiledSources.{AreCompiledPrograms, IsCompiled, IsOutcomeCompiled}
+use Rattle.ds2_compile.specs.declared.compiling.Compiled.{Compiled}
 use Rattle.ds2_answer.specs.declared.kinds.SourceReason.TheVariants.{Rule, NotBuilt}
 use Rattle.ds2_answer.specs.declared.kinds.TheConstants.{SOURCE_LIMIT, TABLE_LIMIT}
 use Rattle.ds2_answer.specs.declared.status.Status.{Status}
@@ -175,13 +173,13 @@ tree_does one sources text parts budget said log told now result is does =
 
 -- a text that is no source is refused
 pub text_refused : OneSourceAnswer → (sources : SourcesRead) (text : Bytes) (given : SourceRefusal) (budget : ℕ) (said log : List ℕ) (told now : Option Files) (halt : Halt)
-    → (first : text_refusal.SourceRefusal) × IsSourceAnswer text (Err first) × (given ≡ refusal_of_text first)
+    → IsSourceAnswer text (Err given)
     → EndsAs ended.Source (source_line (Rule given.kind) given.place) said halt log → now ≡ told
     → OverFiles told (λ files. DoesAll (on_source (sources.answer_for text) budget files) said told (Err halt) log now)
-text_refused one sources text given budget said log told now halt (first, is, given_is) ends same =
-    over_line (λ files. on_source (sources.answer_for text) budget files) ended.Source (source_line (Rule (refusal_of_text first).kind) (refusal_of_text first).place) said log told now halt
-    (λ files. ap (λ (read : SourceAnswer). on_source read budget files) (one text (sources.answer_for text) (Err first) (sources.is_answer text) is)) tt
-    (subst (λ (r : SourceRefusal). EndsAs ended.Source (source_line (Rule r.kind) r.place) said halt log) given_is ends) same
+text_refused one sources text given budget said log told now halt is ends same =
+    over_line (λ files. on_source (sources.answer_for text) budget files) ended.Source (source_line (Rule given.kind) given.place) said log told now halt
+    (λ files. ap (λ (read : SourceAnswer). on_source read budget files) (one text (sources.answer_for text) (Err given) (sources.is_answer text) is)) tt
+    ends same
 
 -- ---- the file of a source
 

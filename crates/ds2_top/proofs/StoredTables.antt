@@ -2,17 +2,17 @@
 use Rattle.std.proofs.Common.{◌≡◌, ◌∙◌, ℕ, Bool, true, false, bytes_eq, List, [], ◌∷◌, ◌++◌, map, Option, Some, None, refl, sym, ap}
 use Rattle.std.specs.Prelude.{if◌then◌else◌}
 use Rattle.std.specs.List.{AllByRecursion}
-use Rattle.ds2_value.specs.Row.{Columns}
-use Rattle.ds2_table.specs.Table.{Contents}
-use Rattle.ds2_names.specs.SourceUnit.{columns_stored}
-use Rattle.ds2_meaning.specs.ProgramTree.{UnitTree, OverTables}
-use Rattle.ds2_code.specs.declared.parts.HashTable.{HashTable}
-use Rattle.ds2_code.specs.declared.parts.StagedParts.{StagedParts}
-use Rattle.ds2_code.specs.declared.parts.TableReference.{TableReference}
-use Rattle.ds2_code_answer.specs.CodeTables.{AreTablesOfCode, columns_had, columns_named, program_references, rows_of_each, with_loaded_table}
-use Rattle.ds2_same_answer.specs.SameAnswer.{HaveRowsMentioned}
-use Rattle.ds2_same_meaning.specs.SameMeaning.{MeansSame, table_referred}
-use Rattle.ds2_compiled.specs.CompiledSources.{IsStoreTable}
+use Rattle.ds2_compile.specs.Row.{Columns}
+use Rattle.ds2_program_text.specs.Table.{Contents}
+use Rattle.ds2_compile.specs.SourceUnit.{columns_stored}
+use Rattle.ds2_compile.specs.ProgramTree.{UnitTree, OverTables}
+use Rattle.ds2_compile.specs.HashTable.{HashTable}
+use Rattle.ds2_compile.specs.StagedParts.{StagedParts}
+use Rattle.ds2_compile.specs.TableReference.{TableReference}
+use Rattle.ds2_compile.specs.CodeTables.{AreTablesOfCode, columns_had, columns_named, program_references, rows_of_each, with_loaded_table}
+use Rattle.ds2_compile.specs.SameAnswer.{HaveRowsMentioned}
+use Rattle.ds2_compile.specs.SameMeaning.{MeansSame, table_referred}
+use Rattle.ds2_compile.specs.CompiledSources.{IsStoreTable}
 use Rattle.ds2_answer.specs.Answer.{StoredTable, contents_stored, stored_columns, stored_rows}
 use Rattle.ds2_top.specs.ReadTables.{schema_stored, tables_referred}
 

@@ -2,9 +2,9 @@
 use Rattle.std.proofs.Common.{◌≡◌, ◌≢◌, ◌∙◌, ◌||◌, IsErrAnd, inr, Bool, true, false, bytes_eq, ℕ, List, [], ◌∷◌, ◌++◌, codes, Option, Result, Ok, Err, refl, sym, ap, subst}
 use Rattle.std.proofs.lemmas.List.{append_cancel_right}
 use Rattle.std.proofs.lemmas.Slice.Eq.{bytes_eq-Decides}
-use Rattle.ds2_table.specs.Table.{Contents}
-use Rattle.ds2_csv.specs.Reads.{reads}
-use Rattle.ds2_csv.specs.declared.refusal.CsvRefusal.{CsvRefusal}
+use Rattle.ds2_program_text.specs.Table.{Contents}
+use Rattle.ds2_answer.specs.Reads.{reads}
+use Rattle.ds2_answer.specs.CsvRefusal.{CsvRefusal}
 use Rattle.ds2_outside.specs.Files.{Files, file, with_file}
 use Rattle.ds2_answer.specs.declared.kinds.FileKind.{FileKind}
 use Rattle.ds2_answer.specs.declared.kinds.TheConstants.{TABLE_LIMIT}

@@ -1,7 +1,7 @@
 -- What a command leaves that ends in a runtime fault.
 use Rattle.std.specs.Prelude.{ℕ, List}
 use Rattle.ds2_base.specs.declared.place.Place.{Place}
-use Rattle.ds2_value.specs.declared.fault.Fault.{Fault}
+use Rattle.ds2_program_text.specs.Fault.{Fault}
 use Rattle.ds2_outside.specs.Files.{Files}
 use Rattle.ds2_answer.specs.Fault.{FirstFault, fault_log}
 use Rattle.ds2_top.specs.Outside.{Outside, Gained, HoldsFiles}

@@ -1,6 +1,6 @@
 -- What the top call promises.
 use Rattle.std.specs.Prelude.{◌≡◌, ◌⊎◌, ℕ, List, None, IfSome}
-use Rattle.ds2_compile.specs.Laws.{SourcesRead}
+use Rattle.ds2_compile.specs.AnswersOfTexts.{SourcesRead}
 use Rattle.ds2_outside.specs.Files.{Files}
 use Rattle.ds2_answer.specs.declared.status.Status.{Status}
 use Rattle.ds2_answer.specs.declared.status.Status.TheVariants as ended

@@ -1,12 +1,12 @@
 -- What the run of a program does, and which code can be run.
 use Rattle.std.specs.Prelude.{ℕ, List}
 use Rattle.std.specs.List.{AllByRecursion}
-use Rattle.ds2_value.specs.declared.fault.Ending.{Ending}
-use Rattle.ds2_value.specs.declared.fault.Ending.TheVariants.{Normal, Faulted}
-use Rattle.ds2_names.specs.SourceUnit.{TableColumns}
-use Rattle.ds2_code.specs.declared.parts.StagedParts.{StagedParts}
-use Rattle.ds2_code_answer.specs.CodeTables.{program_references}
-use Rattle.ds2_compiled.specs.CompiledSources.{IsRunnable, IsStoreTable}
+use Rattle.ds2_program_text.specs.Ending.{Ending}
+use Rattle.ds2_program_text.specs.Ending.TheVariants.{Normal, Faulted}
+use Rattle.ds2_compile.specs.SourceUnit.{TableColumns}
+use Rattle.ds2_compile.specs.StagedParts.{StagedParts}
+use Rattle.ds2_compile.specs.CodeTables.{program_references}
+use Rattle.ds2_compile.specs.CompiledSources.{IsRunnable, IsStoreTable}
 use Rattle.ds2_program_text.specs.declared.program_text.ProgramText.{ProgramText}
 use Rattle.ds2_program_text.specs.declared.written_table.WrittenTable.{WrittenTable}
 use Rattle.ds2_answer.specs.declared.status.Status.TheVariants as ended

@@ -1,10 +1,10 @@
 -- The reading of tables of the store, and which of them code gets.
 use Rattle.std.specs.Prelude.{◌≡◌, ℕ, Bool, false, bytes_eq, ◌||◌, List, [], ◌∷◌, map, Option, Result, Ok, Err}
-use Rattle.ds2_table.specs.Table.{Contents}
-use Rattle.ds2_csv.specs.Reads.{reads}
-use Rattle.ds2_csv.specs.declared.refusal.CsvRefusal.{CsvRefusal}
-use Rattle.ds2_names.specs.declared.schemas.NamedSchema.{NamedSchema}
-use Rattle.ds2_code.specs.declared.parts.TableReference.{TableReference}
+use Rattle.ds2_program_text.specs.Table.{Contents}
+use Rattle.ds2_answer.specs.Reads.{reads}
+use Rattle.ds2_answer.specs.CsvRefusal.{CsvRefusal}
+use Rattle.ds2_compile.specs.NamedSchema.{NamedSchema}
+use Rattle.ds2_compile.specs.TableReference.{TableReference}
 use Rattle.ds2_outside.specs.Files.{Files}
 use Rattle.ds2_answer.specs.declared.kinds.FileKind.TheVariants as kind
 use Rattle.ds2_answer.specs.declared.kinds.TheConstants.{TABLE_LIMIT}

@@ -6,7 +6,7 @@ ghost use Rattle.ds2_top.specs.Halt.{EndsAs};
 use ds2_answer::lines::{say_error, say_fault, say_refused, say_source_refused, say_usage};
 use ds2_answer::{FileKind, SourceReason, Status};
 use ds2_base::{Bytes, OutOfMemory, Place, Text};
-use ds2_value::Fault;
+use ds2_program_text::Fault;
 use std::alloc::Global;
 
 /// Why a command goes no further. `?` carries it up to the call that writes the log.

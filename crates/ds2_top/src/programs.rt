@@ -1,11 +1,11 @@
 //! The run of the programs of a source, whose tables were read.
 ghost use Rattle.std.specs.Prelude.{◌≡◌, ◌≤◌, ℕ, [], List as Items};
 ghost use Rattle.std.specs.List.{AllByRecursion};
-ghost use Rattle.ds2_value.specs.declared.fault.Ending.TheVariants.{Normal};
-ghost use Rattle.ds2_meaning.specs.ProgramMeaning.{program_answer};
-ghost use Rattle.ds2_meaning.specs.ProgramTree.{UnitTree, OverTables};
-ghost use Rattle.ds2_same_meaning.specs.SameMeaning.{MeansSame};
-ghost use Rattle.ds2_compiled.specs.CompiledSources.{AreCompiledPrograms};
+ghost use Rattle.ds2_program_text.specs.Ending.TheVariants.{Normal};
+ghost use Rattle.ds2_compile.specs.ProgramMeaning.{program_answer};
+ghost use Rattle.ds2_compile.specs.ProgramTree.{UnitTree, OverTables};
+ghost use Rattle.ds2_compile.specs.SameMeaning.{MeansSame};
+ghost use Rattle.ds2_compile.specs.CompiledSources.{AreCompiledPrograms};
 ghost use Rattle.ds2_answer.specs.declared.words.TheConstants.{MOST_BUDGET};
 ghost use Rattle.ds2_answer.specs.Answer.{on_program, on_programs, stored_columns, stored_rows};
 ghost use Rattle.ds2_answer.specs.Script.{Script, part_by_part};
@@ -20,10 +20,9 @@ use crate::stored::{KeptTable, tables_of_code};
 use ds2_answer::Status;
 use ds2_answer::lines::{say_lines, say_table};
 use ds2_base::Bytes;
+use ds2_compile::ProgramCode;
 use ds2_outside::Store;
-use ds2_program_text::{ProgramText, WrittenTable};
-use ds2_valid_code::ProgramCode;
-use ds2_value::Ending;
+use ds2_program_text::{Ending, ProgramText, WrittenTable};
 use std::alloc::Global;
 
 // Writes a table, and counts its rows in the log.

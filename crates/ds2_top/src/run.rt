@@ -1,7 +1,7 @@
 //! What a line of words does to a store, and the text that it gives for the log.
 ghost use Rattle.std.specs.Prelude.{◌≡◌, ◌≤◌, IsTrue, length};
 ghost use Rattle.ds2_base.specs.Text.{text_of};
-ghost use Rattle.ds2_compile.specs.Laws.{SourcesRead};
+ghost use Rattle.ds2_compile.specs.AnswersOfTexts.{SourcesRead};
 ghost use Rattle.ds2_answer.specs.declared.kinds.TheConstants.{SOURCE_LIMIT};
 ghost use Rattle.ds2_answer.specs.declared.words.Command.TheVariants.{Run};
 ghost use Rattle.ds2_answer.specs.declared.words.TheConstants.{MOST_BUDGET};

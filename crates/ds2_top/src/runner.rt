@@ -1,18 +1,16 @@
 //! What reads the tables of a command and runs its programs.
 ghost use Rattle.std.specs.Prelude.{◌≡◌, ◌≤◌, [], IfOk};
 ghost use Rattle.ds2_base.specs.Says.{Says};
-ghost use Rattle.ds2_csv.specs.Reads.{reads};
-ghost use Rattle.ds2_code_answer.specs.CodeTables.{AreTablesOfCode};
-ghost use Rattle.ds2_unit.specs.UnitsRun.{IsBuiltReading};
+ghost use Rattle.ds2_answer.specs.Reads.{reads};
+ghost use Rattle.ds2_compile.specs.CodeTables.{AreTablesOfCode};
+ghost use Rattle.ds2_compile.specs.UnitsRun.{IsBuiltReading};
 ghost use Rattle.ds2_program_text.specs.ProgramTexts.{LeavesAsMeant};
 ghost use Rattle.ds2_answer.specs.declared.words.TheConstants.{MOST_BUDGET};
 
+use ds2_answer::CsvRefusal;
 use ds2_base::{Bytes, OutOfMemory, Stop};
-use ds2_csv::CsvRefusal;
-use ds2_program_text::ProgramText;
-use ds2_reading::Tables;
-use ds2_table::Table;
-use ds2_valid_code::ProgramCode;
+use ds2_compile::ProgramCode;
+use ds2_program_text::{ProgramText, Table, Tables};
 use std::alloc::Global;
 
 /// Reads tables and runs programs, with one worker or with several: what it answers is the same.
@@ -42,7 +40,7 @@ pub(crate) struct Alone;
 
 impl Runner for Alone {
     fn read_table(&self, alloc: Global, bytes: &Bytes) -> Result<Table, Stop<CsvRefusal>> {
-        ds2_csv::read_table(alloc, bytes)
+        ds2_answer::read_table(alloc, bytes)
     }
 
     fn run_program(

@@ -1,11 +1,11 @@
 //! A source over its tables: its tree is looked at, its tables are read, its programs are compiled and run.
 ghost use Rattle.std.specs.Prelude.{◌≡◌, ◌≤◌, ◌<◌, ◌+◌, ◌^◌, [], length, IsTrue};
-ghost use Rattle.ds2_tree.specs.UnitViews.{source_tree};
-ghost use Rattle.ds2_compile.specs.Laws.{SourcesRead};
-ghost use Rattle.ds2_elaboration.specs.Elaboration.{IsDataSource};
-ghost use Rattle.ds2_source.specs.BuiltSources.{is_built_source};
-ghost use Rattle.ds2_source.specs.InputTables.{names_or_refusal, source_inputs};
-ghost use Rattle.ds2_source.specs.SourceTexts.{StandsInText};
+ghost use Rattle.ds2_compile.specs.UnitViews.{source_tree};
+ghost use Rattle.ds2_compile.specs.AnswersOfTexts.{SourcesRead};
+ghost use Rattle.ds2_compile.specs.Elaboration.{IsDataSource};
+ghost use Rattle.ds2_compile.specs.BuiltSources.{is_built_source};
+ghost use Rattle.ds2_compile.specs.InputTables.{names_or_refusal, source_inputs};
+ghost use Rattle.ds2_compile.specs.SourceTexts.{StandsInText};
 ghost use Rattle.ds2_answer.specs.declared.words.TheConstants.{MOST_BUDGET};
 ghost use Rattle.ds2_answer.specs.declared.kinds.SourceReason.TheVariants.{Rule};
 ghost use Rattle.ds2_answer.specs.Answer.{on_built, on_inputs, on_source, on_stored, on_tables};
@@ -22,11 +22,10 @@ use crate::stored::{KeptTable, schemas_of};
 use crate::tables::read_tables;
 use ds2_answer::{SourceReason, Status};
 use ds2_base::{Bytes, Name, Place, Stop, Text};
-use ds2_compile::laws::one_source_answer;
-use ds2_compiled::compile;
+use ds2_compile::{
+    Source, SourceRefusal, compile, input_names, is_built_source, one_source_answer, read_source,
+};
 use ds2_outside::Store;
-use ds2_source::{SourceRefusal, input_names, is_built_source, read_source};
-use ds2_tree::Source;
 use std::alloc::Global;
 
 // Says that a source breaks a rule, which ends the command.

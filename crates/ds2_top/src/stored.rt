@@ -1,20 +1,19 @@
 //! Tables of the store that were read.
 ghost use Rattle.std.specs.Prelude.{◌≡◌, ◌∷◌, ◌++◌, [], bytes_eq, map, IfOk, OnOk};
 ghost use Rattle.std.specs.Arc.{arc_value};
-ghost use Rattle.ds2_code.specs.declared.parts.HashPart.{HashPart as HashPartModel};
-ghost use Rattle.ds2_code.specs.declared.parts.ReadPart.{ReadPart as ReadPartModel};
-ghost use Rattle.ds2_code_answer.specs.CodeTables.{hash_references, program_references, reading_references, with_loaded_table};
-ghost use Rattle.ds2_names.specs.SourceUnit.{columns_stored};
+ghost use Rattle.ds2_compile.specs.HashPart.{HashPart as HashPartModel};
+ghost use Rattle.ds2_compile.specs.ReadPart.{ReadPart as ReadPartModel};
+ghost use Rattle.ds2_compile.specs.CodeTables.{hash_references, program_references, reading_references, with_loaded_table};
+ghost use Rattle.ds2_compile.specs.SourceUnit.{columns_stored};
 ghost use Rattle.ds2_answer.specs.Answer.{contents_stored, stored_columns};
 ghost use Rattle.ds2_top.specs.ReadTables.{contents_referred, schema_stored, tables_referred};
 
 use ds2_base::{List, Name, OutOfMemory};
-use ds2_code::{HashPart, HashTable, ReadPart, ReadingPart, TableReference};
-use ds2_names::{NamedSchema, Schemas};
-use ds2_reading::Tables;
-use ds2_table::Table;
-use ds2_valid_code::ProgramCode;
-use ds2_value::Schema;
+use ds2_compile::{
+    HashPart, HashTable, NamedSchema, ProgramCode, ReadPart, ReadingPart, Schema, Schemas,
+    TableReference,
+};
+use ds2_program_text::{Table, Tables};
 use std::alloc::Global;
 use std::marker::Model;
 use std::sync::Arc;

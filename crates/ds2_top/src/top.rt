@@ -9,7 +9,7 @@ use crate::runner::Alone;
 use ds2_answer::Status;
 use ds2_answer::laws::{faults_are_first, refusals_write_nothing, refused_words_are_usage};
 use ds2_base::{List, Text};
-use ds2_compile::laws::sources_are_read;
+use ds2_compile::sources_are_read;
 use ds2_outside::{Gate, Sink, Store};
 use std::alloc::Global;
 use std::sync::Wait;

@@ -20,7 +20,8 @@ use Rattle.ds2_source.specs.BuiltSources.{is_built_global, is_built_part, is_dat
 use Rattle.ds2_source.specs.SourcePrograms.{first_program}
 use Rattle.ds2_source.specs.declared.kinds.SourceRefusal.{SourceRefusal}
 use Rattle.ds2_source.proofs.BuiltLemmas.{both_true, not_true}
-use Rattle.ds2_typed_source.specs.SourceOutcomes.{source_refusal_of, program_or_refusal, programs_or_refusal, IsOutcomeOfProgram, IsOutcomeOfSource}
+use Rattle.ds2_source.specs.SourceRefusals.{source_refusal_of}
+use Rattle.ds2_typed_source.specs.SourceOutcomes.{program_or_refusal, programs_or_refusal, IsOutcomeOfProgram, IsOutcomeOfSource}
 
 -- ---- one program
 

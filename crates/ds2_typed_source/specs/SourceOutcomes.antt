@@ -5,14 +5,9 @@ use Rattle.ds2_base.specs.declared.stop.Stop.TheVariants.{Refused, OutOfMemory}
 use Rattle.ds2_meaning.specs.ProgramTree.{UnitTree, ProgramTree, OverTables}
 use Rattle.ds2_meaning.specs.View.{typed_data_program}
 use Rattle.ds2_meaning.specs.declared.units.TypedData.{TypedData}
-use Rattle.ds2_elaboration.specs.Elaboration.{ProgramRefusal, OfNames, OfTypes}
-use Rattle.ds2_source.specs.declared.kinds.SourceKind.TheVariants.{Scope, Types}
+use Rattle.ds2_elaboration.specs.Elaboration.{ProgramRefusal}
+use Rattle.ds2_source.specs.SourceRefusals.{source_refusal_of}
 use Rattle.ds2_source.specs.declared.kinds.SourceRefusal.{SourceRefusal}
-
--- a refusal of a program, among those of a source
-abbrev pub source_refusal_of : ProgramRefusal → SourceRefusal
-source_refusal_of (OfNames refusal) = record { kind = Scope refusal.kind; place = refusal.place }
-source_refusal_of (OfTypes refusal) = record { kind = Types refusal.kind; place = refusal.place }
 
 -- what a program becomes, as a program that reads tables or nothing
 abbrev pub program_or_refusal : Result UnitTree ProgramRefusal → Result ProgramTree SourceRefusal

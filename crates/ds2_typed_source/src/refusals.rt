@@ -1,7 +1,7 @@
 //! The refusals of a program, among those of a source.
 ghost use Rattle.std.specs.Prelude.{◌≡◌};
 ghost use Rattle.ds2_elaboration.specs.Elaboration.{OfNames, OfTypes};
-ghost use Rattle.ds2_typed_source.specs.SourceOutcomes.{source_refusal_of};
+ghost use Rattle.ds2_source.specs.SourceRefusals.{source_refusal_of};
 
 use ds2_base::Refusal;
 use ds2_meaning::{ScopeKind, TypeKind};

@@ -1,8 +1,9 @@
 -- The loads of a program by its reading.
-use Rattle.std.proofs.Common.{◌≡◌, ℕ, ◌<◌, ◌≤◌, Bool, true, false, ◌&&◌, ◌⊎◌, inl, inr, List, [], ◌∷◌, length, map, refl, sym, ap, ◌∙◌, subst, true≢false, IsTrue}
+use Rattle.std.proofs.Common.{◌≡◌, ℕ, ◌<◌, ◌≤◌, Bool, true, false, ◌&&◌, ◌⊎◌, inl, inr, List, [], ◌∷◌, length, map, refl, sym, ap, ◌∙◌, subst, true≢false, IsTrue, IfOk, Result, Ok, Err}
 use Rattle.std.specs.Prelude.{nat_le}
 use Rattle.std.proofs.lemmas.Bool.Decides.{leb_tells}
 use Rattle.std.specs.List.{list_all, AllByRecursion}
+use Rattle.ds2_base.specs.declared.stop.OutOfMemory.{OutOfMemory}
 use Rattle.ds2_value.specs.Types.{in_bounds}
 use Rattle.ds2_table.specs.Loads.{KeyedLoad}
 use Rattle.ds2_table.specs.Table.{Contents}
@@ -20,10 +21,10 @@ use Rattle.ds2_slots.specs.LoadedHashes.{AreSlotTypesInBounds}
 use Rattle.ds2_machine.specs.AtRest.{staged_program}
 use Rattle.ds2_reading.specs.ReadingFits.{read_tables_fit, by_keys_fit, reading_fits_tables}
 use Rattle.ds2_reading.specs.declared.reading.Reading.{Reading}
-use Rattle.ds2_code_answer.specs.CodeLoads.{load_settings, reading_over, reading_numbered, code_reading, retains_columns, keyed_loads_over, code_loads}
+use Rattle.ds2_code_answer.specs.CodeLoads.{load_settings, reading_numbered, code_reading, retains_columns, keyed_loads_over, code_loads}
 use Rattle.ds2_code_answer.specs.CodeTables.{first_read_table}
 use Rattle.ds2_unit.specs.Sources.{bare_loads}
-use Rattle.ds2_unit.specs.Statement.{loads_of_statement}
+use Rattle.ds2_unit.specs.Statement.{loads_of_statement, loads_of_merge_statement}
 
 -- the loads of a program with another reading
 abbrev loads_with : ProgramParts → List Contents → ReadingPart → List SlotSettings
@@ -37,22 +38,17 @@ module _ (code : ProgramParts) (tables : List Contents) where
   pub bare_load : code.reading ≡ reading.Once → [] ∷ [] ≡ code_loads code tables
   bare_load is = let P : ReadingPart → Type 0 = λ r. [] ∷ [] ≡ loads_with code tables r in subst P (sym is) refl
 
-  module _ (reads : List ReadPart) (bys : List ByPart) (is : code.reading ≡ reading.Set reads bys) where
-    set_loads_are : loads_of_statement code.slots (reading_over (first_read_table code) reads bys) tables ≡ code_loads code tables
-    set_loads_are =
-        let P : ReadingPart → Type 0 = λ r. loads_of_statement code.slots (reading_over (first_read_table code) reads bys) tables ≡ loads_with code tables r in
-        subst P (sym is) refl
+  module _ (slots : List Slot) (r : Reading) (same_slots : slots ≡ code.slots) (same : r ≡ code_reading code) where
+    pub loads_of_set : (reads : List ReadPart) (bys : List ByPart) → code.reading ≡ reading.Set reads bys → loads_of_statement slots r tables ≡ code_loads code tables
+    loads_of_set reads bys is =
+        let P : ReadingPart → Type 0 = λ z. loads_of_statement code.slots (reading_numbered (first_read_table code) z) tables ≡ loads_with code tables z in
+        ap (λ (s : List Slot). loads_of_statement s r tables) same_slots ∙ ap (λ (x : Reading). loads_of_statement code.slots x tables) same ∙ subst P (sym is) refl
 
-    pub source_loads : (slots : List Slot) (r : Reading) → slots ≡ code.slots → r ≡ reading_over (first_read_table code) reads bys → loads_of_statement slots r tables ≡ code_loads code tables
-    source_loads slots r same_slots same =
-        ap (λ (s : List Slot). loads_of_statement s r tables) same_slots
-        ∙ ap (λ (x : Reading). loads_of_statement code.slots x tables) same
-        ∙ set_loads_are
-
-    pub statement_fits : IsTrue (reading_fits_tables tables (code_reading code)) → IsTrue (reading_fits_tables tables (reading_over (first_read_table code) reads bys))
-    statement_fits fits =
-        let P : ReadingPart → Type 0 = λ r. IsTrue (reading_fits_tables tables (reading_numbered (first_read_table code) r)) in
-        subst P is fits
+    pub loads_of_merge : (reads : List ReadPart) (bys : List ByPart) (retains : Bool) → code.reading ≡ reading.Merge reads bys retains
+        → loads_of_merge_statement slots r retains tables ≡ code_loads code tables
+    loads_of_merge reads bys retains is =
+        let P : ReadingPart → Type 0 = λ z. loads_of_merge_statement code.slots (reading_numbered (first_read_table code) z) retains tables ≡ loads_with code tables z in
+        ap (λ (s : List Slot). loads_of_merge_statement s r retains tables) same_slots ∙ ap (λ (x : Reading). loads_of_merge_statement code.slots x retains tables) same ∙ subst P (sym is) refl
 
 -- ---- loads that set nothing
 
@@ -82,6 +78,15 @@ pub types_of_valid : (parts : StagedParts) → IsValidStaged parts → AreSlotTy
 types_of_valid parts valid = types_of_chain parts.program parts.stages (IsValidStaged.chain valid)
 
 -- ---- a statement that fits
+
+pub ok_same : (made : Result Reading OutOfMemory) (r want : Reading) → IfOk made (λ x. x ≡ r) → r ≡ want → IfOk made (λ x. x ≡ want)
+ok_same (Ok x) r want h e = h ∙ e
+ok_same (Err stop) r want h e = tt
+
+pub ok_fits : (tables : List Contents) (made : Result Reading OutOfMemory) (r want : Reading) → IfOk made (λ x. x ≡ r) → r ≡ want → IsTrue (reading_fits_tables tables want)
+    → IfOk made (λ x. IsTrue (reading_fits_tables tables x))
+ok_fits tables (Ok x) r want h e fits = let P : Reading → Type 0 = λ z. IsTrue (reading_fits_tables tables z) in subst P (sym (h ∙ e)) fits
+ok_fits tables (Err stop) r want h e fits = tt
 
 at_most : (a b : ℕ) → nat_le a b ≡ true → a ≤ b
 at_most a b h = by (leb_tells a b)

@@ -1,5 +1,5 @@
 pub mod Sources
-pub mod SetSource
+pub mod StatementSource
 pub mod Statement
 pub mod RowsBehind
 pub mod RowSource

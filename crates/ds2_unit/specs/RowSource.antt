@@ -1,21 +1,15 @@
 -- What the loads set that are rows, row after row and table after table.
 use Rattle.std.specs.Prelude.{List, length, map, drop}
 use Rattle.ds2_table.specs.Loads.{InputRow, set_load}
-use Rattle.ds2_by_order.specs.LoadMeaning.{load_meaning}
 use Rattle.ds2_code.specs.Desk.{SlotSettings}
 use Rattle.ds2_loads.specs.declared.table_load.TableLoad.{TableLoad}
 use Rattle.ds2_unit.specs.RowsBehind.{rows_behind}
-use Rattle.ds2_unit.specs.SetSource.{settings_of_statement}
+use Rattle.ds2_unit.specs.StatementSource.{settings_of_statement}
 use Rattle.ds2_unit.specs.declared.row_loads.RowLoads.{RowLoads}
 
 -- what the load of a row sets
 abbrev pub settings_of_input_row : TableLoad → InputRow → SlotSettings
 settings_of_input_row at row = settings_of_statement at (set_load (length at.reading.now.tables) row).load
-
--- what the load sets at which the loads stand
-abbrev pub row_load_settings : RowLoads → SlotSettings
-row_load_settings loads =
-    settings_of_statement loads.at (load_meaning (length loads.at.reading.now.tables) (length loads.at.reading.now.bys) loads.at.load)
 
 -- what each load sets that is left
 abbrev pub row_loads_left : RowLoads → List SlotSettings

@@ -1,14 +1,20 @@
 -- What units of a program's code, run one after the other, have left.
-use Rattle.std.specs.Prelude.{◌≡◌, ℕ, true, false, List, Some}
+use Rattle.std.specs.Prelude.{◌≡◌, ℕ, ◌≤◌, true, false, List, Some}
 use Rattle.ds2_value.specs.Run.{Written}
 use Rattle.ds2_value.specs.declared.fault.Ending.{Ending}
 use Rattle.ds2_value.specs.declared.fault.Ending.TheVariants.{Normal, Faulted}
-use Rattle.ds2_table.specs.OneThread.{Reached, Standing, Halted, Astray, GroupResult, Answer}
+use Rattle.ds2_table.specs.OneThread.{Reached, Standing, Halted, Astray, GroupResult, Answer, then_unit, run_each}
+use Rattle.ds2_code.specs.declared.parts.ProgramParts.{ProgramParts}
 use Rattle.ds2_code.specs.declared.parts.ReadingPart.{ReadingPart}
 use Rattle.ds2_code.specs.declared.parts.ReadingPart.TheVariants as reading
-use Rattle.ds2_code.specs.Desk.{ProgramData}
+use Rattle.ds2_code.specs.declared.parts.StagedParts.{StagedParts}
+use Rattle.ds2_code.specs.CodeUnit.{code_init}
+use Rattle.ds2_code.specs.Desk.{ProgramData, SlotSettings}
+use Rattle.ds2_scales.specs.Scales.{IsDataScaled}
 use Rattle.ds2_machine.specs.AtRest.{MachineAtRest}
 use Rattle.ds2_machine.specs.Sink.{SinkTakes}
+use Rattle.ds2_machine.specs.declared.machine.TheConstants.{MOST_BUDGET}
+use Rattle.ds2_code_answer.specs.CodeAnswer.{code_units}
 use Rattle.ds2_unit.specs.declared.units_end.UnitsEnd.{UnitsEnd}
 
 -- the machine stands where the loads have left the program: it goes on with this data after a normal end, and is spent after a fault
@@ -31,10 +37,22 @@ pub record HasRunAnswer {S : Type 0} (has_taken : S → S → List Written → L
   pub counted : end.executed ≡ answer.executed
   pub ended : answer.ending ≡ Some end.ending
 
--- a reading that can be run: none, one load without a statement, or `set`
+-- a program has run from this data on these loads, each unit with this budget: it has left what its answer says
+abbrev pub HasRunOnLoads : {S : Type 0} → (S → S → List Written → List (List ℕ) → Type 0) → S → S → ProgramParts → (budget : ℕ) → ProgramData → List SlotSettings → UnitsEnd → Type 0
+HasRunOnLoads has_taken before after code budget state loads end =
+    HasRunAnswer has_taken before after (then_unit (code_init code budget state) (run_each (code_units code budget) loads)) end
+
+-- a machine stands before the first unit of a data program, which may run with this budget
+pub record IsReadyToRun (code : StagedParts) (machine : MachineAtRest) (most : ℕ) : Type 0 where
+  pub scaled : IsDataScaled code.program machine.state
+  pub budget : most ≤ MOST_BUDGET
+  pub ready : machine.spent ≡ false
+  pub program : machine.program ≡ 0
+
+-- a reading that can be run: any but the rows of a thread program
 abbrev pub IsBuiltReading : ReadingPart → Type 0
 IsBuiltReading reading.Nothing = Unit {0}
 IsBuiltReading reading.Once = Unit {0}
 IsBuiltReading (reading.Set tables bys) = Unit {0}
-IsBuiltReading (reading.Merge tables bys retains) = ⊥
+IsBuiltReading (reading.Merge tables bys retains) = Unit {0}
 IsBuiltReading (reading.Stage threads slots) = ⊥

@@ -11,8 +11,10 @@
 
 mod alone;
 mod bare_loads;
+mod merge_loads;
 mod output_sinks;
 mod program_end;
+mod reading;
 mod row_loads;
 mod row_place;
 mod rows_in_turn;

@@ -24,9 +24,9 @@ pub(crate) struct RowLoads<'a> {
 }
 
 impl UnitLoad for RowLoads<'_> {
-    ghost use Rattle.ds2_unit.specs.RowSource.{row_load_settings};
+    ghost use Rattle.ds2_unit.specs.StatementSource.{current_settings};
 
-    ghost settings = { λ loads. row_load_settings loads };
+    ghost settings = { λ loads. current_settings loads.at };
 
     fn set_into(&self, alloc: Global, slots: &mut List<Value>) -> Result<(), OutOfMemory> {
         self.at.set_slots(alloc, slots)

@@ -1,4 +1,4 @@
-//! The loads of `set`.
+//! The loads of `set` in BY order.
 ghost use Rattle.std.specs.Prelude.{◌≡◌, IsTrue, IfOk, length};
 ghost use Rattle.ds2_reading.specs.ReadingFits.{reading_fits_tables};
 ghost use Rattle.ds2_slots.specs.LoadedHashes.{AreSlotTypesInBounds};
@@ -9,23 +9,23 @@ use ds2_code::Slot;
 use ds2_loads::TableLoad;
 use ds2_machine::UnitLoad;
 use ds2_reading::{Reading, Tables};
-use ds2_rows::SetCursor;
+use ds2_rows::SetWalk;
 use ds2_value::Value;
 use std::alloc::Global;
 
-/// The loads of `set` over tables: a cursor, and the load at which it stands.
+/// The loads of `set` over tables: a walk over them, and the load at which it stands.
 #[derive(Drop)]
 pub(crate) struct SetLoads<'a> {
-    cursor: SetCursor,
+    walk: SetWalk,
     at: TableLoad<'a>,
-    ghost as_many_tables: { cursor.tables ≡ length at.reading.now.tables },
-    ghost as_many_bys: { cursor.bys ≡ length at.reading.now.bys },
+    ghost as_many_tables: { walk.tables ≡ length at.reading.now.tables },
+    ghost as_many_bys: { walk.bys ≡ length at.reading.now.bys },
 }
 
 impl UnitLoad for SetLoads<'_> {
-    ghost use Rattle.ds2_unit.specs.SetSource.{set_settings};
+    ghost use Rattle.ds2_unit.specs.StatementSource.{current_settings};
 
-    ghost settings = { λ loads. set_settings loads };
+    ghost settings = { λ loads. current_settings loads.at };
 
     fn set_into(&self, alloc: Global, slots: &mut List<Value>) -> Result<(), OutOfMemory> {
         self.at.set_slots(alloc, slots)
@@ -33,12 +33,12 @@ impl UnitLoad for SetLoads<'_> {
 }
 
 impl LoadSource for SetLoads<'_> {
-    ghost use Rattle.ds2_unit.specs.SetSource.{set_loads_left};
+    ghost use Rattle.ds2_unit.specs.StatementSource.{settings_left};
 
-    ghost left = { λ loads. set_loads_left loads };
+    ghost left = { λ loads. settings_left loads.at loads.walk };
 
     fn next_load(&mut self) -> bool {
-        match self.cursor.next_load() {
+        match self.walk.next_load() {
             None => false,
             Some(load) => {
                 self.at.load = load;
@@ -49,7 +49,7 @@ impl LoadSource for SetLoads<'_> {
 }
 
 impl<'a> SetLoads<'a> {
-    ghost use Rattle.ds2_unit.specs.SetSource.{set_loads_left};
+    ghost use Rattle.ds2_unit.specs.StatementSource.{settings_left};
     ghost use Rattle.ds2_unit.specs.Statement.{loads_of_statement};
 
     /// The loads of a statement, before the first one.
@@ -61,11 +61,11 @@ impl<'a> SetLoads<'a> {
     ) -> Result<SetLoads<'a>, OutOfMemory>
         requires fits { IsTrue (reading_fits_tables tables.now reading.now) }
         requires slots { AreSlotTypesInBounds slots.now }
-        ensures { IfOk result (λ loads. set_loads_left loads ≡ loads_of_statement slots.now reading.now tables.now) }
+        ensures { IfOk result (λ loads. settings_left loads.at loads.walk ≡ loads_of_statement slots.now reading.now tables.now) }
     {
-        let cursor = SetCursor::open(alloc, reading, tables, 0)?;
+        let walk = SetWalk::open(alloc, reading, tables)?;
         Ok(SetLoads {
-            cursor,
+            walk,
             at: TableLoad {
                 slots,
                 reading,

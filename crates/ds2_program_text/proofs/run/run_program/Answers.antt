@@ -1,9 +1,9 @@
 use Rattle.std.proofs.Common.{◌≡◌, ◌++◌, ℕ, List, [], length, map, sym, ap, ◌∙◌, subst}
 use Rattle.std.proofs.lemmas.List.{append-nil}
 use Rattle.ds2_value.specs.Run.{Written}
-use Rattle.ds2_meaning.specs.ProgramMeaning.{tables_made}
-use Rattle.ds2_meaning.specs.ProgramTree.{reader_of}
-use Rattle.ds2_code_answer.specs.CodeAnswer.{code_answer}
+use Rattle.ds2_same_meaning.specs.ProgramMeaning.{tables_made}
+use Rattle.ds2_same_meaning.specs.ProgramTree.{reader_of}
+use Rattle.ds2_same_meaning.specs.CodeAnswer.{code_answer}
 use Rattle.ds2_unit.specs.Outputs.{HaveRows}
 use Rattle.ds2_unit.specs.ProgramRun.{IsRunEnd, grain_asked}
 use Rattle.ds2_unit.specs.declared.output_sinks.OutputSinks.{OutputSinks}

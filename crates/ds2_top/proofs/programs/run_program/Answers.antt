@@ -1,6 +1,6 @@
 use Rattle.std.proofs.Common.{[], refl}
-use Rattle.ds2_meaning.specs.ProgramMeaning.{program_answer}
-use Rattle.ds2_meaning.specs.ProgramTree.{OverTables}
+use Rattle.ds2_compile.specs.ProgramMeaning.{program_answer}
+use Rattle.ds2_compile.specs.ProgramTree.{OverTables}
 use Rattle.ds2_answer.specs.Answer.{on_program, stored_rows}
 use Rattle.ds2_top.proofs.Leading.{no_memory}
 use Rattle.ds2_top.proofs.ProgramTexts.{run_does, tables_of}

@@ -1,7 +1,7 @@
 use Rattle.std.proofs.Common.{refl, Err}
 use Rattle.ds2_outside.specs.Files.{Files}
-use Rattle.ds2_tree.specs.UnitViews.{source_tree}
-use Rattle.ds2_source.specs.InputTables.{names_or_refusal, source_inputs}
+use Rattle.ds2_compile.specs.UnitViews.{source_tree}
+use Rattle.ds2_compile.specs.InputTables.{names_or_refusal, source_inputs}
 use Rattle.ds2_answer.specs.Answer.{on_inputs}
 use Rattle.ds2_top.specs.declared.halt.Halt.TheVariants.{OutOfMemory}
 use Rattle.ds2_top.proofs.Apart.{inputs_apart}

@@ -1,5 +1,5 @@
 use Rattle.std.proofs.Common.{List, subst}
-use Rattle.ds2_tree.specs.UnitViews.{source_tree}
+use Rattle.ds2_compile.specs.UnitViews.{source_tree}
 use Rattle.ds2_answer.specs.Answer.{StoredTable, on_stored}
 use Rattle.ds2_top.specs.Halt.{DoesAll}
 use Rattle.ds2_top.proofs.SourceSteps.{tables_stop, tables_then}

@@ -1,5 +1,5 @@
 use Rattle.std.proofs.Common.{refl}
-use Rattle.ds2_tree.specs.UnitViews.{source_tree}
+use Rattle.ds2_compile.specs.UnitViews.{source_tree}
 use Rattle.ds2_answer.specs.declared.status.Status.TheVariants.{Done}
 use Rattle.ds2_answer.specs.Answer.{on_stored}
 use Rattle.ds2_answer.specs.Script.{Ends}

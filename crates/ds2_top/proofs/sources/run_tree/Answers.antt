@@ -1,6 +1,6 @@
 use Rattle.std.proofs.Common.{◌∙◌, refl, sym}
 use Rattle.std.proofs.lemmas.Bool.{OnTrue_at}
-use Rattle.ds2_tree.specs.UnitViews.{source_tree}
+use Rattle.ds2_compile.specs.UnitViews.{source_tree}
 use Rattle.ds2_top.proofs.SourceSteps.{tree_refused, tree_runs}
 use Rattle.ds2_top.proofs.sources.run_tree.Goals as goal
 

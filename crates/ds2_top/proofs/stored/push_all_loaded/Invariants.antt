@@ -1,5 +1,5 @@
 use Rattle.std.proofs.Common.{◌≡◌, ◌++◌, length}
-use Rattle.ds2_code_answer.specs.CodeTables.{hash_references}
+use Rattle.ds2_compile.specs.CodeTables.{hash_references}
 use Rattle.ds2_top.specs.ReadTables.{tables_referred}
 use Rattle.ds2_top.proofs.stored.push_all_loaded.Given as goal
 

@@ -1,5 +1,5 @@
 use Rattle.std.proofs.Common.{◌≡◌, ◌++◌, length, map}
-use Rattle.ds2_code.specs.declared.parts.ReadPart.{ReadPart}
+use Rattle.ds2_compile.specs.ReadPart.{ReadPart}
 use Rattle.ds2_top.specs.ReadTables.{tables_referred}
 use Rattle.ds2_top.proofs.stored.push_all_read.Given as goal
 

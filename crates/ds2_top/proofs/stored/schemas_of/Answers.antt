@@ -1,5 +1,5 @@
 use Rattle.std.proofs.Common.{ap, ◌∙◌}
-use Rattle.ds2_names.specs.SourceUnit.{columns_stored}
+use Rattle.ds2_compile.specs.SourceUnit.{columns_stored}
 use Rattle.ds2_top.proofs.StoredTables.{schemas_tell}
 use Rattle.ds2_top.proofs.stored.schemas_of.Goals as goal
 

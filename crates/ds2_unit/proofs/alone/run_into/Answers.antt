@@ -9,16 +9,16 @@ use Rattle.ds2_unit.proofs.alone.run_into.Goals as goal
 pub open-requires-clause-given : goal.open-requires-clause-given
 open-requires-clause-given g c = tt
 
-pub run_reading-requires-clause-scaled : goal.run_reading-requires-clause-scaled
-run_reading-requires-clause-scaled g c =
-    let P : ℕ → Type 0 = λ n. IsDataScaled (staged_program c.args.code.now n) c.in_ok-machine.machine.state in
-    subst P (ap (λ (m : MachineAtRest). m.program) c.in_ok-machine.ensures.opened) c.in_ok-machine.ensures.scaled
-
 pub run_reading-requires-clause-ready : goal.run_reading-requires-clause-ready
-run_reading-requires-clause-ready g c = ap (λ (m : MachineAtRest). m.spent) c.in_ok-machine.ensures.opened
-
-pub run_reading-requires-clause-program : goal.run_reading-requires-clause-program
-run_reading-requires-clause-program g c = ap (λ (m : MachineAtRest). m.program) c.in_ok-machine.ensures.opened
+run_reading-requires-clause-ready g c =
+    let opened = c.in_ok-machine.ensures.opened in
+    let P : ℕ → Type 0 = λ n. IsDataScaled (staged_program c.args.code.now n) c.in_ok-machine.machine.state in
+    record {
+      scaled = subst P (ap (λ (m : MachineAtRest). m.program) opened) c.in_ok-machine.ensures.scaled;
+      budget = c.requires.budget;
+      ready = ap (λ (m : MachineAtRest). m.spent) opened;
+      program = ap (λ (m : MachineAtRest). m.program) opened;
+    }
 
 pub returns : goal.returns
 returns g c =

@@ -5,7 +5,7 @@ use Rattle.ds2_by_order.specs.LoadMeaning.{load_meaning}
 use Rattle.ds2_code.specs.Desk.{SlotSettings}
 use Rattle.ds2_unit.specs.RowsBehind.{rows_behind}
 use Rattle.ds2_unit.specs.RowSource.{settings_of_input_row}
-use Rattle.ds2_unit.specs.SetSource.{settings_of_statement}
+use Rattle.ds2_unit.specs.StatementSource.{settings_of_statement}
 use Rattle.ds2_unit.proofs.row_loads.RowLoadsLoadSource.next_load.Goals as goal
 
 pub returns-in-None : goal.returns-in-None

@@ -6,4 +6,4 @@ use Rattle.ds2_unit.proofs.set_loads.SetLoads.open.Goals as goal
 
 pub returns : goal.returns
 returns c =
-    ap (λ (x : Cursor). map (λ (l : KeyedLoad). load_settings c.args.slots.now c.args.reading.now false c.args.tables.now l.load) (drop x.given x.loads)) c.in_ok-cursor.ensures
+    ap (λ (x : Cursor). map (λ (l : KeyedLoad). load_settings c.args.slots.now c.args.reading.now false c.args.tables.now l.load) (drop x.given x.loads)) c.in_ok-walk.ensures

@@ -1,0 +1,14 @@
+use Rattle.std.proofs.Common.{Option, subst}
+use Rattle.std.specs.Option.{SomeIff}
+use Rattle.ds2_meaning.specs.View.{typed_data_program}
+use Rattle.ds2_code.specs.ValidCode.{IsValidStaged}
+use Rattle.ds2_code.specs.declared.parts.StagedParts.{StagedParts}
+use Rattle.ds2_generate.specs.Generated.{code_with_stages}
+use Rattle.ds2_compile.proofs.StagedCodes.{made_is}
+use Rattle.ds2_compile.proofs.compiling.program_code.Goals as goal
+
+pub returns-in-Some : goal.returns-in-Some
+returns-in-Some c =
+    let t = typed_data_program c.args.program.now in
+    made_is t c.in-Some.code
+    (subst (λ (o : Option StagedParts). SomeIff o (IsValidStaged (code_with_stages t)) (code_with_stages t)) c.in-Some.is c.in_ok-code.ensures.code)

@@ -1,5 +1,0 @@
-pub mod StagedCodes
-pub mod SchemaLemmas
-pub mod SourceTables
-pub mod PlainPrograms
-pub mod CompiledOutcomes

@@ -1,3 +1,0 @@
--- What a source is compiled to.
-pub mod CompiledSources
-pub mod CodesOfPrograms

@@ -1,0 +1,15 @@
+use Rattle.std.proofs.Common.{ap}
+use Rattle.ds2_merge.proofs.Opening.{cursor_of}
+use Rattle.ds2_merge.proofs.walk.MergeWalk.next_load.Goals as goal
+
+pub next_load-requires : goal.next_load-requires
+next_load-requires c = c.self.invariant
+
+pub invariant_of-self : goal.invariant_of-self
+invariant_of-self c = c.next_load.ensures.place
+
+pub returns-clause-load : goal.returns-clause-load
+returns-clause-load c = rw (← c.self.view_is) c.next_load.ensures.load
+
+pub returns-clause-left : goal.returns-clause-left
+returns-clause-left c = rw (← c.self.view_is) (ap (cursor_of c.self.inside.tables 0) c.next_load.ensures.given)

@@ -1,0 +1,67 @@
+//! The walk over the loads of `merge`.
+ghost use Rattle.std.specs.Prelude.{◌≡◌, IsTrue, IfOk, length};
+ghost use Rattle.std.specs.Option.{option_map};
+ghost use Rattle.ds2_table.specs.Loads.{merge_loads};
+ghost use Rattle.ds2_reading.specs.ReadingFits.{reading_fits_tables};
+ghost use Rattle.ds2_by_order.specs.CursorState.{cursor_at_start, next_load_of, behind_next};
+ghost use Rattle.ds2_by_order.specs.LoadMeaning.{load_meaning};
+ghost use Rattle.ds2_by_order.specs.ReadingKeys.{directions_of, keys_of_reading};
+
+use crate::key_place::{KeyPlace, MergePlace};
+use crate::next_load::next_load;
+use ds2_base::OutOfMemory;
+use ds2_by_order::SortedTables;
+use ds2_reading::{Load, Reading, Tables};
+use std::alloc::Global;
+use std::marker::Model;
+
+/// A walk over the loads of `merge`, from the first to the last, for those who ask for no groups: it keeps the numbers of the rows in BY
+/// order alone. Without BY variables all rows have one key. All its memory is taken at opening. A contract sees a cursor at grain 0.
+#[derive(Drop)]
+pub struct MergeWalk {
+    tables: SortedTables,
+    place: MergePlace,
+}
+
+impl Model for MergeWalk {
+    ghost use Rattle.std.specs.Prelude.{length};
+    ghost use Rattle.ds2_table.specs.Loads.{merge_loads};
+    ghost use Rattle.ds2_by_order.specs.CursorState.{Cursor};
+    ghost use Rattle.ds2_merge.specs.KeyPlaces.{IsReadyToMerge, loads_given};
+
+    ghost Value = { Cursor };
+
+    ghost view = { λ w. record {
+      tables = length w.tables.tables;
+      bys = length w.tables.descending;
+      grain = 0;
+      loads = merge_loads w.tables.descending w.tables.tables;
+      given = loads_given w.place;
+    } };
+
+    ghost invariant = { λ w. IsReadyToMerge w.tables w.place };
+}
+
+impl MergeWalk {
+    /// Sorts the rows of the tables.
+    pub fn open(alloc: Global, reading: &Reading, tables: &Tables) -> Result<MergeWalk, OutOfMemory>
+        requires fits { IsTrue (reading_fits_tables tables.now reading.now) }
+        ensures { IfOk result (λ walk. walk
+            ≡ cursor_at_start (length reading.now.tables) (length reading.now.bys) 0
+            (merge_loads (directions_of reading.now.bys) (keys_of_reading tables.now reading.now))) }
+    {
+        let tables = SortedTables::open(alloc, reading, tables)?;
+        let _ = tables.count_rows()?;
+        tables.have_keys();
+        let place = MergePlace::between(KeyPlace::start());
+        Ok(MergeWalk { tables, place })
+    }
+
+    /// The next load; None exactly behind the last one. Takes no memory.
+    pub fn next_load(&mut self) -> Option<Load>
+        ensures load { option_map (load_meaning self.old.tables self.old.bys) result ≡ next_load_of self.old }
+        ensures left { self.new ≡ behind_next self.old }
+    {
+        next_load(&self.tables, &mut self.place)
+    }
+}

@@ -1,0 +1,29 @@
+use Rattle.std.proofs.Common.{sym, subst, IfOk}
+use Rattle.std.specs.List.{AllByRecursion}
+use Rattle.ds2_code.specs.declared.parts.ProgramParts.{ProgramParts}
+use Rattle.ds2_scales.specs.Scales.{AreSettingsScaled, IsDataScaled}
+use Rattle.ds2_unit.specs.UnitsRun.{HasRunOnLoads}
+use Rattle.ds2_unit.proofs.Statements.{data_program}
+use Rattle.ds2_unit.proofs.reading.run_source.Goals as goal
+
+pub run_units-requires-clause-scaled : goal.run_units-requires-clause-scaled
+run_units-requires-clause-scaled g c =
+    let P : ProgramParts → Type 0 = λ p. IsDataScaled p c.args.machine.now.state in
+    subst P (sym (data_program c.args.code.now c.args.machine.now.program c.requires.ready.program)) c.requires.ready.scaled
+
+pub run_units-requires-clause-loads : goal.run_units-requires-clause-loads
+run_units-requires-clause-loads g c =
+    let P : ProgramParts → Type 0 = λ p. AllByRecursion (AreSettingsScaled p.slots) (g.L.LoadSource.left c.args.source.now) in
+    subst P (sym (data_program c.args.code.now c.args.machine.now.program c.requires.ready.program)) c.requires.loads
+
+pub run_units-requires-clause-budget : goal.run_units-requires-clause-budget
+run_units-requires-clause-budget g c = c.requires.ready.budget
+
+pub run_units-requires-clause-ready : goal.run_units-requires-clause-ready
+run_units-requires-clause-ready g c = c.requires.ready.ready
+
+pub returns : goal.returns
+returns g c =
+    let P : ProgramParts → Type 0 = λ p.
+    IfOk c.run_units.result (λ end. HasRunOnLoads g.S.UnitSink.has_taken c.args.sink.now c.run_units.new.sink p c.args.budget c.args.machine.now.state (g.L.LoadSource.left c.args.source.now) end) in
+    subst P (data_program c.args.code.now c.args.machine.now.program c.requires.ready.program) c.run_units.ensures
