@@ -1,0 +1,82 @@
+//! What the caller makes of what workers have brought.
+ghost use Rattle.std.specs.Prelude.{◌≡◌, ℕ, ◌<◌, false, None, IfOk, length, slice_index_or};
+ghost use Rattle.ds2_bags.specs.Endings.{ended_by_fault};
+ghost use Rattle.ds2_bags.specs.StageEnds.{Brings, IsStageEnd};
+
+use crate::group_end::GroupEnd;
+use crate::job::Job;
+use ds2_base::{List, OutOfMemory};
+use ds2_outside::Gate;
+use std::alloc::Global;
+
+/// What a stage gives.
+#[derive(Debug, Drop)]
+pub struct StageEnd {
+    /// The answers of groups 0, 1, and so on, up to and with the least group that faulted, or of all groups.
+    pub ends: List<GroupEnd>,
+    /// The least group that faulted.
+    pub faulted: Option<u64>,
+}
+
+/// The answers in order, up to and with the first fault. Runs the groups that nobody brought, as far as they are needed, on a state of
+/// its own. `caller` is the caller's number for the gate.
+pub fn finish<J: Job, G: Gate>(
+    alloc: Global,
+    job: &J,
+    caller: u32,
+    placed: List<Option<GroupEnd>>,
+    gate: &G,
+) -> Result<StageEnd, OutOfMemory>
+    requires len { length placed ≡ J.count job.now }
+    requires each { (g : ℕ) → g < J.count job.now → Brings (J.answer job.now) g (slice_index_or placed g None) }
+    ensures { IfOk result (λ e. IsStageEnd (J.answer job.now) (J.count job.now) e) }
+{
+    let groups = job.groups();
+    let mut placed = placed.into_vec();
+    let mut worker = job.start(alloc)?;
+    let mut ends = Vec::with_capacity(alloc, groups as usize)?;
+    for g in 0..groups {
+        let brought = placed[g as usize].take();
+        let end = answer_of(alloc, job, &mut worker, caller, g, brought, gate)?;
+        let fault = end.is_fault();
+        ends.push_reserved(end);
+        if fault {
+            return Ok(stage_end(ends, Some(g)));
+        }
+    }
+    Ok(stage_end(ends, None))
+}
+
+fn stage_end(ends: Vec<GroupEnd>, faulted: Option<u64>) -> StageEnd
+    ensures { result ≡ record { ends = ends.items; faulted = faulted } }
+{
+    StageEnd {
+        ends: List::of(ends),
+        faulted,
+    }
+}
+
+// A group's answer: what was brought, or a run of the caller's own.
+fn answer_of<J: Job, G: Gate>(
+    alloc: Global,
+    job: &J,
+    worker: &mut J::Worker,
+    caller: u32,
+    g: u64,
+    brought: Option<GroupEnd>,
+    gate: &G,
+) -> Result<GroupEnd, OutOfMemory>
+    requires group { g < J.count job.now }
+    requires brought { Brings (J.answer job.now) g brought }
+    requires fits { J.fits job.now worker.old }
+    ensures answer { IfOk result (λ e. e ≡ J.answer job.now g) }
+    ensures fits { IfOk result (λ e. ended_by_fault e.ending ≡ false → J.fits job.now worker.new) }
+{
+    if let Some(end) = brought {
+        return Ok(end);
+    }
+    gate.before(caller, g);
+    let end = job.run(alloc, worker, g)?;
+    gate.after(caller, g);
+    Ok(end)
+}

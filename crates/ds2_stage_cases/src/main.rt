@@ -1,0 +1,24 @@
+//! Stages of a sample job, each on 1, 2, 4 and 8 workers.
+//!
+//! Each line of standard input has numbers: how many groups the job has, and which of them end by a fault. Standard output gets the
+//! line again and, below it, what the stage gives on each number of workers: which group faulted first, and how many instructions
+//! each answer executed, which is its group's number. A line that begins with `#` is a heading.
+#![tactic(auto)]
+
+mod sample;
+mod telling;
+
+use crate::telling::answers;
+use std::io;
+
+fn main(rt: HostRuntime) -> anyhow::Result<()> {
+    let input = io::read_to_string(rt.alloc(), rt.reader())?;
+    for line in input.as_str().lines() {
+        println!(rt; "{line}")?;
+        if !line.starts_with('#') && !line.is_empty() {
+            let text = answers(&rt, rt.alloc(), line)?;
+            println!(rt; "{text}")?;
+        }
+    }
+    Ok(())
+}
