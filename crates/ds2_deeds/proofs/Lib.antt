@@ -1,0 +1,11 @@
+pub mod DeedLemmas
+pub mod ItemLemmas
+pub mod NumberLemmas
+pub mod MethodLemmas
+pub mod ElseLemmas
+pub mod BodyLemmas
+pub mod TableLemmas
+pub mod RoundLemmas
+pub mod DistinctLemmas
+pub mod MethodsThere
+pub mod CalledLemmas

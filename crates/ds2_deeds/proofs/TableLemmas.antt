@@ -1,0 +1,29 @@
+-- Locations that are told once.
+use Rattle.std.proofs.Common.{◌≡◌, ℕ, if◌then◌else◌, List, [], ◌∷◌, ◌++◌, Option, Some, None, refl, sym, ap, ◌∙◌}
+use Rattle.std.specs.Prelude.{is_some}
+use Rattle.ds2_meaning.specs.Location.{Location, is_same_location}
+use Rattle.ds2_placement.specs.PlacedProgram.{number_of_location}
+use Rattle.ds2_deeds.specs.NamedLocations.{with_location, with_locations}
+use Rattle.ds2_deeds.proofs.NumberLemmas.{any_numbered}
+
+pub both_told : (ls xs ys : List Location) → with_locations ls (xs ++ ys) ≡ with_locations (with_locations ls xs) ys
+both_told ls [] ys = refl
+both_told ls (x ∷ xs) ys = both_told (with_location ls x) xs ys
+
+-- equal things bring the same locations
+pub told_as : {A : Type 0} (of : A → List Location) (x y : A) (before grown : List Location) → x ≡ y → grown ≡ with_locations before (of x) → grown ≡ with_locations before (of y)
+told_as of x y before grown is e = e ∙ ap (λ z. with_locations before (of z)) is
+
+-- two parts that are told in turn
+pub then_told : (ls xs ys first both : List Location) → first ≡ with_locations ls xs → both ≡ with_locations first ys → both ≡ with_locations ls (xs ++ ys)
+then_told ls xs ys first both e f = f ∙ ap (λ l. with_locations l ys) e ∙ sym (both_told ls xs ys)
+
+told_by : (ls : List Location) (at : Location) (o : Option ℕ) → o ≡ number_of_location ls at → with_location ls at ≡ (if is_some o then ls else ls ++ at ∷ [])
+told_by ls at o e = ap (λ b. if b then ls else ls ++ at ∷ []) (any_numbered (is_same_location at) ls ∙ ap (λ (x : Option ℕ). is_some x) (sym e))
+
+-- one location more is told, where it has no number yet
+pub new_told : (ls : List Location) (at : Location) (o : Option ℕ) → o ≡ number_of_location ls at → o ≡ None → ls ++ at ∷ [] ≡ with_location ls at
+new_told ls at o e f = ap (λ (x : Option ℕ). if is_some x then ls else ls ++ at ∷ []) (sym f) ∙ sym (told_by ls at o e)
+
+pub old_told : (ls : List Location) (at : Location) (o : Option ℕ) (n : ℕ) → o ≡ number_of_location ls at → o ≡ Some n → ls ≡ with_location ls at
+old_told ls at o n e f = ap (λ (x : Option ℕ). if is_some x then ls else ls ++ at ∷ []) (sym f) ∙ sym (told_by ls at o e)

@@ -1,0 +1,13 @@
+use Rattle.std.proofs.Common.{[], ◌∷◌}
+use Rattle.std.proofs.lemmas.Result.{on_ok_weaker}
+use Rattle.ds2_meaning.specs.Location.{Location}
+use Rattle.ds2_locality.specs.Deeds.{Change}
+use Rattle.ds2_deeds.specs.NumberedDeeds.{numbers_of}
+use Rattle.ds2_deeds.proofs.DeedLemmas.{equal_added, two_added}
+use Rattle.ds2_deeds.proofs.object_deeds.add_items_changed.Goals as goal
+
+pub returns : goal.returns
+returns c =
+    let n = numbers_of c.args.numbers in
+    let first = equal_added n (λ (at : Location). Change at ∷ []) _ _ _ _ c.named_location.ensures c.in_ok-add_change.ensures in
+    on_ok_weaker c.add_iterators_over.result (λ e. two_added n _ _ _ _ _ first e) c.add_iterators_over.ensures

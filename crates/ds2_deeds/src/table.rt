@@ -1,0 +1,123 @@
+//! The locations of a program in the order of their numbers.
+ghost use Rattle.std.specs.Prelude.{◌≡◌, [], ◌++◌, IfOk, OnOk, map, flat_map, Some};
+ghost use Rattle.ds2_layout.specs.Layout.{location_of_slot};
+ghost use Rattle.ds2_locality.specs.Verdict.{hashes_kept_at, iterators_kept_at, own_objects_first};
+ghost use Rattle.ds2_meaning.specs.ProgramTree.{InstanceTree};
+ghost use Rattle.ds2_meaning.specs.View.{instance_tree, objects_tree};
+ghost use Rattle.ds2_deeds.specs.CodeTrees.{nameless_tree};
+ghost use Rattle.ds2_deeds.specs.NamedLocations.{code_home, location_named, locations_named, with_location, with_locations, told_once};
+
+use crate::location::{
+    CodeHome, LocationName, global_location, home_of, named_location, number_of,
+};
+use ds2_base::{List, OutOfMemory};
+use ds2_layout::LayoutSlot;
+use ds2_meaning::{DeclaredHash, DeclaredIterator, Instance, Program};
+use std::alloc::Global;
+
+// Adds a location, where it is not there.
+fn add_location<'p>(
+    locations: &mut List<LocationName<'p>>,
+    at: LocationName<'p>,
+) -> Result<(), OutOfMemory>
+    ensures { OnOk result (locations_named locations.new ≡ with_location (locations_named locations.old) (location_named at.entry)) }
+{
+    match number_of(locations.as_slice(), at) {
+        None => locations.push(at),
+        Some(_) => Ok(()),
+    }
+}
+
+// Adds the locations of slots.
+fn add_slots<'p>(
+    locations: &mut List<LocationName<'p>>,
+    slots: &'p [LayoutSlot],
+) -> Result<(), OutOfMemory>
+    ensures { OnOk result (locations_named locations.new ≡ with_locations (locations_named locations.old) (map location_of_slot slots.now)) }
+{
+    'slots: for slot in slots {
+        add_location(
+            locations,
+            global_location(home_of(&slot.instance), &slot.global),
+        )?;
+    }
+    Ok(())
+}
+
+// Adds the hash objects of a home.
+fn add_hashes<'p>(
+    locations: &mut List<LocationName<'p>>,
+    home: CodeHome<'p>,
+    hashes: &'p [DeclaredHash],
+) -> Result<(), OutOfMemory>
+    ensures { OnOk result (locations_named locations.new ≡ with_locations (locations_named locations.old) (hashes_kept_at (code_home home.entry) (objects_tree hashes.now []))) }
+{
+    'hashes: for hash in hashes {
+        add_location(locations, named_location(home, &hash.name))?;
+    }
+    Ok(())
+}
+
+// Adds the hash objects of instances.
+fn add_instance_hashes<'p>(
+    locations: &mut List<LocationName<'p>>,
+    instances: &'p [Instance],
+) -> Result<(), OutOfMemory>
+    ensures { OnOk result (locations_named locations.new ≡ with_locations (locations_named locations.old) (flat_map (λ (i : InstanceTree). hashes_kept_at (Some i.name) i.objects) (map instance_tree instances.now))) }
+{
+    'instances: for instance in instances {
+        let home = CodeHome::Instance(&instance.name);
+        add_hashes(locations, home, instance.package.hashes.as_slice())?;
+    }
+    Ok(())
+}
+
+// Adds the iterators of a home.
+fn add_iterators<'p>(
+    locations: &mut List<LocationName<'p>>,
+    home: CodeHome<'p>,
+    iterators: &'p [DeclaredIterator],
+) -> Result<(), OutOfMemory>
+    ensures { OnOk result (locations_named locations.new ≡ with_locations (locations_named locations.old) (iterators_kept_at (code_home home.entry) (objects_tree [] iterators.now))) }
+{
+    'iterators: for iterator in iterators {
+        add_location(locations, named_location(home, &iterator.name))?;
+    }
+    Ok(())
+}
+
+// Adds the iterators of instances.
+fn add_instance_iterators<'p>(
+    locations: &mut List<LocationName<'p>>,
+    instances: &'p [Instance],
+) -> Result<(), OutOfMemory>
+    ensures { OnOk result (locations_named locations.new ≡ with_locations (locations_named locations.old) (flat_map (λ (i : InstanceTree). iterators_kept_at (Some i.name) i.objects) (map instance_tree instances.now))) }
+{
+    'instances: for instance in instances {
+        let home = CodeHome::Instance(&instance.name);
+        add_iterators(locations, home, instance.package.iterators.as_slice())?;
+    }
+    Ok(())
+}
+
+/// The locations of a program, each once: those of its slots, then the hash objects and then the iterators, its own before those of its instances.
+pub fn locations_in_order<'p>(
+    alloc: Global,
+    slots: &'p [LayoutSlot],
+    program: &'p Program,
+) -> Result<List<LocationName<'p>>, OutOfMemory>
+    ensures { IfOk result (λ locations. locations_named locations ≡ told_once (map location_of_slot slots.now ++ own_objects_first (nameless_tree program.now))) }
+{
+    let mut locations = List::new(alloc);
+    let instances = program.instances.as_slice();
+    add_slots(&mut locations, slots)?;
+    add_hashes(&mut locations, CodeHome::Program, program.hashes.as_slice())?;
+    add_instance_hashes(&mut locations, instances)?;
+    add_iterators(
+        &mut locations,
+        CodeHome::Program,
+        program.iterators.as_slice(),
+    )?;
+    add_instance_iterators(&mut locations, instances)?;
+    Ok(locations)
+}

@@ -1,0 +1,29 @@
+use Rattle.std.proofs.Common.{◌≡◌, sym, ap, ◌∙◌}
+use Rattle.std.proofs.lemmas.Result.{IfOk-weaker}
+use Rattle.ds2_deeds.specs.NamedLocations.{locations_named}
+use Rattle.ds2_deeds.specs.NamedMethods.{methods_named}
+use Rattle.ds2_layout.specs.declared.slot.Layout.{Layout}
+use Rattle.ds2_locality.specs.Verdict.{verdict_of}
+use Rattle.ds2_local.specs.JudgedTrees.{judged_thread}
+use Rattle.ds2_local.specs.Verdicts.{IsSoundAt}
+use Rattle.ds2_local.proofs.JudgedLemmas.{numbered_thread}
+use Rattle.ds2_local.proofs.ToldLemmas.{cells_are_told}
+use Rattle.ds2_local.proofs.verdict.judge.Goals as goal
+
+pub returns-clause-verdict : goal.returns-clause-verdict
+returns-clause-verdict c =
+    let t = judged_thread c.args.thread.now in
+    let numbered =
+    numbered_thread c.args.thread.now _ c.as_slice.result.now (c.as_slice.ensures ∙ ap (λ (l : Layout). l.slots) c.in_ok-layout.ensures)
+    (ap (λ l. locations_named l) c.as_slice-2.ensures ∙ c.in_ok-locations.ensures) (ap (λ l. methods_named l) c.as_slice-3.ensures ∙ c.in_ok-methods.ensures) in
+    c.verdict_by_numbers.ensures t numbered (cells_are_told t c.requires (c.own_first_tells_all.ensures t.program t.run_place t.term_place))
+
+pub returns-clause-independent : goal.returns-clause-independent
+returns-clause-independent c =
+    let t = judged_thread c.args.thread.now in
+    let numbered =
+    numbered_thread c.args.thread.now _ c.as_slice.result.now (c.as_slice.ensures ∙ ap (λ (l : Layout). l.slots) c.in_ok-layout.ensures)
+    (ap (λ l. locations_named l) c.as_slice-2.ensures ∙ c.in_ok-locations.ensures) (ap (λ l. methods_named l) c.as_slice-3.ensures ∙ c.in_ok-methods.ensures) in
+    let told = c.own_first_tells_all.ensures t.program t.run_place t.term_place in
+    IfOk-weaker c.verdict_by_numbers.result (λ verdict. verdict ≡ verdict_of t) (λ verdict. IsSoundAt t.program verdict)
+    (λ verdict e merges grain is. c.local_is_independent.ensures t c.requires told merges grain (sym e ∙ is)) (c.verdict_by_numbers.ensures t numbered (cells_are_told t c.requires told))

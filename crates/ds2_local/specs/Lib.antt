@@ -1,0 +1,6 @@
+pub mod JudgedTrees
+pub mod JudgedBodies
+pub mod RunGrounds
+pub mod EffectSteps
+pub mod Verdicts
+pub mod HeldWalks

@@ -1,0 +1,15 @@
+//! A program whose thread program is judged.
+
+use ds2_base::List;
+use ds2_deeds::{NumberedDeed, Numbers};
+use ds2_meaning::Program;
+use std::alloc::Global;
+
+/// A program that is judged: its locations and methods by their numbers, and the deeds of each method in the same order.
+#[derive(Clone, Copy)]
+pub struct JudgedBodies<'p> {
+    pub alloc: Global,
+    pub program: &'p Program,
+    pub numbers: Numbers<'p>,
+    pub deeds: &'p [List<NumberedDeed>],
+}

@@ -1,0 +1,10 @@
+pub mod WalkLemmas
+pub mod BitLemmas
+pub mod ReadLemmas
+pub mod CallLemmas
+pub mod EffectLemmas
+pub mod GoesLemmas
+pub mod BranchLemmas
+pub mod LoopLemmas
+pub mod TestsLemmas
+pub mod PartLemmas

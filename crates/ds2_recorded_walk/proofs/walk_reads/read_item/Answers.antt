@@ -1,0 +1,20 @@
+use Rattle.std.proofs.Common.{List, refl, ap}
+use Rattle.ds2_emitter.proofs.Appended.{on_ok}
+use Rattle.ds2_value.specs.declared.hash_function.HashFunction.TheVariants as hash_function
+use Rattle.ds2_locality.specs.Deeds.{variables_at}
+use Rattle.ds2_locality.specs.Walk.{read_by_hash, read_locations}
+use Rattle.ds2_meaning.specs.declared.hashes.HashVariable.{HashVariable}
+use Rattle.ds2_deeds.specs.NamedLocations.{code_home}
+use Rattle.ds2_recorded_walk.proofs.GoesLemmas.{goes_here, read_lists}
+use Rattle.ds2_recorded_walk.proofs.walk_reads.read_item.Goals as goal
+
+pub returns : goal.returns
+returns c =
+    let s = c.args.scope.now in
+    let home = code_home s.body.home in
+    let place = c.args.place in
+    let hash = c.args.hash.now in
+    on_ok c.read_variables.result c.read_variables.ensures
+    (λ p. goes_here s (λ calls. refl)
+    (read_lists s place (read_by_hash home hash_function.Find hash) (variables_at home hash.data_variables) (goes_here s (λ calls. refl) c.in_ok-read_keys.ensures)
+    (goes_here s (λ calls. ap (λ (l : List HashVariable). read_locations place (variables_at home l)) c.as_slice.ensures) p)))

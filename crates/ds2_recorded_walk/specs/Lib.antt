@@ -1,0 +1,6 @@
+pub mod LocationBits
+pub mod ElseWalks
+pub mod KnownFlags
+pub mod RecordedWalks
+pub mod RecordedStatements
+pub mod RecordedParts
