@@ -1,11 +1,11 @@
-//! The layouts of a data program and of a thread program, once with ample memory.
+//! The layout of a thread program, once with ample memory.
 use ds2_base::{List, Name, OutOfMemory, Place, Stop};
-use ds2_layout::{Layout, LayoutSlot, SlotRole, lay_out, lay_out_thread};
+use ds2_layout::{Layout, LayoutSlot, SlotRole, lay_out_thread};
 use ds2_meaning::{
-    ByVariable, Global as Named, Input, MentionedTable, OutputColumn, OutputTable, Program,
-    Reading, SystemMethod, TypedData, TypedThread, Variable,
+    Global as Named, OutputColumn, OutputTable, Program, Reading, SystemMethod, TypedThread,
+    Variable,
 };
-use ds2_value::{Column, Ty};
+use ds2_value::Ty;
 use std::alloc::Global;
 use std::test::Fail;
 
@@ -25,7 +25,7 @@ fn variable(alloc: Global, word: &str) -> Result<Variable, OutOfMemory> {
     })
 }
 
-// What the two programs have in common: `kept` and `cleared` are declared, of which the first is retained, and the second is written.
+// What the program declares and writes: `kept` and `cleared` are declared, of which the first is retained, and the second is written.
 #[derive(Drop)]
 struct CommonParts {
     declared: List<Variable>,
@@ -89,37 +89,6 @@ fn variables(alloc: Global, word: &str) -> Result<List<Variable>, OutOfMemory> {
     Ok(variables)
 }
 
-// `set s(in=here); by k;` over a table with the column `k`.
-fn reading(alloc: Global) -> Result<Reading, OutOfMemory> {
-    let by = ByVariable {
-        name: name(alloc, "k")?,
-        is_descending: false,
-    };
-    let mut bys = List::new(alloc);
-    bys.push(by)?;
-    let mut inputs = List::new(alloc);
-    inputs.push(input(alloc)?)?;
-    Ok(Reading::Set { inputs, bys })
-}
-
-fn input(alloc: Global) -> Result<Input, OutOfMemory> {
-    let column = Column {
-        name: name(alloc, "k")?,
-        ty: Ty::BigInt,
-    };
-    let mut columns = List::new(alloc);
-    columns.push(column)?;
-    let table = MentionedTable {
-        name: name(alloc, "s")?,
-        maker: 0,
-    };
-    Ok(Input {
-        table,
-        present: Some(name(alloc, "here")?),
-        columns,
-    })
-}
-
 // An output whose one column has the value of a variable.
 fn output(alloc: Global, source: &str) -> Result<OutputTable, OutOfMemory> {
     let column = OutputColumn {
@@ -134,18 +103,6 @@ fn output(alloc: Global, source: &str) -> Result<OutputTable, OutOfMemory> {
         overwrites: false,
         columns,
     })
-}
-
-// The data program, with a reading statement and its column.
-fn data_layout(alloc: Global) -> Result<Layout, OutOfMemory> {
-    let columns = variables(alloc, "k")?;
-    let parts = parts(alloc)?;
-    let reading = reading(alloc)?;
-    let typed = TypedData {
-        program: program(alloc, parts, columns, reading),
-        stage: None,
-    };
-    lay_out(alloc, &typed)
 }
 
 // The thread program, with a parameter.
@@ -181,23 +138,6 @@ fn are(slots: &[LayoutSlot], wanted: &[(&str, &str, SlotRole)]) -> bool {
         hold = hold && slot.ty == Ty::BigInt && slot.instance.is_none();
     }
     hold
-}
-
-#[test]
-fn lays_out_a_data_program(rt: HostRuntime) -> Result<(), Fail> {
-    let layout = data_layout(rt.alloc())?;
-    let wanted = [
-        ("variable", "kept", SlotRole::Kept),
-        ("variable", "cleared", SlotRole::Cleared),
-        ("variable", "k", SlotRole::Column),
-        ("in", "here", SlotRole::Flag),
-        ("first", "k", SlotRole::Flag),
-        ("last", "k", SlotRole::Flag),
-    ];
-    assert!(rt; are(layout.slots.as_slice(), &wanted));
-    let projection = layout.projections.get(0).ok_or("no projection")?;
-    assert!(rt; projection.as_slice() == [1].as_slice() && layout.projections.len() == 1);
-    Ok(())
 }
 
 #[test]

@@ -8,30 +8,16 @@
 #[cfg(test)]
 mod base;
 #[cfg(test)]
-mod csv_cells;
-#[cfg(test)]
 mod csv_files;
 #[cfg(test)]
-mod csv_records;
-#[cfg(test)]
 mod dealer;
-#[cfg(test)]
-mod decimal;
 #[cfg(test)]
 mod hashes;
 #[cfg(test)]
 mod layouts;
 #[cfg(test)]
-mod lexer;
-#[cfg(test)]
 mod outside;
 #[cfg(test)]
-mod readings;
-#[cfg(test)]
 mod schedule;
-#[cfg(test)]
-mod tables;
-#[cfg(test)]
-mod valid_code;
 #[cfg(test)]
 mod values;
