@@ -2,6 +2,7 @@ pub mod Bits
 pub mod FirstLeft
 pub mod FlagLemmas
 pub mod Flagged
+pub mod HeadLemmas
 pub mod Keys
 pub mod Parts
 pub mod Ranges

@@ -58,10 +58,10 @@ pub order_end : (ds : List Bool) (a b : List Value) (k : ℕ) → drop k ds ≡ 
 order_end ds a b k h = ap (λ rest. parts_order rest (drop k a) (drop k b)) h
 
 -- a part in which two keys differ decides
-pub part_decides : (ds : List Bool) (a b : List Value) (k : ℕ) (d x : Bool) (r : Ordering) (p q : Value) → k < length ds → d ≡ get_or ds k x
+pub part_decides : (ds : List Bool) (a b : List Value) (k : ℕ) (d x : Bool) (r : Ordering) (p q : Value) (o : Ordering) → k < length ds → d ≡ get_or ds k x
     → r ≡ value_order d p q → p ≡ part_of_key a k → q ≡ part_of_key b k → is_ne r ≡ true
-    → parts_order (drop k ds) (drop k a) (drop k b) ≡ parts_order ds a b → r ≡ parts_order ds a b
-part_decides ds a b k d x r p q l e v ep eq n inv =
+    → parts_order (drop k ds) (drop k a) (drop k b) ≡ o → r ≡ o
+part_decides ds a b k d x r p q o l e v ep eq n inv =
     let own : d ≡ get_or ds k d = e ∙ get_or_default ds k x d l in
     let r-is : r ≡ value_order d (part_of_key a k) (part_of_key b k) = v ∙ (λ i. value_order d (ep i) (eq i)) in
     r-is
@@ -70,11 +70,11 @@ part_decides ds a b k d x r p q l e v ep eq n inv =
     ∙ inv
 
 -- one in which they are equal leaves it to the parts behind it
-pub part_passes : (ds : List Bool) (a b : List Value) (k : ℕ) (d x : Bool) (r : Ordering) (p q : Value) → k < length ds → d ≡ get_or ds k x
+pub part_passes : (ds : List Bool) (a b : List Value) (k : ℕ) (d x : Bool) (r : Ordering) (p q : Value) (o : Ordering) → k < length ds → d ≡ get_or ds k x
     → r ≡ value_order d p q → p ≡ part_of_key a k → q ≡ part_of_key b k → is_ne r ≡ false
-    → parts_order (drop k ds) (drop k a) (drop k b) ≡ parts_order ds a b
-    → parts_order (drop (k + 1) ds) (drop (k + 1) a) (drop (k + 1) b) ≡ parts_order ds a b
-part_passes ds a b k d x r p q l e v ep eq n inv =
+    → parts_order (drop k ds) (drop k a) (drop k b) ≡ o
+    → parts_order (drop (k + 1) ds) (drop (k + 1) a) (drop (k + 1) b) ≡ o
+part_passes ds a b k d x r p q o l e v ep eq n inv =
     let own : d ≡ get_or ds k d = e ∙ get_or_default ds k x d l in
     let r-is : r ≡ value_order d (part_of_key a k) (part_of_key b k) = v ∙ (λ i. value_order d (ep i) (eq i)) in
     sym (undecided (value_order d (part_of_key a k) (part_of_key b k)) (parts_order (drop (k + 1) ds) (drop (k + 1) a) (drop (k + 1) b)) (ap is_ne (sym r-is) ∙ n))

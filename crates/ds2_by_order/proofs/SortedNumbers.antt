@@ -148,6 +148,11 @@ rises : (lt : ℕ → ℕ → Bool) → IsStrictWeakOrder lt → (is : List ℕ)
 rises lt o [] h = tt
 rises lt o (i ∷ is) h = rise lt o i is (next_rises lt i is h)
 
+-- the numbers of rows that tie with a row stand as they did
+abbrev pub IsStableForRows : List Bool → List (List Value) → List ℕ → Type 0
+IsStableForRows ds keys numbers =
+    (x : ℕ) → x < length keys → filter (ties (is_row_before ds keys) x) numbers ≡ filter (ties (is_row_before ds keys) x) (range_with_len 0 (length keys))
+
 module _ (ds : List Bool) (keys : List (List Value)) (h : AreKeys ds keys) (t : ℕ) where
   rows_fit_of : (is : List ℕ) → All (IsThere keys) is → AllFit ds (map (numbered_row t keys) is)
   rows_fit_of [] a = tt
@@ -216,12 +221,12 @@ module _ (ds : List Bool) (keys : List (List Value)) (h : AreKeys ds keys) (t : 
       by false e (inr none) = inr (ap (λ b. cond b (i ∷ filter (has key) is) (filter (has key) is)) e ∙ none)
 
   found_alike : (key : List Value) (is js : List ℕ) → All (IsThere keys) is → All (IsThere keys) js
-      → ((x : ℕ) → filter (ties (is_row_before ds keys) x) js ≡ filter (ties (is_row_before ds keys) x) is)
+      → ((x : ℕ) → x < length keys → filter (ties (is_row_before ds keys) x) js ≡ filter (ties (is_row_before ds keys) x) is)
       → ((i : ℕ) × (i < length keys) × (has key i ≡ true)) ⊎ (filter (has key) is ≡ [])
       → ((i : ℕ) × (i < length keys) × (has key i ≡ true)) ⊎ (filter (has key) js ≡ [])
       → filter (has key) js ≡ filter (has key) is
-  found_alike key is js a b s (inl f) q = tied_rows key f.0 js f.1 b f.2 ∙ s f.0 ∙ sym (tied_rows key f.0 is f.1 a f.2)
-  found_alike key is js a b s (inr n) (inl f) = tied_rows key f.0 js f.1 b f.2 ∙ s f.0 ∙ sym (tied_rows key f.0 is f.1 a f.2)
+  found_alike key is js a b s (inl f) q = tied_rows key f.0 js f.1 b f.2 ∙ s f.0 f.1 ∙ sym (tied_rows key f.0 is f.1 a f.2)
+  found_alike key is js a b s (inr n) (inl f) = tied_rows key f.0 js f.1 b f.2 ∙ s f.0 f.1 ∙ sym (tied_rows key f.0 is f.1 a f.2)
   found_alike key is js a b s (inr n) (inr m) = m ∙ sym n
 
   numbered_is : (keys-left : List (List Value)) (number : ℕ) → ((k : ℕ) → k < length keys-left → get_or keys (number + k) [] ≡ get_or keys-left k [])
@@ -248,7 +253,7 @@ module _ (ds : List Bool) (keys : List (List Value)) (h : AreKeys ds keys) (t : 
       subst (λ n. n < length keys) (sym (get_or-range_with_len 0 (length keys) k d m)) (omega (arith, m))
 
   in_order : (numbers : List ℕ) → IsPermutation (range_with_len 0 (length keys)) numbers → IsSortedBy (is_row_before ds keys) numbers
-      → IsStableBy (is_row_before ds keys) (range_with_len 0 (length keys)) numbers
+      → IsStableForRows ds keys numbers
       → map (numbered_row t keys) numbers ≡ in_by_order ds (numbered_rows t 0 keys)
   in_order numbers p s e =
       let all = range_with_len 0 (length keys) in
@@ -268,7 +273,7 @@ module _ (ds : List Bool) (keys : List (List Value)) (h : AreKeys ds keys) (t : 
 
 -- the numbers of rows, sorted stably by their keys, are those of the rows in BY order
 pub sorted_numbers : (ds : List Bool) (keys : List (List Value)) (numbers : List ℕ) → AreKeys ds keys → IsPermutation (range_with_len 0 (length keys)) numbers
-    → IsSortedBy (is_row_before ds keys) numbers → IsStableBy (is_row_before ds keys) (range_with_len 0 (length keys)) numbers → IsOrderOfRows ds keys numbers
+    → IsSortedBy (is_row_before ds keys) numbers → IsStableForRows ds keys numbers → IsOrderOfRows ds keys numbers
 sorted_numbers ds keys numbers h p s e = record {
   there = All-permutation (IsThere keys) (range_with_len 0 (length keys)) numbers p (all_there ds keys h 0);
   rows = λ t. in_order ds keys h t numbers p s e;
@@ -283,4 +288,4 @@ order_from ds keys n begin sorted-ones numbers h e b p s t same =
     let P : List ℕ → Type 0 = λ xs. IsPermutation xs sorted-ones in
     let T : List ℕ → Type 0 = λ xs. IsStableBy (is_row_before ds keys) xs sorted-ones in
     let O : List ℕ → Type 0 = IsOrderOfRows ds keys in
-    subst O (sym same) (sorted_numbers ds keys sorted-ones h (subst P all p) s (subst T all t))
+    subst O (sym same) (sorted_numbers ds keys sorted-ones h (subst P all p) s (λ x l. subst T all t x))

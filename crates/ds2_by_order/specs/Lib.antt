@@ -1,5 +1,6 @@
 pub mod CursorState
 pub mod GroupStarts
+pub mod KeyHeads
 pub mod KeyOrder
 pub mod LoadMeaning
 pub mod Places

@@ -1,11 +1,13 @@
 //! A table with the columns of the BY variables.
-ghost use Rattle.std.specs.Prelude.{◌≡◌, [], IsTrue, IfOk, length, get_or, option_copied, slice_get};
+ghost use Rattle.std.specs.Prelude.{◌≡◌, [], IsTrue, IfOk, IfSome, length, get_or, option_copied, slice_get};
 ghost use Rattle.ds2_value.specs.Value.{or_null};
+ghost use Rattle.ds2_by_order.specs.KeyHeads.{IsKeyHead};
 ghost use Rattle.ds2_by_order.specs.ReadingKeys.{keys_of_table};
 ghost use Rattle.ds2_by_order.specs.KeyOrder.{part_of_key};
 ghost use Rattle.ds2_reading.specs.ReadingFits.{read_table_fits};
 
 use crate::columns::columns_of_bys;
+use crate::heads::heads_of;
 use ds2_base::{List, OutOfMemory};
 use ds2_reading::{ByKey, ReadTable, Tables};
 use ds2_table::Table;
@@ -19,17 +21,22 @@ use std::sync::Arc;
 pub(crate) struct KeyedTable {
     table: Arc<Table, Global>,
     columns: List<usize>,
+    // for each row the head of its key, or for none
+    heads: List<i64>,
 }
 
 impl Model for KeyedTable {
     ghost use Rattle.std.specs.Prelude.{List as Items};
     ghost use Rattle.std.specs.Arc.{arc_value};
     ghost use Rattle.ds2_value.specs.declared.value.Value.{Value as Part};
+    ghost use Rattle.ds2_by_order.specs.KeyHeads.{AreKeyHeads};
     ghost use Rattle.ds2_by_order.specs.ReadingKeys.{keys_in_columns};
 
     ghost Value = { Items (Items Part) };
 
     ghost view = { λ t. keys_in_columns t.columns (arc_value t.table).rows };
+
+    ghost invariant = { λ t. AreKeyHeads t.heads (keys_in_columns t.columns (arc_value t.table).rows) };
 }
 
 impl KeyedTable {
@@ -46,10 +53,14 @@ impl KeyedTable {
         let columns = columns_of_bys(alloc, read.slots.as_slice(), bys)?;
         match tables.get(read.table as usize) {
             None => unreachable!(),
-            Some(table) => Ok(KeyedTable {
-                table: table.clone()?,
-                columns,
-            }),
+            Some(table) => {
+                let heads = heads_of(alloc, table, columns.as_slice())?;
+                Ok(KeyedTable {
+                    table: table.clone()?,
+                    columns,
+                    heads,
+                })
+            }
         }
     }
 
@@ -60,6 +71,7 @@ impl KeyedTable {
         Ok(KeyedTable {
             table: self.table.clone()?,
             columns: self.columns.copy(alloc)?,
+            heads: self.heads.copy(alloc)?,
         })
     }
 
@@ -77,5 +89,13 @@ impl KeyedTable {
     {
         let column = *self.columns.get(by)?;
         self.table.rows().get(row)?.get(column)
+    }
+
+    /// The head of a row's key; None where heads are not kept, or there is no such row.
+    pub(crate) fn head(&self, row: usize) -> Option<&i64>
+        ensures { IfSome result (λ head. IsKeyHead head.now (part_of_key (get_or self.now row []) 0)) }
+    {
+        let head = self.heads.get(row)?;
+        Some(head)
     }
 }

@@ -8,6 +8,9 @@
 mod columns;
 mod first_left;
 pub mod flags;
+mod headed_row;
+mod headed_sorting;
+mod heads;
 mod keyed_table;
 mod order;
 mod place;

@@ -6,6 +6,7 @@ ghost use Rattle.ds2_table.specs.LoadLaws.{AreKeys, HaveTableKeys};
 ghost use Rattle.ds2_by_order.specs.KeyOrder.{is_row_before, IsOrderOfRows, AreOrdersOfRows};
 
 use crate::TableRow;
+use crate::headed_sorting::{headed_rows, order_by_heads};
 use crate::keyed_table::KeyedTable;
 use crate::order::compare_rows;
 use ds2_base::{List, OutOfMemory};
@@ -44,8 +45,8 @@ fn sort_numbers(
     })
 }
 
-// The numbers of a table's rows in BY order.
-fn order_of_rows(
+// The numbers of a table's rows in BY order, by comparing their keys.
+fn order_by_keys(
     alloc: Global,
     directions: &[bool],
     tables: &[KeyedTable],
@@ -58,6 +59,23 @@ fn order_of_rows(
     let mut numbers = numbers_below(alloc, tables[table].len())?;
     sort_numbers(directions, tables, table, &mut numbers)?;
     Ok(List::of(numbers))
+}
+
+// The numbers of a table's rows in BY order. Where all heads tell, they stand beside the numbers while these are sorted.
+fn order_of_rows(
+    alloc: Global,
+    directions: &[bool],
+    tables: &[KeyedTable],
+    table: usize,
+) -> Result<List<usize>, OutOfMemory>
+    requires within { table < length tables.now }
+    requires keys { AreKeys directions.now (get_or tables.now table []) }
+    ensures { IfOk result (λ numbers. IsOrderOfRows directions.now (get_or tables.now table []) numbers) }
+{
+    match headed_rows(alloc, &tables[table])? {
+        None => order_by_keys(alloc, directions, tables, table),
+        Some(rows) => order_by_heads(alloc, directions, tables, table, rows),
+    }
 }
 
 /// For each table the numbers of its rows in BY order. A table whose rows stand in this order already costs one pass.

@@ -13,10 +13,15 @@ use ds2_value::{Ty, Value, assign};
 use std::alloc::Global;
 
 // A value in a type to which it may be assigned; null where that faults.
+#[inline]
 fn assigned(alloc: Global, value: &Value, ty: Ty) -> Result<Value, OutOfMemory>
     requires { IsTrue (in_bounds ty) }
     ensures { IfOk result (λ given. given ≡ or_null_at_fault (assign_of value.now ty)) }
 {
+    // A whole number is most of what tables have, and needs no rounding.
+    if let (Value::Int(i), Ty::BigInt) = (value, ty) {
+        return Ok(Value::Int(*i));
+    }
     match assign(alloc, value, ty) {
         Ok(given) => Ok(given),
         Err(Stop::Refused(_fault)) => Ok(Value::Null),
@@ -25,6 +30,7 @@ fn assigned(alloc: Global, value: &Value, ty: Ty) -> Result<Value, OutOfMemory>
 }
 
 // A value in the type of a slot; as it is where there is no such slot.
+#[inline]
 #[tactic(auto, using(crate::proofs::SlotTypes::type_within))]
 fn value_for(
     alloc: Global,
@@ -42,6 +48,7 @@ fn value_for(
 }
 
 // Sets a slot to a value in its type.
+#[inline]
 fn set_column(
     alloc: Global,
     parts: &[Slot],

@@ -1,6 +1,5 @@
 //! The machine between two instructions.
-ghost use Rattle.ds2_base.specs.Says.{Says};
-ghost use Rattle.std.specs.Prelude.{Result as CallResult, ◌≡◌, ◌∷◌, ◌<◌, ◌^◌, [], IsTrue, Some, IfOk, OnOk, false, slice_get};
+ghost use Rattle.std.specs.Prelude.{◌≡◌, ◌∷◌, ◌<◌, ◌^◌, [], IsTrue, Some, IfOk, OnOk, false, slice_get};
 ghost use Rattle.std.specs.Option.{is_some};
 ghost use Rattle.ds2_scales.specs.Scales.{IsDataScaled};
 ghost use Rattle.ds2_machine.specs.declared.state.Halt.TheVariants.{Normal as HaltNormal};
@@ -219,7 +218,11 @@ impl State {
             Instr::ICmp(comparison) => Ok(self.operate_on_pair(code, Instr::ICmp(comparison))),
             Instr::DAdd => Ok(self.operate_on_pair(code, Instr::DAdd)),
             Instr::DSub => Ok(self.operate_on_pair(code, Instr::DSub)),
+            Instr::DMul => Ok(self.operate_on_pair(code, Instr::DMul)),
+            Instr::DDiv => Ok(self.operate_on_pair(code, Instr::DDiv)),
             Instr::DCmp(comparison) => Ok(self.operate_on_pair(code, Instr::DCmp(comparison))),
+            Instr::IToD => self.operate_on_last(alloc, code, Instr::IToD, 1),
+            Instr::Rescale(p, s) => self.operate_on_last(alloc, code, Instr::Rescale(p, s), 1),
             _ => self.operate_on_many(alloc, code, instr, operands_of(instr)),
         }
     }
@@ -246,9 +249,27 @@ impl State {
         }
     }
 
-    // Puts the result of an operation in the place of its operands.
+    // Puts the result of an operation in the place of its operands; a call of its own, so that the loop stays short.
     #[inline(never)]
     fn operate_on_many(
+        &mut self,
+        alloc: Global,
+        code: &ProgramParts,
+        instr: Instr,
+        n: usize,
+    ) -> Result<Option<Halt>, OutOfMemory>
+        requires at { self.old.at < 2 ^ 32 }
+        requires bounds { IsTrue (has_type_in_bounds instr) }
+        requires scales { HasScalesFor instr self.old.operands.stack }
+        requires operands { operation_operands (kind_of instr) ≡ Some n }
+        ensures { IfOk result (λ halt. (told : UnitTold) → IsQuietStep (perform code.now (kind_of instr) (machine_of_state self.old told)) told self.new halt) }
+    {
+        self.operate_on_last(alloc, code, instr, n)
+    }
+
+    // Puts the result of an operation in the place of its operands.
+    #[inline(always)]
+    fn operate_on_last(
         &mut self,
         alloc: Global,
         code: &ProgramParts,
@@ -264,9 +285,9 @@ impl State {
         let Some(operands) = self.operands.last(n) else {
             return Ok(Some(Halt::Stuck));
         };
-        let outcome = outcome_of(computed(alloc, instr, operands))?;
-        match outcome {
-            Err(fault) => Ok(Some(Halt::Faulted(fault))),
+        match computed(alloc, instr, operands) {
+            Err(Stop::Refused(fault)) => Ok(Some(Halt::Faulted(fault))),
+            Err(Stop::OutOfMemory) => Err(OutOfMemory),
             Ok(value) => {
                 self.operands.replace_last(n, value)?;
                 self.at += 1;
@@ -701,18 +722,6 @@ fn push_constant(
     match constants.get(number) {
         None => operands.push(Value::Null),
         Some(constant) => operands.push_copy(alloc, &constant.value),
-    }
-}
-
-// What a call says, where memory did not run out.
-#[inline]
-fn outcome_of(said: Result<Value, Stop<Fault>>) -> Result<Result<Value, Fault>, OutOfMemory>
-    ensures { IfOk result (λ outcome. (want : CallResult Value Fault) → Says said want → want ≡ outcome) }
-{
-    match said {
-        Ok(value) => Ok(Ok(value)),
-        Err(Stop::Refused(fault)) => Ok(Err(fault)),
-        Err(Stop::OutOfMemory) => Err(OutOfMemory),
     }
 }
 

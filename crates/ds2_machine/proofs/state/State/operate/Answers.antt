@@ -1,7 +1,9 @@
-use Rattle.std.proofs.Common.{ap, Ok}
+use Rattle.std.proofs.Common.{ap, subst, Ok}
 use Rattle.ds2_base.specs.declared.stop.OutOfMemory.{OutOfMemory}
+use Rattle.ds2_code.specs.declared.instr.Instr.{Instr}
 use Rattle.ds2_code.specs.declared.instr.Instr.TheVariants as instr
 use Rattle.ds2_code.specs.InstructionTable.{kind_of}
+use Rattle.ds2_machine.specs.Executable.{HasScalesFor}
 use Rattle.ds2_machine.proofs.Steps.{quiet_of_kind}
 use Rattle.ds2_machine.proofs.state.State.operate.Goals as goal
 
@@ -25,3 +27,20 @@ returns-in-DSub c = quiet_of_kind {E = OutOfMemory} c.args.code.now (kind_of c.a
 
 pub returns-in-DCmp : goal.returns-in-DCmp
 returns-in-DCmp c = quiet_of_kind {E = OutOfMemory} c.args.code.now (kind_of c.args.instr) (kind_of (instr.DCmp c.in-DCmp.comparison)) c.args.self.now c.operate_on_pair-in-DCmp.new.self (Ok c.operate_on_pair-in-DCmp.result) (ap kind_of c.in-DCmp.is) c.operate_on_pair-in-DCmp.ensures
+
+pub returns-in-DMul : goal.returns-in-DMul
+returns-in-DMul c = quiet_of_kind {E = OutOfMemory} c.args.code.now (kind_of c.args.instr) (kind_of instr.DMul) c.args.self.now c.operate_on_pair-in-DMul.new.self (Ok c.operate_on_pair-in-DMul.result) (ap kind_of c.in-DMul.is) c.operate_on_pair-in-DMul.ensures
+
+pub returns-in-DDiv : goal.returns-in-DDiv
+returns-in-DDiv c = quiet_of_kind {E = OutOfMemory} c.args.code.now (kind_of c.args.instr) (kind_of instr.DDiv) c.args.self.now c.operate_on_pair-in-DDiv.new.self (Ok c.operate_on_pair-in-DDiv.result) (ap kind_of c.in-DDiv.is) c.operate_on_pair-in-DDiv.ensures
+
+pub returns-in-IToD : goal.returns-in-IToD
+returns-in-IToD c = quiet_of_kind {E = OutOfMemory} c.args.code.now (kind_of c.args.instr) (kind_of instr.IToD) c.args.self.now c.operate_on_last.new.self c.operate_on_last.result (ap kind_of c.in-IToD.is) c.operate_on_last.ensures
+
+pub returns-in-Rescale : goal.returns-in-Rescale
+returns-in-Rescale c = quiet_of_kind {E = OutOfMemory} c.args.code.now (kind_of c.args.instr) (kind_of (instr.Rescale c.in-Rescale.p c.in-Rescale.s)) c.args.self.now c.operate_on_last-in-Rescale.new.self c.operate_on_last-in-Rescale.result (ap kind_of c.in-Rescale.is) c.operate_on_last-in-Rescale.ensures
+
+pub operate_on_pair-requires-in-DMul-clause-scales : goal.operate_on_pair-requires-in-DMul-clause-scales
+operate_on_pair-requires-in-DMul-clause-scales c =
+    let P : Instr → Type 0 = λ i. HasScalesFor i c.args.self.now.operands.stack in
+    subst P c.in-DMul.is c.requires.scales
