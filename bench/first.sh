@@ -51,7 +51,7 @@ run() { # NAME SOURCE AWK
     }'
 }
 
-run sum 'data out; dcl bigint x; method run(); set t; x = a + b; end; enddata;' \
+run sum 'data out(overwrite=yes); dcl bigint x; method run(); set t; x = a + b; end; enddata;' \
     'NR>1{print $1+$2","$1","$2}'
-run condition 'data out; dcl bigint x; method run(); set t; if a > b then x = a - b; else x = b - a; end; enddata;' \
+run condition 'data out(overwrite=yes); dcl bigint x; method run(); set t; if a > b then x = a - b; else x = b - a; end; enddata;' \
     'NR>1{if($1>$2)x=$1-$2;else x=$2-$1;print x","$1","$2}'

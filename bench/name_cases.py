@@ -162,6 +162,14 @@ class Program:
         return left
 
 
+def made_tables(program):
+    """The tables that a program makes, each a name and the names of its columns, renamed."""
+    for output in program.outputs:
+        if not output.is_null:
+            new = {spelled(a): spelled(b) for o in output.options for a, b in o.renamings}
+            yield spelled(output.table), [new.get(name, name) for name in program.columns_left(output)]
+
+
 def option_names(output, word):
     return {spelled(t) for o in output.options if is_word(o.word, word) for t in o.listed}
 
@@ -455,8 +463,8 @@ def said_of_program(program):
     return ", ".join("{} at {}:{}".format(kind, *place) for kind, place in [first] + [b for b in broken if b != first])
 
 
-def answer(text, tables):
-    """The answer to a source; None where it has no tokens."""
+def answer(text, tables, until=None):
+    """The answer to a source, or to its programs that begin before a place; None where it has no tokens."""
     lexed = parse_cases.tokens(text.removeprefix("\ufeff"))
     if lexed is None:
         return None
@@ -465,11 +473,14 @@ def answer(text, tables):
         return parse_cases.answer(text)
     before = []
     for node in kids(read, "data"):
+        if until and first_token(node).place > until:
+            break
         program = Program(node, tables, before)
         said = "it declares instances" if program.has_instances else said_of_program(program)
         if said:
             return said
         before = before + [program]
+        tables = list(made_tables(program)) + tables
     return "its names fit"
 
 
@@ -488,8 +499,8 @@ def table_too_many(node):
     return found[16] if len(found) > 16 else None
 
 
-def refusal(text, tables):
-    """The refusal that the names of a source get; None where they fit, or where there is no tree."""
+def refusal(text, tables, until=None):
+    """The refusal that the names of a source get; None where they fit, or where there is no tree. Programs behind a place are not looked at."""
     lexed = parse_cases.tokens(text.removeprefix("\ufeff"))
     read = lexed and parse_cases.earley(lexed[0], True)[0]
     if not read:
@@ -497,7 +508,7 @@ def refusal(text, tables):
     many = table_too_many(read)
     if many:
         return "TooManyNames at {}:{}".format(*many)
-    said = answer(text, tables)
+    said = answer(text, tables, until)
     return None if said == "its names fit" else said.split(", ")[0]
 
 
@@ -509,7 +520,10 @@ def main():
         if text is None or not (is_named or case.status in (0, 6)):
             continue
         names = [name.removesuffix(".csv") for name in case.files if name.endswith(".csv")]
-        due = refusal(text, [(name, case.columns(name)) for name in names])
+        # A refusal of the types of a program comes before the names of the next one.
+        is_of_types = stands and stands.split(" ")[0] in TYPE_KINDS
+        until = tuple(map(int, stands.split(" at ")[1].split(":"))) if is_of_types else None
+        due = refusal(text, [(name, case.columns(name)) for name in names], until)
         count += 1
         if due != (stands if stands and stands.split(" ")[0] in KINDS else None):
             differ += 1

@@ -68,7 +68,7 @@ for kind in globals columns; do
         grep -q 'refused: Unexpected' tree.log
         grep -q 'refused: UnknownName' names.log
         grep -q 'refused: TypeClash' types.log
-        [ ! -s code.log ]
+        grep -q '^NOTE: [0-9]* instructions\.$' code.log
         for round in 1 2 3 4 5; do
             for end in tree names types code; do
                 echo "$end $(nanoseconds "$end")"

@@ -30,7 +30,7 @@ table() { # NAME ROWS ORDER: keys from 1 to ROWS
 }
 
 job() { # STATEMENT
-    printf 'data out; method run(); %s end; enddata;\n' "$1" >job.ds2
+    printf 'data out(overwrite=yes); method run(); %s end; enddata;\n' "$1" >job.ds2
 }
 
 tables() { # ROWS ORDER

@@ -8,6 +8,7 @@ use Rattle.ds2_mentions.specs.declared.mentions.Mention.{Mention}
 use Rattle.ds2_mentions.specs.declared.mentions.Mention.TheVariants as mention
 use Rattle.ds2_aliases.specs.declared.handings.Handing.{Handing}
 use Rattle.ds2_mentions.specs.declared.parts.MethodParts.{MethodParts}
+use Rattle.ds2_mentions.specs.declared.parts.UnitParts.{UnitParts}
 use Rattle.ds2_aliases.specs.ReachingMethods.{reaches}
 
 -- a name that is handed to a method, where nothing hides it
@@ -18,25 +19,27 @@ unhidden_handing hidden method n = if hidden n.name then [] else record { method
 abbrev pub handings_in : (List ℕ → Bool) → Mention → List Handing
 handings_in hidden (mention.Name n) = []
 handings_in hidden (mention.Call n handed) = from_each (unhidden_handing hidden n) handed
+handings_in hidden (mention.Object n handed) = []
 
 -- the globals that a method hands over
 abbrev pub handings_of_method : MethodParts → List Handing
 handings_of_method m = from_each (handings_in (is_named m.locals)) m.mentions
 
 -- the place of a global that is handed to a method that reaches it
-abbrev pub reached_place : List MethodParts → Handing → List Place
-reached_place methods h = place_unless (not (reaches methods h.name (length methods) h.method)) h.place
+abbrev pub reached_place : UnitParts → Handing → List Place
+reached_place unit h = place_unless (not (reaches unit h.name (length unit.methods) h.method)) h.place
 
 -- the second ones of two names that a mention hands over and that are one
 abbrev pub repeated_in_mention : Mention → List Place
 repeated_in_mention (mention.Name n) = []
 repeated_in_mention (mention.Call n handed) = later_places handed
+repeated_in_mention (mention.Object n handed) = later_places handed
 
 -- the second ones of two names that one call in a method hands over and that are one
 abbrev pub repeated_in_method : MethodParts → List Place
 repeated_in_method m = from_each repeated_in_mention m.mentions
 
--- the earliest aliased argument of methods: one that is handed over twice in a call, or a global that the called method reaches
-abbrev pub aliased_by_parts : List MethodParts → Option Place
-aliased_by_parts methods =
-    earlier_of (earliest (from_each repeated_in_method methods)) (earliest (from_each (reached_place methods) (from_each handings_of_method methods)))
+-- the earliest aliased argument of a unit: one that is handed over twice in a call, or a global that the called method reaches
+abbrev pub aliased_by_parts : UnitParts → Option Place
+aliased_by_parts unit =
+    earlier_of (earliest (from_each repeated_in_method unit.methods)) (earliest (from_each (reached_place unit) (from_each handings_of_method unit.methods)))

@@ -1,4 +1,4 @@
-//! What the calls of a data program hand to in_out parameters.
+//! What the calls of a unit hand to in_out parameters.
 ghost use Rattle.std.specs.Prelude.{◌≡◌, ◌++◌, IfOk, OnOk, nat_eq};
 ghost use Rattle.std.specs.Cmp.Lexicographic.{pointwise};
 ghost use Rattle.std.specs.HashSet.{contains};
@@ -74,6 +74,7 @@ fn push_in_mention(
         Mention::Call { name, handed } => {
             push_handings(alloc, found, locals, name, handed.as_slice())
         }
+        Mention::Object { .. } => Ok(()),
     }
 }
 

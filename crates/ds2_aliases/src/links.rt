@@ -1,10 +1,10 @@
-//! Hashed tables from a name to the methods that mention it, or that call it.
-ghost use Rattle.std.specs.Prelude.{◌≡◌, ◌||◌, ◌&&◌, ◌++◌, [], ℕ, List as Items, IfOk, OnOk, not, bytes_eq, if◌then◌else◌, nat_eq};
+//! Hashed tables from a name to the methods that mention it, that call it, or that use the instance of it.
+ghost use Rattle.std.specs.Prelude.{◌≡◌, ◌||◌, ◌&&◌, ◌++◌, ◌∷◌, [], ℕ, List as Items, IfOk, OnOk, not, bytes_eq, if◌then◌else◌, nat_eq};
 ghost use Rattle.std.specs.Cmp.Lexicographic.{pointwise};
 ghost use Rattle.std.specs.HashSet.{contains};
 ghost use Rattle.ds2_meaning.specs.ProgramTree.{is_listed};
 ghost use Rattle.ds2_names.specs.NameRules.{from_each};
-ghost use Rattle.ds2_aliases.specs.ReachingMethods.{unhidden_name, called_in, globals_mentioned, names_called};
+ghost use Rattle.ds2_aliases.specs.ReachingMethods.{unhidden_name, called_in, unhidden_object, globals_mentioned, objects_used};
 ghost use Rattle.ds2_aliases.specs.MethodLinks.{linked, links_of_method, HasLinks};
 
 use ds2_base::{Bytes, List, OutOfMemory};
@@ -20,10 +20,28 @@ pub(crate) enum LinkKind {
     Mentions,
     /// It calls a method or a function of the name.
     Calls,
+    /// It uses the instance of the name.
+    Uses,
 }
 
 /// For each name the methods that are linked to it.
 pub(crate) type LinkTable = HashMap<Bytes, List<Bytes>>;
+
+// Adds a name, where no parameter or local hides it.
+fn push_unless_hidden(
+    alloc: Global,
+    names: &mut List<Bytes>,
+    locals: &NameSet,
+    name: &Bytes,
+) -> Result<(), OutOfMemory>
+    ensures { OnOk result (names.new ≡ names.old ++ (if contains (pointwise nat_eq) locals.now name.now then [] else name.now ∷ [])) }
+{
+    if locals.contains(name) {
+        Ok(())
+    } else {
+        names.push(List::from_slice(alloc, name.as_slice())?)
+    }
+}
 
 // Adds the name in a mention, where no parameter or local hides it.
 fn push_unhidden(
@@ -35,14 +53,9 @@ fn push_unhidden(
     ensures { OnOk result (names.new ≡ names.old ++ unhidden_name (contains (pointwise nat_eq) locals.now) mention.now) }
 {
     match mention {
-        Mention::Name(name) => {
-            if locals.contains(name) {
-                Ok(())
-            } else {
-                names.push(List::from_slice(alloc, name.as_slice())?)
-            }
-        }
+        Mention::Name(name) => push_unless_hidden(alloc, names, locals, name),
         Mention::Call { .. } => Ok(()),
+        Mention::Object { .. } => Ok(()),
     }
 }
 
@@ -76,6 +89,7 @@ fn push_called(alloc: Global, names: &mut List<Bytes>, mention: &Mention) -> Res
     match mention {
         Mention::Name(_) => Ok(()),
         Mention::Call { name, .. } => names.push(List::from_slice(alloc, name.as_slice())?),
+        Mention::Object { .. } => Ok(()),
     }
 }
 
@@ -90,6 +104,45 @@ fn called_names(alloc: Global, mentions: &[Mention]) -> Result<List<Bytes>, OutO
     Ok(names)
 }
 
+// Adds the instance in a mention, where no parameter or local hides it.
+fn push_object(
+    alloc: Global,
+    names: &mut List<Bytes>,
+    locals: &NameSet,
+    mention: &Mention,
+) -> Result<(), OutOfMemory>
+    ensures { OnOk result (names.new ≡ names.old ++ unhidden_object (contains (pointwise nat_eq) locals.now) mention.now) }
+{
+    match mention {
+        Mention::Name(_) => Ok(()),
+        Mention::Call { .. } => Ok(()),
+        Mention::Object { name, .. } => push_unless_hidden(alloc, names, locals, name),
+    }
+}
+
+// The instances in mentions that no parameter or local hides.
+fn unhidden_objects(
+    alloc: Global,
+    locals: &NameSet,
+    mentions: &[Mention],
+) -> Result<List<Bytes>, OutOfMemory>
+    ensures { IfOk result (λ names. names ≡ from_each (unhidden_object (contains (pointwise nat_eq) locals.now)) mentions.now) }
+{
+    let mut names: List<Bytes> = List::new(alloc);
+    'mentions: for mention in mentions {
+        push_object(alloc, &mut names, locals, mention)?;
+    }
+    Ok(names)
+}
+
+// The instances that a method uses.
+fn objects_used(alloc: Global, m: &MethodParts) -> Result<List<Bytes>, OutOfMemory>
+    ensures { IfOk result (λ names. names ≡ objects_used m.now) }
+{
+    let locals = name_set(alloc, m.locals.as_slice())?;
+    unhidden_objects(alloc, &locals, m.mentions.as_slice())
+}
+
 // The names that a method is linked to.
 fn links_of_method(
     alloc: Global,
@@ -101,6 +154,7 @@ fn links_of_method(
     match kind {
         LinkKind::Mentions => globals_mentioned(alloc, m),
         LinkKind::Calls => called_names(alloc, m.mentions.as_slice()),
+        LinkKind::Uses => objects_used(alloc, m),
     }
 }
 

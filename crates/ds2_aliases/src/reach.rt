@@ -1,41 +1,48 @@
-//! Which methods reach a name: they mention it as a global, or call a method that reaches it.
+//! Which methods reach a name: they mention it as a global or by an instance, or call a method that reaches it.
 ghost use Rattle.std.specs.Prelude.{◌≡◌, ◌||◌, ◌&&◌, ◌++◌, ℕ, List as Items, IfOk, OnOk, not, length, bytes_eq, nat_eq};
 ghost use Rattle.std.specs.Cmp.Lexicographic.{pointwise};
 ghost use Rattle.std.specs.HashSet.{contains};
 ghost use Rattle.ds2_meaning.specs.ProgramTree.{is_listed};
 ghost use Rattle.ds2_names.specs.NameRules.{from_each};
-ghost use Rattle.ds2_mentions.specs.declared.parts.MethodParts.{MethodParts};
+ghost use Rattle.ds2_mentions.specs.declared.parts.UnitParts.{UnitParts};
 ghost use Rattle.ds2_aliases.specs.ReachingMethods.{reaches};
 ghost use Rattle.ds2_aliases.specs.MethodLinks.{linked};
 ghost use Rattle.ds2_aliases.specs.ReachedNames.{AreLinks, HasReached};
 
 use crate::links::{LinkKind, LinkTable, links_of};
 use ds2_base::{Bytes, List, OutOfMemory};
-use ds2_mentions::MethodParts;
+use ds2_mentions::UnitParts;
 use ds2_scope::{NameSet, add_name};
 use std::alloc::Global;
 use std::collections::{HashMap, HashSet};
 
-/// Which methods mention a name and which call one, and how many methods there are.
+/// Which methods mention a name, call one and use an instance, which instances have a variable of a name, and how many methods there are.
 #[derive(Drop)]
 pub(crate) struct Links {
     pub mentioners: LinkTable,
     pub callers: LinkTable,
+    pub users: LinkTable,
+    pub holders: LinkTable,
     pub depth: usize,
 }
 
 /// For names, the methods that reach each.
 pub(crate) type Reached = HashMap<Bytes, NameSet>;
 
-/// The links of the methods of a unit.
-pub(crate) fn links_of_methods(alloc: Global, methods: &[MethodParts]) -> Result<Links, OutOfMemory>
-    ensures { IfOk result (λ links. AreLinks links methods.now) }
+/// The links of the methods and instances of a unit.
+pub(crate) fn links_of_unit(alloc: Global, parts: &UnitParts) -> Result<Links, OutOfMemory>
+    ensures { IfOk result (λ links. AreLinks links parts.now) }
 {
+    let methods = parts.methods.as_slice();
     let mentioners = links_of(alloc, LinkKind::Mentions, methods)?;
     let callers = links_of(alloc, LinkKind::Calls, methods)?;
+    let users = links_of(alloc, LinkKind::Uses, methods)?;
+    let holders = links_of(alloc, LinkKind::Mentions, parts.objects.as_slice())?;
     Ok(Links {
         mentioners,
         callers,
+        users,
+        holders,
         depth: methods.len(),
     })
 }
@@ -76,6 +83,19 @@ fn linked_to(alloc: Global, table: &LinkTable, names: &[Bytes]) -> Result<List<B
     Ok(found)
 }
 
+// The methods that mention a name themselves.
+fn mentioning(alloc: Global, links: &Links, name: &Bytes) -> Result<List<Bytes>, OutOfMemory>
+    ensures { IfOk result (λ found. found ≡ linked links.now.mentioners name.now ++ from_each (linked links.now.users) (linked links.now.holders name.now)) }
+{
+    let mut holders: List<Bytes> = List::new(alloc);
+    push_linked(alloc, &mut holders, &links.holders, name)?;
+    let users = linked_to(alloc, &links.users, holders.as_slice())?;
+    let mut found: List<Bytes> = List::new(alloc);
+    push_linked(alloc, &mut found, &links.mentioners, name)?;
+    push_copies(alloc, &mut found, users.as_slice())?;
+    Ok(found)
+}
+
 // Adds a name to a set, and to a list where it was not in the set.
 #[tactic(auto, using(crate::proofs::TestLemmas::or_false, crate::proofs::TestLemmas::listed_last))]
 fn enter_one(
@@ -108,11 +128,11 @@ fn enter(alloc: Global, set: &mut NameSet, names: &[Bytes]) -> Result<List<Bytes
 
 // The methods that reach a name within as many calls as there are methods.
 fn reaching(alloc: Global, links: &Links, name: &Bytes) -> Result<NameSet, OutOfMemory>
-    ensures { IfOk result (λ set. (methods : Items MethodParts) → AreLinks links.now methods → (method : Items ℕ) → contains (pointwise nat_eq) set method ≡ reaches methods name.now (length methods) method) }
+    ensures { IfOk result (λ set. (unit : UnitParts) → AreLinks links.now unit → (method : Items ℕ) → contains (pointwise nat_eq) set method ≡ reaches unit name.now (length unit.methods) method) }
 {
     let mut reached: NameSet = HashSet::new(alloc);
-    let mut next: List<Bytes> = List::new(alloc);
-    push_linked(alloc, &mut next, &links.mentioners, name)?;
+    let begun = mentioning(alloc, links, name)?;
+    let mut next: List<Bytes> = begun;
     'layers: for _layer in 0..links.depth {
         let added = enter(alloc, &mut reached, next.as_slice())?;
         next = linked_to(alloc, &links.callers, added.as_slice())?;
@@ -128,8 +148,8 @@ pub(crate) fn is_reached(
     name: &Bytes,
     method: &Bytes,
 ) -> Result<bool, OutOfMemory>
-    ensures answer { IfOk result (λ answer. (methods : Items MethodParts) → AreLinks links.now methods → HasReached reached.old methods → answer ≡ reaches methods name.now (length methods) method.now) }
-    ensures table { OnOk result ((methods : Items MethodParts) → AreLinks links.now methods → HasReached reached.old methods → HasReached reached.new methods) }
+    ensures answer { IfOk result (λ answer. (unit : UnitParts) → AreLinks links.now unit → HasReached reached.old unit → answer ≡ reaches unit name.now (length unit.methods) method.now) }
+    ensures table { OnOk result ((unit : UnitParts) → AreLinks links.now unit → HasReached reached.old unit → HasReached reached.new unit) }
 {
     if let Some(set) = reached.get(name) {
         return Ok(set.contains(method));

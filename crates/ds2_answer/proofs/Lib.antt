@@ -1,6 +1,3 @@
 pub mod Numbers
-pub mod Ends
-pub mod OnePrograms
-pub mod Likes
-pub mod FirstFaults
-pub mod SaidFaults
+pub mod StoredPlans
+pub mod OptionSteps

@@ -1,5 +1,5 @@
 -- The lines of the log.
-use Rattle.std.specs.Prelude.{ℕ, List, [], ◌∷◌, ◌++◌, codes}
+use Rattle.std.specs.Prelude.{ℕ, List, [], ◌∷◌, ◌++◌, codes, Option, Some, None}
 use Rattle.std.specs.List.{flat_map}
 use Rattle.std.specs.Fmt.{decimal}
 use Rattle.ds2_base.specs.declared.place.Place.{Place}
@@ -20,6 +20,9 @@ use Rattle.ds2_answer.specs.declared.kinds.SourceReason.{SourceReason}
 use Rattle.ds2_answer.specs.declared.kinds.SourceReason.TheVariants.{Rule, NotBuilt}
 use Rattle.ds2_answer.specs.declared.kinds.FileKind.{FileKind}
 use Rattle.ds2_answer.specs.declared.kinds.FileKind.TheVariants as file
+use Rattle.ds2_answer.specs.declared.kinds.ObjectReason.{ObjectReason}
+use Rattle.ds2_answer.specs.declared.kinds.ObjectReason.TheVariants as reason
+use Rattle.ds2_object.specs.declared.refusal.ObjectRefusal.TheVariants as object
 
 -- the words are no command
 abbrev pub usage_line : List ℕ
@@ -60,6 +63,7 @@ abbrev pub kind_text : FileKind → List ℕ
 kind_text file.Absent = codes "Absent.\n"
 kind_text file.TooLarge = codes "TooLarge.\n"
 kind_text file.NotUtf8 = codes "NotUtf8.\n"
+kind_text file.OtherSchema = codes "OtherSchema.\n"
 kind_text (file.Table refusal) = table_kind_text refusal.kind ++ table_place refusal.kind refusal.row refusal.column
 
 -- a file is refused
@@ -133,6 +137,45 @@ error_line kind place = codes "ERROR: " ++ (kind ++ at_place place (codes ".\n")
 -- a table was written
 abbrev pub table_line : List ℕ → ℕ → List ℕ
 table_line name rows = codes "NOTE: Table " ++ (name ++ (codes ", " ++ (decimal rows ++ codes " rows.\n")))
+
+-- the instructions that the stored code of a program has executed
+abbrev pub count_line : ℕ → List ℕ
+count_line instructions = codes "NOTE: " ++ (decimal instructions ++ codes " instructions.\n")
+
+-- an object was stored in a file
+abbrev pub object_line : List ℕ → ℕ → List ℕ
+object_line name bytes = codes "NOTE: Object " ++ (name ++ (codes ", " ++ (decimal bytes ++ codes " bytes.\n")))
+
+-- the file of an output is there already, or an earlier output makes it
+abbrev pub exists_line : List ℕ → List ℕ
+exists_line name = codes "ERROR: Output " ++ (name ++ codes " exists.\n")
+
+-- what the line on a refused object says of the reason
+abbrev pub object_reason_text : ObjectReason → List ℕ
+object_reason_text (reason.Rule object.BadMagic) = codes "BadMagic.\n"
+object_reason_text (reason.Rule object.BadVersion) = codes "BadVersion.\n"
+object_reason_text (reason.Rule object.Truncated) = codes "Truncated.\n"
+object_reason_text (reason.Rule object.TrailingBytes) = codes "TrailingBytes.\n"
+object_reason_text (reason.Rule (object.BadField offset)) = codes "BadField at byte " ++ (decimal offset ++ codes ".\n")
+object_reason_text (reason.Rule object.NotValid) = codes "NotValid.\n"
+object_reason_text reason.NotBuilt = codes "NotBuilt.\n"
+
+-- an object is refused
+abbrev pub object_refused_line : ObjectReason → List ℕ
+object_refused_line why = codes "ERROR: Object refused: " ++ object_reason_text why
+
+-- what `check` says of a thread program: its verdict
+abbrev pub checked_thread_line : (name verdict : List ℕ) → List ℕ
+checked_thread_line name verdict = codes "NOTE: Thread " ++ (name ++ (codes ", " ++ (verdict ++ codes ".\n")))
+
+-- a verdict behind a name, where one is told
+abbrev pub verdict_part : Option (List ℕ) → List ℕ
+verdict_part None = []
+verdict_part (Some verdict) = codes ", " ++ verdict
+
+-- how many groups a thread program had, with its verdict where one is told
+abbrev pub thread_line : List ℕ → Option (List ℕ) → ℕ → List ℕ
+thread_line name verdict groups = codes "NOTE: Thread " ++ (name ++ (verdict_part verdict ++ (codes ", " ++ (decimal groups ++ codes " groups.\n"))))
 
 -- a line that a program has put
 abbrev pub line_put : List ℕ → List ℕ

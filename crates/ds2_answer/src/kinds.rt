@@ -1,5 +1,6 @@
-//! Why files and sources are refused.
+//! Why files, sources and objects are refused.
 use ds2_csv::{CsvRefusal, MOST_BYTES};
+use ds2_object::ObjectRefusal;
 use ds2_source::SourceKind;
 
 /// The most bytes of a source.
@@ -7,6 +8,9 @@ pub const SOURCE_LIMIT: u64 = 262_144;
 
 /// The most bytes of a table's file.
 pub const TABLE_LIMIT: u64 = MOST_BYTES as u64;
+
+/// The most bytes of an object.
+pub const OBJECT_LIMIT: u64 = 268_435_456;
 
 /// Why a source is refused.
 #[derive(Clone, Copy, Debug, PartialEq, Eq)]
@@ -28,4 +32,15 @@ pub enum FileKind {
     NotUtf8,
     /// Its bytes are no table.
     Table(CsvRefusal),
+    /// It is a table of other columns than the object names.
+    OtherSchema,
+}
+
+/// Why an object is refused.
+#[derive(Debug, Drop, PartialEq, Eq)]
+pub enum ObjectReason {
+    /// Its bytes are no object.
+    Rule(ObjectRefusal),
+    /// It has a form that isn't built yet.
+    NotBuilt,
 }

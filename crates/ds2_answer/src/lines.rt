@@ -1,11 +1,12 @@
 //! The lines of the log. Each ends with a line feed. A new line touches the files that docs/ARCHITECTURE.md lists under 'To add a
 //! log line'.
-ghost use Rattle.std.specs.Prelude.{◌≡◌, ◌++◌, IfOk, OnOk, string_bytes};
-ghost use Rattle.ds2_answer.specs.Lines.{error_line, fault_line, fault_text, file_line, lex_kind_text, parse_kind_text, line_put, lines_put, reason_text, scope_kind_text, source_line, table_kind_text, table_line, type_kind_text, usage_line};
+ghost use Rattle.std.specs.Prelude.{◌≡◌, ◌++◌, IfOk, OnOk, Some, None, string_bytes};
+ghost use Rattle.ds2_answer.specs.Lines.{checked_thread_line, count_line, error_line, exists_line, fault_line, fault_text, file_line, lex_kind_text, parse_kind_text, line_put, lines_put, object_line, object_refused_line, reason_text, scope_kind_text, source_line, table_kind_text, table_line, thread_line, type_kind_text, usage_line};
 
-use crate::{FileKind, SourceReason};
+use crate::{FileKind, ObjectReason, SourceReason};
 use ds2_base::{Bytes, Name, OutOfMemory, Place, Text};
 use ds2_csv::{CsvKind, CsvRefusal};
+use ds2_object::ObjectRefusal;
 use ds2_source::{LexKind, ParseKind, ScopeKind, SourceKind, TypeKind};
 use ds2_value::Fault;
 use std::alloc::{AllocError, Global};
@@ -54,6 +55,13 @@ fn refused_table_line(alloc: Global, name: &str, refusal: CsvRefusal) -> Result<
     }
 }
 
+// `ERROR: File NAME refused: OtherSchema.`
+fn other_schema_line(alloc: Global, name: &str) -> Result<String, AllocError>
+    ensures { IfOk result (λ line. string_bytes line ≡ file_line name.now FileKind.OtherSchema) }
+{
+    format!(in alloc; "ERROR: File {name} refused: OtherSchema.\n")
+}
+
 // `ERROR: File NAME refused: KIND.`
 fn file_line(alloc: Global, name: &str, kind: FileKind) -> Result<String, AllocError>
     ensures { IfOk result (λ line. string_bytes line ≡ file_line name.now kind) }
@@ -63,6 +71,7 @@ fn file_line(alloc: Global, name: &str, kind: FileKind) -> Result<String, AllocE
         FileKind::TooLarge => format!(in alloc; "ERROR: File {name} refused: TooLarge.\n"),
         FileKind::NotUtf8 => format!(in alloc; "ERROR: File {name} refused: NotUtf8.\n"),
         FileKind::Table(refusal) => refused_table_line(alloc, name, refusal),
+        FileKind::OtherSchema => other_schema_line(alloc, name),
     }
 }
 
@@ -225,6 +234,151 @@ pub fn say_table(alloc: Global, name: &Name, rows: u64, log: &mut Bytes) -> Resu
     ensures { OnOk result (log.new ≡ log.old ++ table_line name.now rows) }
 {
     let line = table_line(alloc, name.as_str(), rows)?;
+    log.append(line.as_str().as_bytes())
+}
+
+// `NOTE: K instructions.`
+fn count_line(alloc: Global, instructions: u128) -> Result<String, AllocError>
+    ensures { IfOk result (λ line. string_bytes line ≡ count_line instructions) }
+{
+    format!(in alloc; "NOTE: {instructions} instructions.\n")
+}
+
+// `NOTE: Object NAME, B bytes.`
+fn object_line(alloc: Global, name: &str, bytes: u64) -> Result<String, AllocError>
+    ensures { IfOk result (λ line. string_bytes line ≡ object_line name.now bytes) }
+{
+    format!(in alloc; "NOTE: Object {name}, {bytes} bytes.\n")
+}
+
+// `ERROR: Output NAME exists.`
+fn exists_line(alloc: Global, name: &str) -> Result<String, AllocError>
+    ensures { IfOk result (λ line. string_bytes line ≡ exists_line name.now) }
+{
+    format!(in alloc; "ERROR: Output {name} exists.\n")
+}
+
+// `ERROR: Object refused: KIND.`, with the place of a field.
+fn object_refused_line(alloc: Global, reason: &ObjectReason) -> Result<String, AllocError>
+    ensures { IfOk result (λ line. string_bytes line ≡ object_refused_line reason.now) }
+{
+    match reason {
+        ObjectReason::NotBuilt => format!(in alloc; "ERROR: Object refused: NotBuilt.\n"),
+        ObjectReason::Rule(rule) => match rule {
+            ObjectRefusal::BadMagic => format!(in alloc; "ERROR: Object refused: BadMagic.\n"),
+            ObjectRefusal::BadVersion => format!(in alloc; "ERROR: Object refused: BadVersion.\n"),
+            ObjectRefusal::Truncated => format!(in alloc; "ERROR: Object refused: Truncated.\n"),
+            ObjectRefusal::TrailingBytes => {
+                format!(in alloc; "ERROR: Object refused: TrailingBytes.\n")
+            }
+            ObjectRefusal::BadField { offset } => {
+                let offset = *offset;
+                format!(in alloc; "ERROR: Object refused: BadField at byte {offset}.\n")
+            }
+            ObjectRefusal::NotValid => format!(in alloc; "ERROR: Object refused: NotValid.\n"),
+        },
+    }
+}
+
+// `NOTE: Thread NAME, VERDICT.`
+fn checked_thread_line(alloc: Global, name: &str, verdict: &str) -> Result<String, AllocError>
+    ensures { IfOk result (λ line. string_bytes line ≡ checked_thread_line name.now verdict.now) }
+{
+    format!(in alloc; "NOTE: Thread {name}, {verdict}.\n")
+}
+
+// `NOTE: Thread NAME, VERDICT, G groups.`
+fn thread_line(alloc: Global, name: &str, verdict: &str, groups: u64) -> Result<String, AllocError>
+    ensures { IfOk result (λ line. string_bytes line ≡ thread_line name.now (Some verdict.now) groups) }
+{
+    format!(in alloc; "NOTE: Thread {name}, {verdict}, {groups} groups.\n")
+}
+
+// `NOTE: Thread NAME, G groups.`
+fn groups_line(alloc: Global, name: &str, groups: u64) -> Result<String, AllocError>
+    ensures { IfOk result (λ line. string_bytes line ≡ thread_line name.now None groups) }
+{
+    format!(in alloc; "NOTE: Thread {name}, {groups} groups.\n")
+}
+
+/// Adds the line that counts the instructions that a program's stored code has executed.
+pub fn say_count(alloc: Global, instructions: u128, log: &mut Bytes) -> Result<(), OutOfMemory>
+    ensures { OnOk result (log.new ≡ log.old ++ count_line instructions) }
+{
+    let line = count_line(alloc, instructions)?;
+    log.append(line.as_str().as_bytes())
+}
+
+/// Adds the line on an object that was stored, whose file has this name and so many bytes.
+pub fn say_object(
+    alloc: Global,
+    name: &Text,
+    bytes: u64,
+    log: &mut Bytes,
+) -> Result<(), OutOfMemory>
+    ensures { OnOk result (log.new ≡ log.old ++ object_line name.now bytes) }
+{
+    let line = object_line(alloc, name.as_str(), bytes)?;
+    log.append(line.as_str().as_bytes())
+}
+
+/// Adds the line on the file of an output that is there already.
+pub fn say_exists(alloc: Global, name: &Text, log: &mut Bytes) -> Result<(), OutOfMemory>
+    ensures { OnOk result (log.new ≡ log.old ++ exists_line name.now) }
+{
+    let line = exists_line(alloc, name.as_str())?;
+    log.append(line.as_str().as_bytes())
+}
+
+/// Adds the line on an object that is refused.
+pub fn say_object_refused(
+    alloc: Global,
+    reason: &ObjectReason,
+    log: &mut Bytes,
+) -> Result<(), OutOfMemory>
+    ensures { OnOk result (log.new ≡ log.old ++ object_refused_line reason.now) }
+{
+    let line = object_refused_line(alloc, reason)?;
+    log.append(line.as_str().as_bytes())
+}
+
+/// Adds the line of `check` on a thread program: its verdict, as `local` or `not local: term has statements`.
+pub fn say_checked_thread(
+    alloc: Global,
+    name: &Name,
+    verdict: &str,
+    log: &mut Bytes,
+) -> Result<(), OutOfMemory>
+    ensures { OnOk result (log.new ≡ log.old ++ checked_thread_line name.now verdict.now) }
+{
+    let line = checked_thread_line(alloc, name.as_str(), verdict)?;
+    log.append(line.as_str().as_bytes())
+}
+
+/// Adds the line on a thread program that has run: its verdict, and how many groups it had.
+pub fn say_thread(
+    alloc: Global,
+    name: &Name,
+    verdict: &str,
+    groups: u64,
+    log: &mut Bytes,
+) -> Result<(), OutOfMemory>
+    ensures { OnOk result (log.new ≡ log.old ++ thread_line name.now (Some verdict.now) groups) }
+{
+    let line = thread_line(alloc, name.as_str(), verdict, groups)?;
+    log.append(line.as_str().as_bytes())
+}
+
+/// Adds the line on a thread program of an object that has run, which has no verdict.
+pub fn say_groups(
+    alloc: Global,
+    name: &Name,
+    groups: u64,
+    log: &mut Bytes,
+) -> Result<(), OutOfMemory>
+    ensures { OnOk result (log.new ≡ log.old ++ thread_line name.now None groups) }
+{
+    let line = groups_line(alloc, name.as_str(), groups)?;
     log.append(line.as_str().as_bytes())
 }
 

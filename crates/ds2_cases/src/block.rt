@@ -11,14 +11,20 @@ use std::alloc::Global;
 pub(crate) struct Setting {
     /// The words after the program's name, where a line tells them.
     pub(crate) words: Option<Vec<Text>>,
+    /// The words of a command that runs over the given files before the case.
+    pub(crate) first_words: Option<Vec<Text>>,
     pub(crate) files: Vec<CaseFile>,
-    /// The names of given files that are not there.
+    /// The names of files that are not there, of those that are given or left by the command before.
     pub(crate) without: Vec<Text>,
     /// The calls of the store and of the log that fail, counted from 1.
     pub(crate) failing: Vec<u64>,
     pub(crate) failing_logs: Vec<u64>,
     /// Whether the answer tells the calls of the store.
     pub(crate) shows_calls: bool,
+    /// Whether the answer tells the numbers of instructions and the lengths of objects.
+    pub(crate) shows_counts: bool,
+    /// Whether the answer tells the bytes of objects.
+    pub(crate) shows_objects: bool,
     /// Whether the command runs by the call without threads alone.
     pub(crate) is_alone: bool,
 }
@@ -81,11 +87,14 @@ impl Setting {
     fn new(alloc: Global) -> Setting {
         Setting {
             words: None,
+            first_words: None,
             files: Vec::new(alloc),
             without: Vec::new(alloc),
             failing: Vec::new(alloc),
             failing_logs: Vec::new(alloc),
             shows_calls: false,
+            shows_counts: false,
+            shows_objects: false,
             is_alone: false,
         }
     }
@@ -122,10 +131,12 @@ impl Setting {
     }
 
     fn set_shown(&mut self, line: &str) -> Result<(), Stop<Mistake>> {
-        if line != "calls" {
-            return Err(Stop::Refused(Mistake::BadShow));
+        match line {
+            "calls" => self.shows_calls = true,
+            "counts" => self.shows_counts = true,
+            "objects" => self.shows_objects = true,
+            _ => return Err(Stop::Refused(Mistake::BadShow)),
         }
-        self.shows_calls = true;
         Ok(())
     }
 
@@ -149,6 +160,7 @@ impl Setting {
     ) -> Result<(), Stop<Mistake>> {
         match word {
             "words" => self.words = Some(words_of(alloc, rest)?),
+            "first" => self.first_words = Some(words_of(alloc, rest)?),
             "file" => self.add_file(alloc, rest)?,
             "without" => self.without.push(name_of(alloc, rest)?)?,
             "fail" => self.set_failing(alloc, rest)?,

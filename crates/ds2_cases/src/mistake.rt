@@ -6,7 +6,7 @@ use thiserror::Error;
 /// Why a line of cases can't be read.
 #[derive(Clone, Copy, Debug, PartialEq, Eq, Error)]
 pub enum Mistake {
-    #[error("a line begins with case, given, words, file, without, fail, show, alone, |, +, repeat or #")]
+    #[error("a line begins with case, given, words, first, file, without, fail, show, alone, |, +, repeat or #")]
     UnknownWord,
     #[error("a title, a name or a word is missing")]
     Missing,
@@ -20,7 +20,7 @@ pub enum Mistake {
     BadRepeat,
     #[error("`fail` is followed by `store` or `log` and the numbers of the calls that fail, from 1")]
     BadFail,
-    #[error("`calls` is all that can be shown beside the answer")]
+    #[error("`calls`, `counts` and `objects` are all that can be shown beside the answer")]
     BadShow,
     #[error("a title, a name and a word are UTF-8")]
     NotUtf8,

@@ -4,12 +4,15 @@
 //!
 //! - `case TITLE` begins a case, and `given` begins what holds for all cases up to the next `given`; what stands before both
 //!   is given too. A case's own words, calls that fail, and files of the same name take the place of the given ones.
-//! - `words WORD WORD ..` has the words after the program's name.
+//! - `words WORD WORD ..` has the words after the program's name. `first WORD WORD ..` has those of a command that runs over the
+//!   given files before the case's own files take their places; of what it leaves, the files alone stand.
 //! - `file NAME` begins a file. `| TEXT` adds a line to it, `+ TEXT` a text without a line feed, and `repeat N TEXT` a text so
 //!   many times. Texts and words may have escapes.
-//! - `without NAME` leaves out a given file.
+//! - `without NAME` leaves out a given file, or one that the first command has written.
 //! - `fail store N N ..` and `fail log N N ..` let these calls fail, counted from 1.
-//! - `show calls` lets the answer tell the calls of the store, and `alone` leaves out the run by the call with threads.
+//! - `show calls` lets the answer tell the calls of the store, `show counts` the numbers of instructions and the lengths of
+//!   objects, for which a letter stands otherwise, and `show objects` their bytes. `alone` leaves out the run by the call with
+//!   threads.
 //!
 //! Empty lines, and lines that begin with `#`, say nothing.
 

@@ -3,7 +3,7 @@
 use crate::block::Setting;
 use crate::contents::{CaseFile, contents};
 use crate::mistake::{CaseError, Mistake};
-use crate::telling::{add_contents, add_named};
+use crate::telling::{add_contents, add_named, without_counts};
 use crate::watched::{Asked, Call, Watched};
 use ds2_base::{Bytes, List, OutOfMemory, Stop, Text};
 use ds2_outside::{MemSink, MemStore, NoGate};
@@ -27,6 +27,25 @@ fn words_of<'a>(case: Case<'a>) -> &'a [Text] {
         Some(words) => words.as_slice(),
         None => &[],
     }
+}
+
+// The words of the command that runs before the case; None where none does.
+fn first_words<'a>(case: Case<'a>) -> Option<&'a [Text]> {
+    if let Some(words) = &case.own.first_words {
+        return Some(words.as_slice());
+    }
+    match &case.given.first_words {
+        Some(words) => Some(words.as_slice()),
+        None => None,
+    }
+}
+
+fn shows_counts(case: Case) -> bool {
+    case.own.shows_counts || case.given.shows_counts
+}
+
+fn shows_objects(case: Case) -> bool {
+    case.own.shows_objects || case.given.shows_objects
 }
 
 // The case's own numbers, or the given ones where it has none.
@@ -57,6 +76,45 @@ fn put_files(
     Ok(())
 }
 
+// Puts files that these calls have written into a store, but for those of these names.
+fn put_written(
+    alloc: Global,
+    calls: &[Call],
+    after: &MemStore,
+    without: &[Text],
+    store: &mut MemStore,
+) -> Result<(), OutOfMemory> {
+    for call in calls {
+        if call.asked != Asked::Write || is_named(without, &call.name) {
+            continue;
+        }
+        if let Some(bytes) = after.file(&call.name) {
+            store.put(alloc, &call.name, bytes.copy(alloc)?)?;
+        }
+    }
+    Ok(())
+}
+
+// Runs the command before the case, where it has one, over the given files, and puts what it has written into a store.
+fn put_first(alloc: Global, case: Case, store: &mut MemStore) -> Result<(), Stop<Mistake>> {
+    let Some(words) = first_words(case) else {
+        return Ok(());
+    };
+    let mut given = MemStore::new(alloc);
+    put_files(alloc, case.given.files.as_slice(), &[], &mut given)?;
+    let mut first = Watched::new(alloc, given);
+    let mut log = MemSink::new(alloc);
+    let _ = ds2_alone(alloc, words, &mut first, &mut log);
+    put_written(
+        alloc,
+        first.calls.as_slice(),
+        &first.store,
+        case.own.without.as_slice(),
+        store,
+    )?;
+    Ok(())
+}
+
 // The store of a case.
 fn store_of(alloc: Global, case: Case) -> Result<MemStore, Stop<Mistake>> {
     let mut store = MemStore::new(alloc);
@@ -66,6 +124,7 @@ fn store_of(alloc: Global, case: Case) -> Result<MemStore, Stop<Mistake>> {
         case.own.without.as_slice(),
         &mut store,
     )?;
+    put_first(alloc, case, &mut store)?;
     put_files(alloc, case.own.files.as_slice(), &[], &mut store)?;
     store.fail_at(own_or_given(
         alloc,
@@ -101,12 +160,13 @@ fn is_written(calls: &[Call], name: &Text) -> bool {
         .any(|call| call.asked == Asked::Write && call.name == *name)
 }
 
-// Adds a file that the command has made or changed.
+// Adds a file that the command has made or changed. Of an object the name says enough where its bytes are not told.
 fn add_file(
     alloc: Global,
     name: &Text,
     before: &MemStore,
     after: &MemStore,
+    tells_objects: bool,
     out: &mut String,
 ) -> Result<(), AllocError> {
     if is_unchanged(before, after, name) {
@@ -114,6 +174,7 @@ fn add_file(
     }
     add_named(alloc, "file", name.as_str(), out)?;
     match after.file(name) {
+        Some(_) if name.as_str().ends_with(".dso") && !tells_objects => Ok(()),
         Some(bytes) => add_contents(alloc, bytes.as_slice(), out),
         None => out.push_str("is gone\n"),
     }
@@ -125,11 +186,12 @@ fn add_written(
     calls: &[Call],
     before: &MemStore,
     after: &MemStore,
+    tells_objects: bool,
     out: &mut String,
 ) -> Result<(), AllocError> {
     for (index, call) in calls.iter().enumerate() {
         if call.asked == Asked::Write && !is_written(&calls[..index], &call.name) {
-            add_file(alloc, &call.name, before, after, out)?;
+            add_file(alloc, &call.name, before, after, tells_objects, out)?;
         }
     }
     Ok(())
@@ -142,11 +204,12 @@ fn add_others(
     calls: &[Call],
     before: &MemStore,
     after: &MemStore,
+    tells_objects: bool,
     out: &mut String,
 ) -> Result<(), AllocError> {
     for file in files {
         if !is_written(calls, &file.name) {
-            add_file(alloc, &file.name, before, after, out)?;
+            add_file(alloc, &file.name, before, after, tells_objects, out)?;
         }
     }
     Ok(())
@@ -177,6 +240,21 @@ struct Left {
     log: MemSink,
 }
 
+// Adds a log, with a letter for each count where these are not told.
+fn add_log(alloc: Global, log: &[u8], tells: bool, out: &mut String) -> Result<(), AllocError> {
+    if log.is_empty() {
+        return Ok(());
+    }
+    out.push_str("log\n")?;
+    match str::from_utf8(log) {
+        Ok(text) if !tells => {
+            let told = without_counts(alloc, text)?;
+            add_contents(alloc, told.as_bytes(), out)
+        }
+        _ => add_contents(alloc, log, out),
+    }
+}
+
 // The text of what a command has left of a case.
 fn told(alloc: Global, case: Case, left: &Left) -> Result<String, Stop<Mistake>> {
     let mut out = String::new(alloc);
@@ -186,19 +264,23 @@ fn told(alloc: Global, case: Case, left: &Left) -> Result<String, Stop<Mistake>>
     if case.own.shows_calls || case.given.shows_calls {
         add_calls(alloc, calls, &mut out)?;
     }
-    if !left.log.written().is_empty() {
-        out.push_str("log\n")?;
-        add_contents(alloc, left.log.written().as_slice(), &mut out)?;
-    }
+    add_log(
+        alloc,
+        left.log.written().as_slice(),
+        shows_counts(case),
+        &mut out,
+    )?;
+    let tells = shows_objects(case);
     let before = store_of(alloc, case)?;
     let after = &left.store.store;
-    add_written(alloc, calls, &before, after, &mut out)?;
+    add_written(alloc, calls, &before, after, tells, &mut out)?;
     add_others(
         alloc,
         case.given.files.as_slice(),
         calls,
         &before,
         after,
+        tells,
         &mut out,
     )?;
     add_others(
@@ -207,6 +289,7 @@ fn told(alloc: Global, case: Case, left: &Left) -> Result<String, Stop<Mistake>>
         calls,
         &before,
         after,
+        tells,
         &mut out,
     )?;
     Ok(out)

@@ -3,6 +3,7 @@
 //! Contents are told as lines `| TEXT`, with `+ TEXT` for what no line feed ends. Ten or more equal lines, and eighty or more
 //! equal characters, are told as `repeat N TEXT`. A control character, a byte order mark, a backslash and a blank at the end
 //! of a text are told by an escape; of bytes that are no UTF-8, each that is no ASCII.
+//! Where a case does not show counts, its log has a letter for each; where it does not show objects, each has its name alone.
 
 use std::alloc::{AllocError, Global};
 
@@ -172,6 +173,40 @@ pub(crate) fn add_contents(
         }
         None => add_tail(alloc, text, out),
     }
+}
+
+// Whether a line tells how many instructions were executed.
+fn is_count(line: &str) -> bool {
+    let Some(rest) = line.strip_prefix("NOTE: ") else {
+        return false;
+    };
+    match rest.strip_suffix(" instructions.\n") {
+        Some(digits) => digits.bytes().all(|byte| byte.is_ascii_digit()),
+        None => false,
+    }
+}
+
+// A line that tells the length of an object, up to the length.
+fn before_length(line: &str) -> Option<&str> {
+    let rest = line.strip_suffix(" bytes.\n")?;
+    rest.strip_prefix("NOTE: Object ")?;
+    let (before, _) = rest.rsplit_once(' ')?;
+    Some(before)
+}
+
+/// The text of a log with the letter K for each number of instructions and the letter B for the length of an object.
+pub(crate) fn without_counts(alloc: Global, log: &str) -> Result<String, AllocError> {
+    let mut out = String::new(alloc);
+    for line in log.split_inclusive('\n') {
+        if is_count(line) {
+            out.push_str("NOTE: K instructions.\n")?;
+        } else if let Some(before) = before_length(line) {
+            writeln!(out, "{before} B bytes.")?;
+        } else {
+            out.push_str(line)?;
+        }
+    }
+    Ok(out)
 }
 
 /// Adds a line with a name or a title.

@@ -1,5 +1,7 @@
 pub mod StagedCodes
 pub mod SchemaLemmas
-pub mod SourceTables
+pub mod Mentions
+pub mod KnownTables
 pub mod PlainPrograms
+pub mod LinkedCodes
 pub mod CompiledOutcomes

@@ -1,5 +1,6 @@
 -- Code that was made of a program is that of the definition.
-use Rattle.std.proofs.Common.{◌≡◌, List, [], ◌∷◌, ◌++◌, map, Some, refl, sym, ap, ◌∙◌, append_assoc}
+use Rattle.std.proofs.Common.{◌≡◌, List, [], ◌∷◌, ◌++◌, map, Some, refl, sym, ap, subst, ◌∙◌, append_assoc}
+use Rattle.std.specs.List.{AllByRecursion}
 use Rattle.std.specs.Option.{SomeIff}
 use Rattle.ds2_meaning.specs.ProgramTree.{ProgramTree, OverTables, OverStage, reader_of}
 use Rattle.ds2_meaning.specs.View.{typed_data_program}
@@ -20,6 +21,14 @@ staged_is (OverStage p stage) = λ i. record { program = program_code p; stages 
 
 pub made_is : (t : ProgramTree) (code : StagedParts) → SomeIff (Some code) (IsValidStaged (generated.code_with_stages t)) (generated.code_with_stages t) → code ≡ staged_code t
 made_is t code made = made.1 ∙ staged_is t
+
+pub made_is_valid : (t : ProgramTree) (code : StagedParts) → SomeIff (Some code) (IsValidStaged (generated.code_with_stages t)) (generated.code_with_stages t) → IsValidStaged code
+made_is_valid t code made = subst IsValidStaged (sym made.1) made.0
+
+-- valid codes and one more
+pub valid_pushed : (codes : List StagedParts) (code : StagedParts) → AllByRecursion IsValidStaged codes → IsValidStaged code → AllByRecursion IsValidStaged (codes ++ code ∷ [])
+valid_pushed [] code all valid = (valid, tt)
+valid_pushed (c ∷ codes) code all valid = (all.0, valid_pushed codes code all.1 valid)
 
 -- the code of one program more
 abbrev pub code_of_typed : TypedData → StagedParts

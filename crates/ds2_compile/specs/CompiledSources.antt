@@ -1,12 +1,13 @@
 -- What a source is compiled to.
-use Rattle.std.specs.Prelude.{◌≡◌, ℕ, IsTrue, List, [], ◌∷◌, Result, Ok, Err}
+use Rattle.std.specs.Prelude.{◌≡◌, ◌==◌, ℕ, true, IsTrue, List, [], ◌∷◌, Result, Ok, Err}
 use Rattle.std.specs.List.{AllByRecursion}
 use Rattle.ds2_base.specs.declared.stop.Stop.{Stop}
 use Rattle.ds2_base.specs.declared.stop.Stop.TheVariants.{Refused, OutOfMemory}
 use Rattle.ds2_tree.specs.Units.{SourcePart}
-use Rattle.ds2_meaning.specs.ProgramTree.{UnitTree, OverTables, is_listed}
+use Rattle.ds2_meaning.specs.ProgramTree.{ProgramTree, is_listed}
 use Rattle.ds2_code.specs.declared.parts.StagedParts.{StagedParts}
 use Rattle.ds2_code.specs.declared.parts.TableReference.{TableReference}
+use Rattle.ds2_object.specs.ObjectSpelling.{IsValidObject}
 use Rattle.ds2_same_meaning.specs.CodeTables.{program_references}
 use Rattle.ds2_names.specs.SourceUnit.{TableColumns, names_alone}
 use Rattle.ds2_elaboration.specs.Elaboration.{ProgramRefusal, elaborated_source}
@@ -22,29 +23,32 @@ pub record IsRunnable (code : StagedParts) : Type 0 where
   pub stages : code.stages ≡ []
   pub reading : IsBuiltReading code.program.reading
 
--- a table that code names is one of these names of tables of the store, and has the columns of that one
-pub record IsStoreTable (names : List (List ℕ)) (tables : TableColumns) (reference : TableReference) : Type 0 where
-  pub listed : IsTrue (is_listed names reference.name)
-  pub stored : reference.maker ≡ 0
-  pub columns : reference.columns ≡ tables reference.name
+-- a table of the store that code names is one of these names, and has the columns of that one
+abbrev pub HasStoreTable : List (List ℕ) → TableColumns → TableReference → Type 0
+HasStoreTable names tables reference = (reference.maker == 0) ≡ true → IsTrue (is_listed names reference.name) × (reference.columns ≡ tables reference.name)
 
 -- the code of a program over tables of the store with these names and columns: it means the same, it can be run, and it names no other
--- tables
-pub record IsCompiledProgram (names : List (List ℕ)) (tables : TableColumns) (p : UnitTree) (code : StagedParts) : Type 0 where
-  pub same : MeansSame (OverTables p) code
+-- tables of the store
+pub record IsCompiledProgram (names : List (List ℕ)) (tables : TableColumns) (p : ProgramTree) (code : StagedParts) : Type 0 where
+  pub same : MeansSame p code
   pub runs : IsRunnable code
-  pub reads : AllByRecursion (IsStoreTable names tables) (program_references code.program code.stages)
+  pub reads : AllByRecursion (HasStoreTable names tables) (program_references code.program code.stages)
 
 -- the codes of programs, one for each, in order
-abbrev pub AreCompiledPrograms : List (List ℕ) → TableColumns → List UnitTree → List StagedParts → Type 0
+abbrev pub AreCompiledPrograms : List (List ℕ) → TableColumns → List ProgramTree → List StagedParts → Type 0
 AreCompiledPrograms names tables [] [] = Unit {0}
 AreCompiledPrograms names tables [] (code ∷ codes) = ⊥
 AreCompiledPrograms names tables (p ∷ programs) [] = ⊥
 AreCompiledPrograms names tables (p ∷ programs) (code ∷ codes) = IsCompiledProgram names tables p code × AreCompiledPrograms names tables programs codes
 
--- what a source becomes was compiled: its programs to their codes, or its refusal was given, unless memory ran out
-abbrev pub IsOutcomeCompiled : List (List ℕ) → TableColumns → Result (List UnitTree) ProgramRefusal → Result Compiled (Stop SourceRefusal) → Type 0
-IsOutcomeCompiled names tables (Ok programs) (Ok compiled) = AreCompiledPrograms names tables programs compiled.programs
+-- the object of programs: valid code, in which each table that an earlier program makes has that one's columns, and the code of each program
+pub record IsCompiledObject (names : List (List ℕ)) (tables : TableColumns) (programs : List ProgramTree) (object : List StagedParts) : Type 0 where
+  pub valid : IsValidObject object
+  pub codes : AreCompiledPrograms names tables programs object
+
+-- what a source becomes was compiled: its programs to their object, or its refusal was given, unless memory ran out
+abbrev pub IsOutcomeCompiled : List (List ℕ) → TableColumns → Result (List ProgramTree) ProgramRefusal → Result Compiled (Stop SourceRefusal) → Type 0
+IsOutcomeCompiled names tables (Ok programs) (Ok compiled) = IsCompiledObject names tables programs compiled.object
 IsOutcomeCompiled names tables (Ok programs) (Err (Refused refusal)) = ⊥
 IsOutcomeCompiled names tables (Err refusal) (Ok compiled) = ⊥
 IsOutcomeCompiled names tables (Err refusal) (Err (Refused given)) = given ≡ source_refusal_of refusal

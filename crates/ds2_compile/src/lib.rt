@@ -1,7 +1,7 @@
-//! From a source to code.
+//! From a source to an object.
 //!
-//! [`compile`] gives the code of the programs of a source, or the source's first refusal. Each program's code means the same as the
-//! program: over any tables and with every budget both leave the same rows and lines and end alike.
+//! [`compile`] gives the object of a source, which has the code of each of its programs, or the source's first refusal. Each program's code
+//! means the same as the program: over any tables and with every budget both leave the same rows and lines and end alike.
 //!
 //! ```text
 //! let source = read_source(alloc, &text)?;

@@ -1,4 +1,4 @@
--- What holds of a data program that breaks no rule of names.
+-- What holds of a unit that breaks no rule of names.
 use Rattle.std.proofs.Common.{◌≡◌, ℕ, nat_le, nat_lt, bytes_eq, codes, cond, Bool, true, false, List, [], ◌∷◌, ◌++◌, length, map, filter, find, position, slice_get, unwrap_or, if◌then◌else◌, Option, Some, None, option_map, refl, sym, ap, ◌∙◌, subst, true≢false, arith}
 use Rattle.std.specs.List.{position_or_len, AllByRecursion}
 use Rattle.std.proofs.lemmas.Bool.{and_from, le-leb, lt-ltb}
@@ -64,6 +64,7 @@ each_of P Q f (x ∷ xs) h = (f x h.0, each_of P Q f xs h.1)
 pub record NamesHold (tables : TableColumns) (names : SourceNames) : Type 0 where
   pub unknown : unknown_names tables names ≡ []
   pub duplicate : duplicate_names names ≡ []
+  pub variables : not_variables names ≡ []
   pub too_many : too_many_names names ≡ []
   pub numbers : bad_numbers names ≡ []
   pub places : misplaced names ≡ []
@@ -83,6 +84,7 @@ names_hold tables names h =
     record {
       unknown = nowhere kind.UnknownName (unknown_names tables names) p1.0;
       duplicate = nowhere kind.DuplicateName (duplicate_names names) p1.1;
+      variables = nowhere kind.NotVariable (not_variables names) p4.1;
       too_many = nowhere kind.TooManyNames (too_many_names names) p6.1;
       numbers = nowhere kind.BadNumber (bad_numbers names) p7.1;
       places = nowhere kind.Misplaced (misplaced names) p8.1;

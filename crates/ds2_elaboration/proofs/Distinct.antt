@@ -1,27 +1,23 @@
--- The variables of a data program that breaks no rule have distinct names.
-use Rattle.std.proofs.Common.{◌≡◌, ℕ, bytes_eq, Bool, true, false, not, List, [], ◌∷◌, ◌++◌, map, if◌then◌else◌, Option, Some, None, refl, sym, ap, ◌∙◌, subst, append-nil}
+-- Distinct names: those of columns, and of the variables of a unit.
+use Rattle.std.proofs.Common.{◌≡◌, inl, inr, ℕ, bytes_eq, cond, Bool, true, false, not, ◌||◌, List, [], ◌∷◌, ◌++◌, map, filter, if◌then◌else◌, None, refl, sym, ap, ◌∙◌, subst}
 use Rattle.std.specs.List.{AllByRecursion}
-use Rattle.std.proofs.lemmas.Bool.{and_parts, and_from, or_from, or_parts, not_from_false}
+use Rattle.std.proofs.lemmas.Bool.{and_parts, and_from, or_from, or_parts, or_left, or_right, not_from_false}
 use Rattle.ds2_base.specs.declared.place.Place.{Place}
-use Rattle.ds2_token.specs.declared.token.Token.{Token}
-use Rattle.ds2_tree.specs.Globals.{GlobalItem, Declared, Listed, Defined, declaration_spelling, global_spelling}
-use Rattle.ds2_tree.specs.Lists.{all_spelled}
-use Rattle.ds2_tree.specs.Units.{DataProgram}
-use Rattle.ds2_tree.specs.declared.globals.Declaration.TheVariants as declaration
-use Rattle.ds2_tree.specs.declared.globals.VariableDeclaration.{VariableDeclaration}
 use Rattle.ds2_tree.specs.declared.readings.Input as source_input
 use Rattle.ds2_value.specs.Row.{Columns}
+use Rattle.ds2_value.specs.Schema.{has_column, distinct_names}
+use Rattle.ds2_value.specs.declared.schema.Column.{Column}
 use Rattle.ds2_value.specs.declared.ty.Ty.{Ty}
 use Rattle.ds2_meaning.specs.declared.globals.Variable as typed
 use Rattle.ds2_meaning.specs.IsTyped.{are_distinct, variable_names}
 use Rattle.ds2_meaning.specs.ProgramTree.{is_listed}
-use Rattle.ds2_names.specs.NameRules.{from_each, later_places}
-use Rattle.ds2_names.specs.SourceUnit.{TableColumns, spelled_name, PlacedName, names_alone, declared_names, variable_declarations, source_methods, source_instances, SourceInstance, KnownUnit, reading_of_run, tables_of_reading, new_columns_of, new_columns, stage_token, columns_of_stage, unit_of_data, names_of_unit, names_of_source, all_globals, instance_names}
-use Rattle.ds2_elaboration.specs.SourceTypes.{Absent, joined_over, joined_type, program_variables, program_inputs, column_variables}
-use Rattle.ds2_elaboration.specs.ProgramTypes.{vector_variables}
-use Rattle.ds2_elaboration.specs.TypedPrograms.{StandInOrder}
-use Rattle.ds2_elaboration.proofs.Locals.{declaration_within, declared_as_tokens, declared_variable_names, map_append}
-use Rattle.ds2_elaboration.proofs.Orders.{Within, none_within, behind_others, both_within, order_within, turned_bytes, is_given_before, not_given_before, first_not_before, distinct_tokens}
+use Rattle.ds2_names.specs.SourceUnit.{TableColumns, UnitSource, spelled_name, PlacedName, names_alone, declared_names, variable_declarations, new_columns_of, new_columns, vector_names}
+use Rattle.ds2_elaboration.specs.ElaborationLaws.{StandsAmong}
+use Rattle.ds2_elaboration.specs.SourceTypes.{joined_type, program_variables, unit_names, column_typing, column_variables, vector_variables}
+use Rattle.ds2_elaboration.specs.UnitsBefore.{UnitsBefore}
+use Rattle.ds2_elaboration.proofs.Accepted.{each_of, all_pass}
+use Rattle.ds2_elaboration.proofs.Locals.{declared_variable_names, map_append}
+use Rattle.ds2_elaboration.proofs.Orders.{bytes_are, turned_bytes}
 
 -- ---- lists of names
 
@@ -74,7 +70,7 @@ distinct_append (x ∷ xs) ys f g n =
 -- ---- new columns
 
 -- new names: distinct, and none of them known
-abbrev AreNew : List (List ℕ) → List PlacedName → Type 0
+abbrev pub AreNew : List (List ℕ) → List PlacedName → Type 0
 AreNew known names = (are_distinct (names_alone names) ≡ true) × NoneListed known (names_alone names)
 
 one_new_if : (b : Bool) (known : List (List ℕ)) (name : List ℕ) (place : Place) (others rest : List PlacedName) → is_listed known name ≡ b → AreNew known others
@@ -106,78 +102,73 @@ all_columns_new tables known (i ∷ inputs) =
       subst (λ ns. NoneListed known ns) e (none_listed_append known (names_alone own) (names_alone rest) p.1 r.1),
     )
 
--- ---- the variables of a program
+-- ---- kept names
 
-no_stage : (known : List KnownUnit) (names : List (List ℕ)) (token : Option Token) → columns_of_stage known [] names token ≡ []
-no_stage known names None = refl
-no_stage known names (Some t) = refl
+pub unlisted_if : (b : Bool) (own name : List ℕ) (rest : List (List ℕ)) → bytes_eq own name ≡ false → is_listed rest name ≡ false → is_listed (cond b (own ∷ rest) rest) name ≡ false
+unlisted_if true own name rest e h = or_from (bytes_eq own name) (is_listed rest name) e h
+unlisted_if false own name rest e h = h
 
--- without instances the columns are those of the tables
-pub columns_are : (tables : TableColumns) (known : List KnownUnit) (u : DataProgram) → source_instances u.globals ≡ []
-    → (names_of_unit tables known (unit_of_data u)).columns
-    ≡ new_columns tables (names_alone (declared_names (variable_declarations u.globals))) (tables_of_reading (reading_of_run (source_methods u.globals)))
-columns_are tables known u e =
-    let declared = names_alone (declared_names (variable_declarations u.globals)) in
-    let reading = reading_of_run (source_methods u.globals) in
-    let own = new_columns tables declared (tables_of_reading reading) in
-    ap (λ (is : List SourceInstance). own ++ columns_of_stage known is declared (stage_token reading)) e
-    ∙ (ap (λ (ns : List PlacedName). own ++ ns) (no_stage known declared (stage_token reading)) ∙ append-nil own)
+unlisted_kept : (test : List ℕ → Bool) (names : List (List ℕ)) (name : List ℕ) → is_listed names name ≡ false → is_listed (filter test names) name ≡ false
+unlisted_kept test [] name h = refl
+unlisted_kept test (n ∷ names) name h =
+    let p = or_parts (bytes_eq n name) (is_listed names name) h in unlisted_if (test n) n name (filter test names) p.0 (unlisted_kept test names name p.1)
 
-declarations_within : (globals : List GlobalItem)
-    → Within (from_each (λ (v : VariableDeclaration). v.names) (variable_declarations globals)) (all_spelled global_spelling globals)
-declarations_within [] = none_within []
-declarations_within (Declared (declaration.Variables v) ∷ globals) = both_within (declaration_within v) (declarations_within globals)
-declarations_within (Declared (declaration.Instance keyword package_keyword package' name arguments end) ∷ globals) =
-    behind_others (declaration_spelling (declaration.Instance keyword package_keyword package' name arguments end)) (declarations_within globals)
-declarations_within (Declared (declaration.Hash keyword package_keyword hash_keyword name opening keys comma items size closing end) ∷ globals) =
-    behind_others (declaration_spelling (declaration.Hash keyword package_keyword hash_keyword name opening keys comma items size closing end)) (declarations_within globals)
-declarations_within (Declared (declaration.Hiter keyword package_keyword hiter_keyword name opening hash closing end) ∷ globals) =
-    behind_others (declaration_spelling (declaration.Hiter keyword package_keyword hiter_keyword name opening hash closing end)) (declarations_within globals)
-declarations_within (Declared (declaration.Thread keyword thread_keyword thread name end) ∷ globals) =
-    behind_others (declaration_spelling (declaration.Thread keyword thread_keyword thread name end)) (declarations_within globals)
-declarations_within (Listed keyword names end ∷ globals) = behind_others (global_spelling (Listed keyword names end)) (declarations_within globals)
-declarations_within (Defined m ∷ globals) = behind_others (global_spelling (Defined m)) (declarations_within globals)
+pub distinct_if : (b : Bool) (own : List ℕ) (rest : List (List ℕ)) → is_listed rest own ≡ false → are_distinct rest ≡ true → are_distinct (cond b (own ∷ rest) rest) ≡ true
+distinct_if true own rest e h = and_from (not (is_listed rest own)) (are_distinct rest) (not_from_false (is_listed rest own) e) h
+distinct_if false own rest e h = h
 
-declared_distinct : (globals : List GlobalItem) (others : List PlacedName) → StandInOrder (all_spelled global_spelling globals)
-    → later_places (declared_names (variable_declarations globals) ++ others) ≡ [] → are_distinct (names_alone (declared_names (variable_declarations globals))) ≡ true
-declared_distinct globals others order once =
-    let declared = declared_names (variable_declarations globals) in
-    let tokens = from_each (λ (v : VariableDeclaration). v.names) (variable_declarations globals) in
-    let e = declared_as_tokens (variable_declarations globals) in
-    let first = first_not_before declared others (not_given_before (declared ++ others) once) in
-    ap (λ ns. are_distinct (names_alone ns)) e
-    ∙ distinct_tokens tokens (order_within (declarations_within globals) order)
-    (subst (λ ns. AllByRecursion (λ (n : PlacedName). AllByRecursion (λ (o : PlacedName). is_given_before n o ≡ false) ns) ns) e first)
+pub not_true : (b : Bool) → not b ≡ true → b ≡ false
+not_true true h = cc
+not_true false h = refl
 
-append_assoc : {A : Type 0} (xs ys zs : List A) → (xs ++ ys) ++ zs ≡ xs ++ (ys ++ zs)
-append_assoc [] ys zs = refl
-append_assoc (x ∷ xs) ys zs = ap (λ us. x ∷ us) (append_assoc xs ys zs)
+pub distinct_kept : (test : List ℕ → Bool) (names : List (List ℕ)) → are_distinct names ≡ true → are_distinct (filter test names) ≡ true
+distinct_kept test [] h = refl
+distinct_kept test (n ∷ names) h =
+    let p = and_parts (not (is_listed names n)) (are_distinct names) h in
+    distinct_if (test n) n (filter test names) (unlisted_kept test names n (not_true (is_listed names n) p.0)) (distinct_kept test names p.1)
+
+-- names that are not listed, kept of names
+pub unlisted_names : (known names : List (List ℕ)) → NoneListed known (filter (λ name. not (is_listed known name)) names)
+unlisted_names known names =
+    let kept = filter (λ name. not (is_listed known name)) names in
+    each_of (λ (name : List ℕ). not (is_listed known name) ≡ true) (λ (name : List ℕ). is_listed known name ≡ false) (λ name h. not_true (is_listed known name) h) kept
+    (all_pass (λ name. not (is_listed known name)) names)
+
+-- ---- the names of columns
+
+pub column_is_listed : (name : List ℕ) (columns : Columns) → is_listed (map (λ (c : Column). c.name) columns) name ≡ has_column name columns
+column_is_listed name [] = refl
+column_is_listed name (c ∷ columns) = ap (λ b. bytes_eq c.name name || b) (column_is_listed name columns)
+
+pub column_names_distinct : (columns : Columns) → distinct_names columns ≡ true → are_distinct (map (λ (c : Column). c.name) columns) ≡ true
+column_names_distinct [] h = refl
+column_names_distinct (c ∷ columns) h =
+    let names = map (λ (d : Column). d.name) columns in
+    let p = and_parts (not (has_column c.name columns)) (distinct_names columns) h in
+    and_from (not (is_listed names c.name)) (are_distinct names) (ap not (column_is_listed c.name columns) ∙ p.0) (column_names_distinct columns p.1)
+
+pub among_listed : (names : List (List ℕ)) (name : List ℕ) → StandsAmong names name → is_listed names name ≡ true
+among_listed [] name m = absurd m
+among_listed (n ∷ names) name m = elim m [
+  | inl e ↦ or_left (bytes_eq n name) (is_listed names name) (bytes_are n name (sym e))
+  | inr k ↦ or_right (bytes_eq n name) (is_listed names name) (among_listed names name k)
+]
+
+-- ---- the variables of a unit
 
 column_names : (names : List PlacedName) (f : PlacedName → Ty) → variable_names (map (λ (n : PlacedName). record { name = n.name; ty = f n }) names) ≡ names_alone names
 column_names [] f = refl
 column_names (n ∷ names) f = ap (λ ns. n.name ∷ ns) (column_names names f)
 
-pub vector_variable_names : (tables : TableColumns) (u : DataProgram)
-    → variable_names (vector_variables tables u) ≡ names_alone (declared_names (variable_declarations u.globals)) ++ names_alone (names_of_source tables u).columns
-vector_variable_names tables u =
-    map_append (λ (v : typed.Variable). v.name) (program_variables u) (column_variables tables u)
-    ∙ (ap (λ ns. ns ++ variable_names (column_variables tables u)) (declared_variable_names (variable_declarations u.globals))
-    ∙ ap (λ ns. names_alone (declared_names (variable_declarations u.globals)) ++ ns)
-    (column_names (names_of_source tables u).columns (λ n. joined_type (joined_over tables None n.name Absent (program_inputs u)))))
+pub vector_variable_names : (tables : TableColumns) (before : UnitsBefore) (u : UnitSource)
+    → variable_names (vector_variables tables before u) ≡ names_alone (unit_names tables before u).declared ++ names_alone (unit_names tables before u).columns
+vector_variable_names tables before u =
+    let declared = names_alone (declared_names (variable_declarations u.globals)) in
+    map_append (λ (v : typed.Variable). v.name) (program_variables u) (column_variables tables before u)
+    ∙ (ap (λ ns. ns ++ variable_names (column_variables tables before u)) (declared_variable_names (variable_declarations u.globals))
+    ∙ ap (λ ns. declared ++ ns) (column_names (unit_names tables before u).columns (λ n. joined_type (column_typing tables before u None n.name))))
 
-pub vector_distinct : (tables : TableColumns) (known : List KnownUnit) (u : DataProgram) → source_instances u.globals ≡ []
-    → StandInOrder (all_spelled global_spelling u.globals) → later_places (all_globals (names_of_unit tables known (unit_of_data u))) ≡ []
-    → are_distinct (variable_names (vector_variables tables u)) ≡ true
-vector_distinct tables known u none order once =
-    let names = names_of_unit tables known (unit_of_data u) in
-    let d = declared_names (variable_declarations u.globals) in
-    let c = names.columns in
-    let others = c ++ ([] ++ (names.flags ++ instance_names names)) in
-    let e : all_globals names ≡ d ++ others =
-    append_assoc (d ++ c ++ []) names.flags (instance_names names)
-    ∙ (append_assoc (d ++ c) [] (names.flags ++ instance_names names) ∙ append_assoc d c ([] ++ (names.flags ++ instance_names names))) in
-    let own = declared_distinct u.globals others order (subst (λ ns. later_places ns ≡ []) e once) in
-    let made = new_columns tables (names_alone d) (tables_of_reading (reading_of_run (source_methods u.globals))) in
-    let new = all_columns_new tables (names_alone d) (tables_of_reading (reading_of_run (source_methods u.globals))) in
-    ap are_distinct (vector_variable_names tables u ∙ ap (λ ns. names_alone d ++ names_alone ns) (columns_are tables [] u none))
-    ∙ distinct_append (names_alone d) (names_alone made) own new.0 new.1
+pub vector_is : (tables : TableColumns) (before : UnitsBefore) (u : UnitSource)
+    → names_alone (vector_names (unit_names tables before u)) ≡ variable_names (vector_variables tables before u)
+vector_is tables before u =
+    names_append (unit_names tables before u).declared (unit_names tables before u).columns ∙ sym (vector_variable_names tables before u)

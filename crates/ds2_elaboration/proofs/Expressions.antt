@@ -1,5 +1,5 @@
 -- Expressions that break no rule become typed nodes.
-use Rattle.std.proofs.Common.{◌≡◌, ℕ, codes, is_some, Bool, true, false, not, List, [], ◌∷◌, ◌++◌, if◌then◌else◌, Option, Some, None, refl, sym, ap, ◌∙◌, subst, true≢false}
+use Rattle.std.proofs.Common.{◌≡◌, ℕ, bytes_eq, codes, Bool, true, false, not, List, [], ◌∷◌, ◌++◌, if◌then◌else◌, Option, Some, None, refl, sym, ap, ◌∙◌, subst, true≢false}
 use Rattle.std.specs.List.{AllByRecursion}
 use Rattle.ds2_base.specs.declared.place.Place.{Place}
 use Rattle.ds2_token.specs.Words.{is_word}
@@ -10,39 +10,35 @@ use Rattle.ds2_tree.specs.declared.expressions.Callee.{Callee}
 use Rattle.ds2_tree.specs.declared.expressions.Callee.TheVariants as callee
 use Rattle.ds2_tree.specs.declared.expressions.ChainKind.{ChainKind}
 use Rattle.ds2_tree.specs.declared.expressions.ChainKind.TheVariants as chain
-use Rattle.ds2_value.specs.Types.{in_bounds, same_ty}
+use Rattle.ds2_value.specs.Types.{in_bounds}
 use Rattle.ds2_value.specs.declared.ty.Ty.{Ty}
 use Rattle.ds2_value.specs.declared.ty.Ty.TheVariants.{BigInt}
-use Rattle.ds2_meaning.specs.declared.location.Global.TheVariants.{Named, First, Last, Present, Parameter}
-use Rattle.ds2_meaning.specs.declared.location.Reference.{Reference}
-use Rattle.ds2_meaning.specs.declared.location.Reference.TheVariants.{At, Local}
-use Rattle.ds2_meaning.specs.declared.methods.Parameter as parameters
-use Rattle.ds2_meaning.specs.IsTyped.{NamesInScope, type_in, reference_type, IsTarget, IsNumeric, chain_type, expression_type, AreTypedLinks, AreTypedArguments}
+use Rattle.ds2_value.specs.declared.hash_function.HashFunction.{HashFunction}
+use Rattle.ds2_value.specs.declared.hash_function.HashFunction.TheVariants.{NumItems}
+use Rattle.ds2_value.specs.declared.hash_function.IteratorFunction.{IteratorFunction}
+use Rattle.ds2_value.specs.declared.value.Value.TheVariants.{Null as NullValue}
+use Rattle.ds2_meaning.specs.declared.location.Global.TheVariants.{First, Last, Present}
+use Rattle.ds2_meaning.specs.declared.location.Reference.TheVariants.{At}
+use Rattle.ds2_meaning.specs.IsTyped.{NamesInScope, type_in, reference_type, IsNumeric, chain_type, expression_type, AreTypedLinks, AreTypedArguments}
 use Rattle.ds2_meaning.specs.ProgramTree.{is_listed}
 use Rattle.ds2_meaning.specs.TypedExpression as tree
+use Rattle.ds2_names.specs.NameRules.{is_flag_word}
 use Rattle.ds2_names.specs.SourceUnit.{spelled_name}
 use Rattle.ds2_names.specs.Uses.{first_place, method_named}
-use Rattle.ds2_elaboration.specs.ExpressionTypes.{TypeScope, KnownVariable, known_global, known_before_globals, known_variable, variable_node, value_of_variable, elaborated_variable, flag_node, elaborated_flag, number_of_method, ElaboratedArguments, value_argument, is_settable_reference, reference_in, reference_or_none, in_out_argument, arguments_for, result_of_method, method_or_function_call, elaborated_call, ElaboratedLinks, is_truth_chain, link_refusals, elaborated, truth_links, value_links, elaborated_arguments}
+use Rattle.ds2_elaboration.specs.ExpressionTypes.{TypeScope, ObjectCalls, InstanceCalls, HashCalls, IteratorCalls, ParameterCalls, KnownVariable, hash_function_named, iterator_function_named, known_parameter, known_global, global_variable, known_before_globals, known_variable, variable_node, value_of_variable, elaborated_variable, flag_node, elaborated_flag, object_in_scope, member_of_object, elaborated_member, number_of_method, ElaboratedArguments, arguments_for, result_of_method, elaborated_method_call, method_or_function_call, values_for, elaborated_hash_call, elaborated_iterator_call, elaborated_instance_call, elaborated_object_call, elaborated_call, ElaboratedLinks, is_truth_chain, link_refusals, elaborated, truth_links, value_links, elaborated_arguments}
 use Rattle.ds2_elaboration.specs.FunctionTypes.{ElaboratedArgument}
 use Rattle.ds2_elaboration.specs.OperatorTypes.{elaborated_link}
 use Rattle.ds2_elaboration.specs.SourceTypes.{elaborated_parameters, returned_type}
 use Rattle.ds2_elaboration.specs.TypedForms.{IsOfTyping, IsSoundlyElaborated, IsSoundArgument, IsLeft, LinkFits}
-use Rattle.ds2_elaboration.specs.TypedScopes.{IsBoundedIfAny, MethodStands, ScopeStands, ExpressionsAreTyped}
-use Rattle.ds2_elaboration.specs.Typings.{TypeRefusals, clash_unless, Typing, Known, NullAt, Unknown, ElaboratedExpression, form_of_type, typing_behind, form_of_operands, elaborated_nameless, where_known, truth_refusals, assigned_refusals}
+use Rattle.ds2_elaboration.specs.TypedScopes.{IsBoundedIfAny, MethodStands, ObjectStands, ScopeStands, ExpressionsAreTyped}
+use Rattle.ds2_elaboration.specs.Typings.{TypeRefusals, clash_unless, Typing, Known, NullAt, Unknown, ElaboratedExpression, form_of_type, typing_behind, form_of_operands, elaborated_nameless, truth_refusals}
+use Rattle.ds2_elaboration.proofs.Arguments.{method_arguments}
 use Rattle.ds2_elaboration.proofs.Choices.{nameless_typed, any_of_typing, null_test_typed, either, function_typed}
 use Rattle.ds2_elaboration.proofs.Comparisons.{comparison_typed}
 use Rattle.ds2_elaboration.proofs.Constants.{constant_typed}
 use Rattle.ds2_elaboration.proofs.Links.{sign_typed, not_typed, next_link}
-use Rattle.ds2_elaboration.proofs.Operands.{unclashed, numeric, one_type, truth_operand, form_typed, assigned_typed}
+use Rattle.ds2_elaboration.proofs.Operands.{unclashed, numeric, truth_operand, form_typed}
 use Rattle.ds2_elaboration.proofs.Outcome.{both_empty}
-
-pub is_target : (r : Reference) → is_settable_reference r ≡ true → IsTarget r
-is_target (At (Named name)) h = tt
-is_target (At (Parameter name)) h = tt
-is_target (At (First name)) h = cc
-is_target (At (Last name)) h = cc
-is_target (At (Present name)) h = cc
-is_target (Local name) h = tt
 
 -- a variable that a name stands for is in scope, of a type in bounds
 pub record KnownStands (names : NamesInScope) (v : KnownVariable) : Type 0 where
@@ -61,13 +57,21 @@ module _ (scope : TypeScope) (names : NamesInScope) (stands : ScopeStands scope 
   flag_stands name true e = record { there = stands.flags name e; bounds = refl }
   flag_stands name false e = tt
 
+  parameter_stands : (name : List ℕ) (found : Option Ty) → type_in scope.parameters name ≡ found → StandsIfKnown names (known_parameter scope name found)
+  parameter_stands name (Some ty) e = let p = stands.parameters name ty e in record { there = p.0; bounds = p.1 }
+  parameter_stands name None e = flag_stands name (is_listed scope.flags name) refl
+
   global_stands : (name : List ℕ) (found : Option Ty) → type_in scope.variables name ≡ found → StandsIfKnown names (known_global scope name found)
   global_stands name (Some ty) e = let p = stands.variables name ty e in record { there = p.0; bounds = p.1 }
-  global_stands name None e = flag_stands name (is_listed scope.flags name) refl
+  global_stands name None e = parameter_stands name (type_in scope.parameters name) refl
+
+  -- a global of a method's unit
+  pub global_found : (name : List ℕ) → StandsIfKnown names (global_variable scope name)
+  global_found name = global_stands name (type_in scope.variables name) refl
 
   local_stands : (name : List ℕ) (found : Option Ty) → type_in scope.locals name ≡ found → StandsIfKnown names (known_before_globals scope name found)
   local_stands name (Some ty) e = let p = stands.locals name ty e in record { there = p.0; bounds = p.1 }
-  local_stands name None e = global_stands name (type_in scope.variables name) refl
+  local_stands name None e = global_found name
 
   pub known_stands : (name : List ℕ) → StandsIfKnown names (known_variable scope name)
   known_stands name = local_stands name (type_in scope.locals name) refl
@@ -95,81 +99,90 @@ module _ (scope : TypeScope) (names : NamesInScope) (stands : ScopeStands scope 
   flag_typed object member =
       flag_if object.place (spelled_name member) (is_listed scope.bys (spelled_name member)) (is_word (codes "first") object) (is_word (codes "last") object) refl
 
-  -- ---- arguments of methods
+  -- ---- members of objects
 
-  -- a variable of this type that may be set
-  abbrev IsHanded : Ty → Reference → Type 0
-  IsHanded ty reference = IsTarget reference × (reference_type names reference ≡ Some ty)
+  -- a call of a hash object that is there
+  hash_called : (object : Token) (f : HashFunction) → ObjectStands names (spelled_name object) HashCalls
+      → IsSoundlyElaborated names (form_of_type BigInt [] (tree.HashCalled (spelled_name object) f))
+  hash_called object f o = λ h. (o, refl, refl)
 
-  handed_if : (ty : Ty) (reference : Reference) (b : Bool) → is_settable_reference reference ≡ b → is_some (if b then Some reference else None) ≡ true
-      → reference_type names reference ≡ Some ty → IsHanded ty (reference_or_none (if b then Some reference else None))
-  handed_if ty reference true e s t = (is_target reference e, t)
-  handed_if ty reference false e s t = cc
+  member_stands : (object member : Token) (found : Option ObjectCalls) → object_in_scope scope (spelled_name object) ≡ found
+      → IsSoundlyElaborated names (member_of_object object member found)
+  member_stands object member None e = nameless_typed names object.place
+  member_stands object member (Some (InstanceCalls methods)) e = nameless_typed names object.place
+  member_stands object member (Some HashCalls) e =
+      either names (bytes_eq (spelled_name member) (codes "num_items")) (form_of_type BigInt [] (tree.HashCalled (spelled_name object) NumItems))
+      (elaborated_nameless object.place) (hash_called object NumItems (stands.objects (spelled_name object) HashCalls e)) (nameless_typed names object.place)
+  member_stands object member (Some IteratorCalls) e = nameless_typed names object.place
+  member_stands object member (Some (ParameterCalls parameters)) e = nameless_typed names object.place
 
-  handed : (ty : Ty) (place : Place) (typing : Typing) (node : tree.TypedExpression) → IsOfTyping names typing node → is_some (reference_in node) ≡ true
-      → where_known typing (λ own. clash_unless (same_ty own ty) place) ≡ [] → IsHanded ty (reference_or_none (reference_in node))
-  handed ty place (Known own) (tree.Variable reference declared) h s w =
-      handed_if ty reference (is_settable_reference reference) refl s (h.0 ∙ ap (λ t. Some t) (h.1 ∙ one_type own ty (unclashed (same_ty own ty) place w)))
-  handed ty place (Known own) _ h s w = cc
-  handed ty place (NullAt word) node h s w = absurd (true≢false (sym s ∙ ap (λ n. is_some (reference_in n)) h))
-  handed ty place Unknown node h s w = absurd h
-
-  argument_if : (p : parameters.Parameter) (ps : List parameters.Parameter) (x : ElaboratedArgument) (rest : ElaboratedArguments) (b : Bool) → p.is_in_out ≡ b
-      → in_bounds p.ty ≡ true → IsSoundArgument names x → (rest.refusals ≡ [] → AreTypedArguments names ps rest.arguments)
-      → (if b then in_out_argument p.ty x rest else value_argument p.ty x rest).refusals ≡ []
-      → AreTypedArguments names (p ∷ ps) (if b then in_out_argument p.ty x rest else value_argument p.ty x rest).arguments
-  argument_if p ps x rest true e bounds f r h =
-      let own = clash_unless (is_some (reference_in x.value.node)) x.place in
-      let exact = where_known x.value.typing (λ own. clash_unless (same_ty own p.ty) x.place) in
-      let a = both_empty (x.value.refusals ++ own ++ exact) rest.refusals h in
-      let c = both_empty (x.value.refusals ++ own) exact a.0 in
-      let d = both_empty x.value.refusals own c.0 in
-      let t = handed p.ty x.place x.value.typing x.value.node (f d.0) (unclashed (is_some (reference_in x.value.node)) x.place d.1) c.1 in
-      (e, t.0, t.1, r a.1)
-  argument_if p ps x rest false e bounds f r h =
-      let a = both_empty (assigned_refusals p.ty x.place x.value) rest.refusals h in
-      let t = assigned_typed names p.ty x.place x.value f bounds a.0 in
-      (e, t.typed, t.exact, r a.1)
-
-  pub arguments_fit : (place : Place) (ps : List parameters.Parameter) (xs : List ElaboratedArgument)
-      → AllByRecursion (λ (p : parameters.Parameter). in_bounds p.ty ≡ true) ps → AllByRecursion (IsSoundArgument names) xs
-      → (arguments_for place ps xs).refusals ≡ [] → AreTypedArguments names ps (arguments_for place ps xs).arguments
-  arguments_fit place [] [] b f h = tt
-  arguments_fit place [] (x ∷ xs) b f h = cc
-  arguments_fit place (p ∷ ps) [] b f h = cc
-  arguments_fit place (p ∷ ps) (x ∷ xs) b f h =
-      argument_if p ps x (arguments_for place ps xs) p.is_in_out refl b.0 f.0 (arguments_fit place ps xs b.1 f.1) h
+  pub member_typed : (object member : Token) → IsSoundlyElaborated names (elaborated_member scope object member)
+  member_typed object member =
+      let found = object_in_scope scope (spelled_name object) in
+      either names (is_flag_word object) (elaborated_flag scope object member) (member_of_object object member found)
+      (flag_typed object member) (member_stands object member found refl)
 
   -- ---- calls
 
-  result_typed : (place : Place) (number : ℕ) (m : Method) (arguments : ElaboratedArguments) (returned : Option Ty) → returned_type m.returns ≡ returned
-      → (s : MethodStands names number m) → (arguments.refusals ≡ [] → AreTypedArguments names s.method.parameters arguments.arguments)
-      → IsSoundlyElaborated names (result_of_method place number arguments returned)
-  result_typed place number m arguments (Some ty) e s f = λ h. ((s.method, s.there, s.returns ∙ e, f h), refl, subst IsBoundedIfAny e s.result_bounds)
-  result_typed place number m arguments None e s f =
-      form_typed names (arguments.refusals ++ clash_unless false place) (tree.Called None number arguments.arguments BigInt) (λ h.
+  result_typed : (place : Place) (instance : Option (List ℕ)) (number : ℕ) (m : Method) (arguments : ElaboratedArguments) (returned : Option Ty)
+      → returned_type m.returns ≡ returned → (s : MethodStands (names.methods instance) number m)
+      → (arguments.refusals ≡ [] → AreTypedArguments names s.method.parameters arguments.arguments)
+      → IsSoundlyElaborated names (result_of_method place instance number arguments returned)
+  result_typed place instance number m arguments (Some ty) e s f =
+      λ h. ((s.method, s.there, s.returns ∙ e, f h), refl, subst IsBoundedIfAny e s.result_bounds)
+  result_typed place instance number m arguments None e s f =
+      form_typed names (arguments.refusals ++ clash_unless false place) (tree.Called instance number arguments.arguments BigInt) (λ h.
       let p = both_empty arguments.refusals (clash_unless false place) h in absurd (true≢false (sym (unclashed false place p.1))))
 
-  -- the arguments of a method that can be called
-  pub method_arguments : (place : Place) (number : ℕ) (m : Method) (xs : List ElaboratedArgument) → (s : MethodStands names number m)
-      → AllByRecursion (IsSoundArgument names) xs → (arguments_for place (elaborated_parameters m) xs).refusals ≡ []
-      → AreTypedArguments names s.method.parameters (arguments_for place (elaborated_parameters m) xs).arguments
-  method_arguments place number m xs s f h =
-      subst (λ ps. AreTypedArguments names ps (arguments_for place (elaborated_parameters m) xs).arguments) (sym s.parameters)
-      (arguments_fit place (elaborated_parameters m) xs s.parameter_bounds f h)
+  -- a call of a method, of the unit or of an instance
+  method_call : (instance : Option (List ℕ)) (methods : List Method) (name : Token) (m : Method) (xs : List ElaboratedArgument)
+      → MethodStands (names.methods instance) (number_of_method methods (spelled_name name)) m → AllByRecursion (IsSoundArgument names) xs
+      → IsSoundlyElaborated names (elaborated_method_call instance methods name m xs)
+  method_call instance methods name m xs s f =
+      let number = number_of_method methods (spelled_name name) in
+      result_typed name.place instance number m (arguments_for name.place (elaborated_parameters m) xs) (returned_type m.returns) refl s
+      (method_arguments names (names.methods instance) name.place number m xs s f)
 
   named_call : (name : Token) (xs : List ElaboratedArgument) (found : Option Method) → method_named scope.methods (spelled_name name) ≡ found
       → AllByRecursion (IsSoundArgument names) xs → IsSoundlyElaborated names (method_or_function_call scope name xs found)
-  named_call name xs (Some m) e f =
-      let s = stands.methods (spelled_name name) m e in
-      let number = number_of_method scope.methods (spelled_name name) in
-      result_typed name.place number m (arguments_for name.place (elaborated_parameters m) xs) (returned_type m.returns) refl s (method_arguments name.place number m xs s f)
+  named_call name xs (Some m) e f = method_call None scope.methods name m xs (stands.methods (spelled_name name) m e) f
   named_call name xs None e f = function_typed names name xs f
+
+  instance_call : (object name : Token) (methods : List Method) (xs : List ElaboratedArgument) → ObjectStands names (spelled_name object) (InstanceCalls methods)
+      → AllByRecursion (IsSoundArgument names) xs → (found : Option Method) → method_named methods (spelled_name name) ≡ found
+      → IsSoundlyElaborated names (elaborated_instance_call object name methods xs found)
+  instance_call object name methods xs o f None e = nameless_typed names object.place
+  instance_call object name methods xs o f (Some m) e = method_call (Some (spelled_name object)) methods name m xs (o (spelled_name name) m e) f
+
+  hash_call : (object method : Token) (f : Option HashFunction) → ObjectStands names (spelled_name object) HashCalls
+      → IsSoundlyElaborated names (elaborated_hash_call object method f)
+  hash_call object method None o = nameless_typed names object.place
+  hash_call object method (Some f) o = hash_called object f o
+
+  iterator_call : (object method : Token) (f : Option IteratorFunction) → ObjectStands names (spelled_name object) IteratorCalls
+      → IsSoundlyElaborated names (elaborated_iterator_call object method f)
+  iterator_call object method None o = nameless_typed names object.place
+  iterator_call object method (Some f) o = λ h. (o, refl, refl)
+
+  -- a call on an object
+  pub object_call : (object method : Token) (xs : List ElaboratedArgument) → AllByRecursion (IsSoundArgument names) xs → (found : Option ObjectCalls)
+      → object_in_scope scope (spelled_name object) ≡ found → IsSoundlyElaborated names (elaborated_object_call object method xs found)
+  object_call object method xs f None e = nameless_typed names object.place
+  object_call object method xs f (Some (InstanceCalls methods)) e =
+      instance_call object method methods xs (stands.objects (spelled_name object) (InstanceCalls methods) e) f (method_named methods (spelled_name method)) refl
+  object_call object method xs f (Some HashCalls) e =
+      hash_call object method (hash_function_named (spelled_name method)) (stands.objects (spelled_name object) HashCalls e)
+  object_call object method xs f (Some IteratorCalls) e =
+      iterator_call object method (iterator_function_named (spelled_name method)) (stands.objects (spelled_name object) IteratorCalls e)
+  object_call object method xs f (Some (ParameterCalls parameters)) e =
+      let own = (values_for method.place parameters xs).refusals in
+      form_typed names (own ++ clash_unless false method.place) (tree.Constant NullValue BigInt) (λ h.
+      let p = both_empty own (clash_unless false method.place) h in absurd (true≢false (sym (unclashed false method.place p.1))))
 
   pub call_typed : (f : Callee) (xs : List ElaboratedArgument) → AllByRecursion (IsSoundArgument names) xs → IsSoundlyElaborated names (elaborated_call scope f xs)
   call_typed (callee.Function name) xs f = named_call name xs (method_named scope.methods (spelled_name name)) refl f
   call_typed (callee.Null keyword) xs f = null_test_typed names keyword.place xs f
-  call_typed (callee.Method object dot method) xs f = nameless_typed names object.place
+  call_typed (callee.Method object dot method) xs f = object_call object method xs f (object_in_scope scope (spelled_name object)) refl
 
   -- ---- chains
 
@@ -229,7 +242,7 @@ module _ (scope : TypeScope) (names : NamesInScope) (stands : ScopeStands scope 
     expression_typed (Constant t) g = constant_typed names t
     expression_typed (Null keyword) g = λ h. refl
     expression_typed (Variable name) g = variable_typed name
-    expression_typed (Member object dot member) g = flag_typed object member
+    expression_typed (Member object dot member) g = member_typed object member
     expression_typed (Call f opening xs closing) g = call_typed f (elaborated_arguments scope xs) (arguments_typed xs g.1)
     expression_typed (Parenthesis opening inner closing) g = expression_typed inner g
     expression_typed (Sign operator operand) g = sign_typed names operator (elaborated scope operand) (expression_typed operand g.1.0)

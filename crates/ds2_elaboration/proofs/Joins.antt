@@ -4,6 +4,7 @@ use Rattle.std.specs.List.{AllByRecursion}
 use Rattle.std.proofs.lemmas.Bool.{and_parts}
 use Rattle.ds2_base.specs.declared.place.Place.{Place}
 use Rattle.ds2_tree.specs.declared.readings.Input as source_input
+use Rattle.ds2_value.specs.Row.{Columns}
 use Rattle.ds2_value.specs.Schema.{distinct_names, types_in_bounds, is_schema}
 use Rattle.ds2_value.specs.Types.{in_bounds, takes, join_of, JoinTakesBoth, TakesItself, TakesOnward}
 use Rattle.ds2_value.specs.declared.ty.Ty.{Ty}
@@ -15,7 +16,7 @@ use Rattle.ds2_elaboration.proofs.Outcome.{both_empty}
 use Rattle.ds2_elaboration.proofs.Vectors.{IsBoundedTyping, column_bounded}
 
 -- what is known of a column up to here takes what is known of it further on
-abbrev TakesJoined : ColumnTyping → ColumnTyping → Type 0
+abbrev pub TakesJoined : ColumnTyping → ColumnTyping → Type 0
 TakesJoined Absent further = Unit {0}
 TakesJoined (Joined ty) (Joined wide) = takes wide ty ≡ true
 TakesJoined (Joined ty) _ = ⊥
@@ -27,17 +28,17 @@ TakesType (Joined wide) ty = takes wide ty ≡ true
 TakesType _ ty = ⊥
 
 -- a declared variable takes the values of what its tables join to
-abbrev DeclaredTakes : Option Ty → ColumnTyping → Type 0
+abbrev pub DeclaredTakes : Option Ty → ColumnTyping → Type 0
 DeclaredTakes None typing = Unit {0}
 DeclaredTakes (Some declared) (Joined ty) = takes declared ty ≡ true
 DeclaredTakes (Some declared) _ = Unit {0}
 
 -- no rule is broken up to here
-abbrev IsUnclashed : ColumnTyping → Type 0
+abbrev pub IsUnclashed : ColumnTyping → Type 0
 IsUnclashed Clashed = ⊥
 IsUnclashed _ = Unit {0}
 
-unclashed_step : (place : Place) (before behind : ColumnTyping) → IsUnclashed before → clash_at_table place before behind ≡ [] → IsUnclashed behind
+pub unclashed_step : (place : Place) (before behind : ColumnTyping) → IsUnclashed before → clash_at_table place before behind ≡ [] → IsUnclashed behind
 unclashed_step place Absent Absent k h = tt
 unclashed_step place Absent (Joined ty) k h = tt
 unclashed_step place Absent Clashed k h = cc
@@ -56,18 +57,18 @@ IsBoundedDeclared (Some ty) = in_bounds ty ≡ true
 module _ (join : JoinTakesBoth) (itself : TakesItself) (onward : TakesOnward) where
   -- one table more: what is known behind it is in bounds, and takes what was known before, the table's column, and is taken by the
   -- declared variable
-  record JoinStep (declared : Option Ty) (before : ColumnTyping) (found : Option Ty) (behind : ColumnTyping) : Type 0 where
-    bounds : IsBoundedTyping behind
-    wider : TakesJoined before behind
-    own : (ty : Ty) → found ≡ Some ty → TakesType behind ty
-    taken : DeclaredTakes declared behind
+  pub record JoinStep (declared : Option Ty) (before : ColumnTyping) (found : Option Ty) (behind : ColumnTyping) : Type 0 where
+    pub bounds : IsBoundedTyping behind
+    pub wider : TakesJoined before behind
+    pub own : (ty : Ty) → found ≡ Some ty → TakesType behind ty
+    pub taken : DeclaredTakes declared behind
 
   itself_taken : (typing : ColumnTyping) → IsUnclashed typing → TakesJoined typing typing
   itself_taken Absent k = tt
   itself_taken (Joined ty) k = itself ty
   itself_taken Clashed k = absurd k
 
-  joined_to : (declared ty : Ty) (joined : Option Ty) → join_of declared ty ≡ joined → is_joined_to declared joined ≡ true → in_bounds declared ≡ true
+  pub joined_to : (declared ty : Ty) (joined : Option Ty) → join_of declared ty ≡ joined → is_joined_to declared joined ≡ true → in_bounds declared ≡ true
       → in_bounds ty ≡ true → takes declared ty ≡ true
   joined_to declared ty None e k f g = cc
   joined_to declared ty (Some joined) e k f g = subst (λ t. takes t ty ≡ true) (one_type joined declared k) (join declared ty joined f g e).2
@@ -108,6 +109,17 @@ module _ (join : JoinTakesBoth) (itself : TakesItself) (onward : TakesOnward) wh
       (λ x h. (join so_far ty x b (f ty refl) h).1) (λ x h. (join so_far ty x b (f ty refl) h).2) k
   step declared d Clashed (Some ty) b u t f k = absurd u
 
+  absent_taken : (declared : Option Ty) → DeclaredTakes declared Absent
+  absent_taken None = tt
+  absent_taken (Some ty) = tt
+
+  -- what is known of a column of the thread program that is read from
+  pub stage_step : (declared : Option Ty) → IsBoundedDeclared declared → (name : List ℕ) (columns : Columns) → types_in_bounds columns ≡ true
+      → IsUnclashed (with_table declared Absent (type_of_column name columns))
+      → JoinStep declared Absent (type_of_column name columns) (with_table declared Absent (type_of_column name columns))
+  stage_step declared d name columns bounds k =
+      step declared d Absent (type_of_column name columns) tt tt (absent_taken declared) (column_bounded name columns bounds) k
+
   joined_onward : (a b c : ColumnTyping) → TakesJoined a b → TakesJoined b c → TakesJoined a c
   joined_onward Absent b c f g = tt
   joined_onward (Joined x) Absent c f g = absurd f
@@ -117,7 +129,7 @@ module _ (join : JoinTakesBoth) (itself : TakesItself) (onward : TakesOnward) wh
   joined_onward (Joined x) Clashed c f g = absurd f
   joined_onward Clashed b c f g = absurd f
 
-  type_onward : (ty : Ty) (b c : ColumnTyping) → TakesType b ty → TakesJoined b c → TakesType c ty
+  pub type_onward : (ty : Ty) (b c : ColumnTyping) → TakesType b ty → TakesJoined b c → TakesType c ty
   type_onward ty Absent c f g = absurd f
   type_onward ty (Joined y) Absent f g = absurd g
   type_onward ty (Joined y) (Joined z) f g = onward ty y z f g

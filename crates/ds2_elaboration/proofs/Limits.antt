@@ -118,7 +118,7 @@ some_by_within : (by : Option By) → Within (map (λ (x : source_by.ByVariable)
 some_by_within None = none_within []
 some_by_within (Some by) = by_within by
 
-tables_within : (reading : Option source_reading.Reading) → Within (table_tokens reading) (if_any reading_spelling reading)
+pub tables_within : (reading : Option source_reading.Reading) → Within (table_tokens reading) (if_any reading_spelling reading)
 tables_within None = none_within []
 tables_within (Some (read_as.Set keyword inputs end by)) = passed keyword (before_others (semicolon_mark end ∷ if_any by_spelling by) (inputs_within inputs))
 tables_within (Some (read_as.SetFrom keyword from instance threads end)) = none_within (reading_spelling (read_as.SetFrom keyword from instance threads end))

@@ -21,7 +21,7 @@ use Rattle.ds2_elaboration.specs.Typings.{TypeRefusals, type_refusal_at, Typing,
 use Rattle.ds2_elaboration.proofs.Outcome.{both_empty}
 use Rattle.ds2_elaboration.proofs.Operands.{unclashed, numeric, integer, textual, Operand, operand, truth_operand, form_typed, wide}
 
-sign_fits : (plus : Bool) (ty : Ty) → is_numeric_type ty ≡ true
+pub sign_fits : (plus : Bool) (ty : Ty) → is_numeric_type ty ≡ true
     → IsPrefix (if plus then prefix.Plus else if is_integer_type ty then prefix.IntegerNegate else prefix.DecimalNegate) ty ty
 sign_fits true ty h = (numeric ty h, refl)
 sign_fits false BigInt h = (refl, refl)

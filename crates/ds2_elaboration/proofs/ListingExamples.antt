@@ -2,7 +2,7 @@
 use Rattle.std.proofs.Common.{refl}
 use Rattle.std.specs.Fmt as fmt
 use Rattle.std.specs.Str as str
-use Rattle.ds2_elaboration.specs.ListingExamples.{ListedColumnExamples, AssignedSourceExamples, DomainExamples, ThreadLayoutExamples}
+use Rattle.ds2_elaboration.specs.ListingExamples.{ListedColumnExamples, AssignedSourceExamples, SettableExamples, ThreadLayoutExamples}
 
 pub listed_column_examples : ListedColumnExamples
 unfolding str.chars str.is_utf8 lib.Utf8.encode fmt.digits
@@ -16,12 +16,8 @@ assigned_source_examples = record {
   text_for_integer = refl;
 }
 
-pub domain_examples : DomainExamples
-domain_examples = record {
-  data_alone = (refl, (tt, tt));
-  with_a_package = λ h. absurd h.0;
-  with_a_thread = λ h. absurd h.0;
-  with_a_hash = λ h. cc h.0;
+pub settable_examples : SettableExamples
+settable_examples = record {
   parameter_is_settable = refl;
   flag_is_not_settable = refl;
 }

@@ -1,7 +1,7 @@
 -- The tokens and the names of the variables of a method.
 use Rattle.std.proofs.Common.{◌≡◌, List, [], ◌∷◌, ◌++◌, map, refl, sym, ap, ◌∙◌, subst}
 use Rattle.ds2_token.specs.declared.token.Token.{Token}
-use Rattle.ds2_tree.specs.Globals.{Method, parameter_spelling, variables_spelling, type_spelling, returns_spelling, method_spelling}
+use Rattle.ds2_tree.specs.Globals.{Method, parameter_spelling, parameters_spelling, variables_spelling, type_spelling, returns_spelling, method_spelling}
 use Rattle.ds2_tree.specs.Lists.{one_token, if_any, all_spelled, comma_spelling}
 use Rattle.ds2_tree.specs.Marks.{open_mark, close_mark, semicolon_mark}
 use Rattle.ds2_tree.specs.Readings.{reading_spelling}
@@ -31,7 +31,7 @@ one_each : (ps : List source_parameter.Parameter)
 one_each [] = refl
 one_each (p ∷ ps) = ap (λ ts. p.name ∷ ts) (one_each ps)
 
-parameters_within : (ps : List source_parameter.Parameter) → Within (map (λ (p : source_parameter.Parameter). p.name) ps) (all_spelled parameter_spelling ps)
+pub parameters_within : (ps : List source_parameter.Parameter) → Within (map (λ (p : source_parameter.Parameter). p.name) ps) (all_spelled parameter_spelling ps)
 parameters_within ps =
     subst (λ ts. Within ts (all_spelled parameter_spelling ps)) (one_each ps) (parts_within (λ (p : source_parameter.Parameter). p.name ∷ []) parameter_spelling parameter_within ps)
 
@@ -48,6 +48,14 @@ locals_within m =
     (passed (open_mark m.parameters.opening) (before_others (close_mark m.parameters.closing ∷ []) (parameters_within m.parameters.list)))
     (behind_others (if_any returns_spelling m.returns) (passed (semicolon_mark m.semicolon) (before_others rest (declared_within m.locals))))))
 
+-- the tokens of its reading statement
+pub reading_within : (m : Method) → Within (if_any reading_spelling m.reading) (method_spelling m)
+reading_within m =
+    let rest = statements_spelling m.body ++ (m.end_keyword ∷ (semicolon_mark m.end ∷ [])) in
+    passed m.keyword (passed m.name (behind_others (parameters_spelling m.parameters) (behind_others (if_any returns_spelling m.returns)
+    (passed (semicolon_mark m.semicolon) (behind_others (all_spelled variables_spelling m.locals)
+    (before_others rest (itself_within (if_any reading_spelling m.reading))))))))
+
 -- ---- the names of a method's variables
 
 pub map_append : {A B : Type 0} (f : A → B) (xs ys : List A) → map f (xs ++ ys) ≡ map f xs ++ map f ys
@@ -59,7 +67,7 @@ declared_as_tokens [] = refl
 declared_as_tokens (v ∷ ds) =
     ap (λ ns. map placed_name v.names ++ ns) (declared_as_tokens ds) ∙ sym (map_append placed_name v.names (from_each (λ (x : VariableDeclaration). x.names) ds))
 
-parameters_as_tokens : (ps : List source_parameter.Parameter)
+pub parameters_as_tokens : (ps : List source_parameter.Parameter)
     → map (λ (p : source_parameter.Parameter). placed_name p.name) ps ≡ map placed_name (map (λ (p : source_parameter.Parameter). p.name) ps)
 parameters_as_tokens [] = refl
 parameters_as_tokens (p ∷ ps) = ap (λ ns. placed_name p.name ∷ ns) (parameters_as_tokens ps)

@@ -1,15 +1,18 @@
 -- Tokens among tokens: their order, and distinct names.
-use Rattle.std.proofs.Common.{◌≡◌, ℕ, bytes_eq, Bool, true, false, not, ◌&&◌, List, [], ◌∷◌, ◌++◌, map, filter, cond, refl, sym, ◌∙◌, true≢false}
+use Rattle.std.proofs.Common.{◌≡◌, ◌⊎◌, inl, inr, ℕ, bytes_eq, Bool, true, false, not, ◌&&◌, List, [], ◌∷◌, ◌++◌, map, filter, cond, refl, sym, ◌∙◌, subst, true≢false}
 use Rattle.std.specs.List.{list_any, AllByRecursion}
 use Rattle.std.proofs.lemmas.Bool.{and_from, or_from, or_parts, false_from_ne_true, not_from_false}
 use Rattle.std.proofs.lemmas.Slice.Eq.{bytes_eq-Decides}
+use Rattle.ds2_base.specs.declared.place.Place.{Place}
 use Rattle.ds2_token.specs.declared.token.Token.{Token}
 use Rattle.ds2_tree.specs.Lists.{one_token, all_spelled}
 use Rattle.ds2_meaning.specs.IsTyped.{are_distinct}
 use Rattle.ds2_meaning.specs.ProgramTree.{is_listed}
 use Rattle.ds2_names.specs.NameRules.{from_each, later_places}
 use Rattle.ds2_names.specs.SourceUnit.{spelled_name, PlacedName, placed_name, names_alone, is_earlier}
+use Rattle.ds2_elaboration.specs.ElaborationLaws.{StandsAmong}
 use Rattle.ds2_elaboration.specs.TypedPrograms.{StandInOrder}
+use Rattle.ds2_elaboration.proofs.Lookups.{of_among, for_each, among_append, among_second}
 
 -- ---- tokens among tokens, in their order
 
@@ -61,6 +64,51 @@ pub parts_within : {A : Type 0} (part : A → List Token) (spelling : A → List
 parts_within part spelling w [] = nothing
 parts_within part spelling w (x ∷ xs) = both_within (w x) (parts_within part spelling w xs)
 
+-- ---- tokens of two kinds
+
+-- one place stands before the other
+abbrev pub AreApart : Place → Place → Type 0
+AreApart a b = (is_earlier a b ≡ true) ⊎ (is_earlier b a ≡ true)
+
+pub within_among : {xs ys : List Token} → Within xs ys → (t : Token) → StandsAmong xs t → StandsAmong ys t
+within_among nothing t m = absurd m
+within_among (kept x w) t m = elim m [
+  | inl e ↦ inl e
+  | inr k ↦ inr (within_among w t k)
+]
+within_among (passed y w) t m = inr (within_among w t m)
+
+parts_earlier : (xs ys : List Token) → StandInOrder (xs ++ ys) → (a b : Token) → StandsAmong xs a → StandsAmong ys b → is_earlier a.place b.place ≡ true
+parts_earlier [] ys o a b m k = absurd m
+parts_earlier (x ∷ xs) ys o a b m k = elim m [
+  | inl e ↦ subst (λ (t : Token). is_earlier t.place b.place ≡ true) (sym e)
+      (of_among (λ (later : Token). is_earlier x.place later.place ≡ true) (xs ++ ys) b o.0 (among_second xs ys b k))
+  | inr n ↦ parts_earlier xs ys o.1 a b n k
+]
+
+-- where no part has tokens of both kinds, a token of one kind and one of the other kind stand apart
+pub kinds_apart : {A : Type 0} (f g spelling : A → List Token) → ((x : A) → Within (f x) (spelling x)) → ((x : A) → Within (g x) (spelling x))
+    → ((x : A) → (f x ≡ []) ⊎ (g x ≡ [])) → (xs : List A) → StandInOrder (all_spelled spelling xs) → (a b : Token) → StandsAmong (from_each f xs) a
+    → StandsAmong (from_each g xs) b → AreApart a.place b.place
+kinds_apart f g spelling v w n [] o a b m k = absurd m
+kinds_apart f g spelling v w n (x ∷ xs) o a b m k =
+    let rest = all_spelled spelling xs in
+    let later = order_within (behind_others (spelling x) (itself_within rest)) o in
+    elim (among_append (f x) (from_each f xs) a m) [
+      | inl p ↦ elim (among_append (g x) (from_each g xs) b k) [
+        | inl q ↦ absurd (in_neither (f x) (g x) a b (n x) p q)
+        | inr q ↦ inl (parts_earlier (spelling x) rest o a b (within_among (v x) a p) (within_among (parts_within g spelling w xs) b q))
+      ]
+      | inr p ↦ elim (among_append (g x) (from_each g xs) b k) [
+        | inl q ↦ inr (parts_earlier (spelling x) rest o b a (within_among (w x) b q) (within_among (parts_within f spelling v xs) a p))
+        | inr q ↦ kinds_apart f g spelling v w n xs later a b p q
+      ]
+    ]
+  where
+    in_neither : (xs ys : List Token) (a b : Token) → (xs ≡ []) ⊎ (ys ≡ []) → StandsAmong xs a → StandsAmong ys b → ⊥
+    in_neither xs ys a b (inl e) p q = subst (λ (ts : List Token). StandsAmong ts a) e p
+    in_neither xs ys a b (inr e) p q = subst (λ (ts : List Token). StandsAmong ts b) e q
+
 -- ---- distinct names
 
 pub same_bytes : (a b : List ℕ) → bytes_eq a b ≡ true → a ≡ b
@@ -105,17 +153,16 @@ not_given_before names h =
     let test = λ (n : PlacedName). list_any (λ (o : PlacedName). bytes_eq o.name n.name && is_earlier o.place n.place) names in
     each_not_before names names (none_left test names (no_places_left (filter test names) h))
 
-first_of_all : {A : Type 0} (P : A → Type 0) (xs ys : List A) → AllByRecursion P (xs ++ ys) → AllByRecursion P xs
-first_of_all P [] ys f = tt
-first_of_all P (x ∷ xs) ys f = (f.0, first_of_all P xs ys f.1)
+given_among : (all : List PlacedName) → NotGivenBefore all all → (n o : PlacedName) → StandsAmong all n → StandsAmong all o → is_given_before n o ≡ false
+given_among all f n o m k =
+    of_among (λ (x : PlacedName). is_given_before n x ≡ false) all o
+    (of_among (λ (x : PlacedName). AllByRecursion (λ (y : PlacedName). is_given_before x y ≡ false) all) all n f m) k
 
-fewer_before : (xs ys names : List PlacedName) → NotGivenBefore (xs ++ ys) names → NotGivenBefore xs names
-fewer_before xs ys [] f = tt
-fewer_before xs ys (n ∷ names) f = (first_of_all (λ (o : PlacedName). is_given_before n o ≡ false) xs ys f.0, fewer_before xs ys names f.1)
-
--- the first names of all
-pub first_not_before : (xs ys : List PlacedName) → NotGivenBefore (xs ++ ys) (xs ++ ys) → NotGivenBefore xs xs
-first_not_before xs ys f = first_of_all (λ (n : PlacedName). AllByRecursion (λ (o : PlacedName). is_given_before n o ≡ false) xs) xs ys (fewer_before xs ys (xs ++ ys) f)
+-- names among all
+pub among_not_before : (all names : List PlacedName) → ((n : PlacedName) → StandsAmong names n → StandsAmong all n) → NotGivenBefore all all → NotGivenBefore names names
+among_not_before all names inside f =
+    for_each (λ (n : PlacedName). AllByRecursion (λ (o : PlacedName). is_given_before n o ≡ false) names) names (λ n m.
+    for_each (λ (o : PlacedName). is_given_before n o ≡ false) names (λ o k. given_among all f n o (inside n m) (inside o k)))
 
 -- what is said of a first name and of those behind it
 split_before : (x : PlacedName) (xs names : List PlacedName) → NotGivenBefore (x ∷ xs) names
@@ -126,6 +173,14 @@ split_before x xs (n ∷ names) f = let p = split_before x xs names f.1 in ((f.0
 and_false : (a b : Bool) → (a && b) ≡ false → b ≡ true → a ≡ false
 and_false true b h e = absurd (true≢false (sym e ∙ h))
 and_false false b h e = refl
+
+-- two names that stand apart are two names
+pub differ : (all : List PlacedName) → NotGivenBefore all all → (n o : PlacedName) → StandsAmong all n → StandsAmong all o → AreApart n.place o.place
+    → bytes_eq n.name o.name ≡ false
+differ all f n o m k apart = elim apart [
+  | inl earlier ↦ and_false (bytes_eq n.name o.name) (is_earlier n.place o.place) (given_among all f o n k m) earlier
+  | inr earlier ↦ turned_bytes o.name n.name (and_false (bytes_eq o.name n.name) (is_earlier o.place n.place) (given_among all f n o m k) earlier)
+]
 
 unlisted : (t : Token) (tokens : List Token) → AllByRecursion (λ (later : Token). is_earlier t.place later.place ≡ true) tokens
     → AllByRecursion (λ (n : PlacedName). is_given_before n (placed_name t) ≡ false) (map placed_name tokens)

@@ -1,13 +1,12 @@
--- The outputs of a data program that breaks no rule have distinct names, and so have the columns of each.
-use Rattle.std.proofs.Common.{◌≡◌, ◌⊎◌, inl, inr, ℕ, bytes_eq, cond, Bool, true, false, not, ◌&&◌, List, [], ◌∷◌, ◌++◌, map, filter, if◌then◌else◌, Option, Some, None, refl, sym, ap, ◌∙◌, subst, true≢false}
+-- The outputs of a data or thread program that breaks no rule have distinct names, and so have the columns of each.
+use Rattle.std.proofs.Common.{◌≡◌, inl, inr, ℕ, bytes_eq, cond, Bool, true, false, not, ◌&&◌, List, [], ◌∷◌, ◌++◌, map, filter, if◌then◌else◌, Option, Some, None, refl, sym, ap, ◌∙◌, subst, true≢false}
 use Rattle.std.specs.List.{list_any, AllByRecursion}
 use Rattle.std.proofs.lemmas.Bool.{and_parts, and_from, or_parts, or_from, or_left, or_right, not_from_false, false_from_ne_true}
 use Rattle.ds2_base.specs.declared.place.Place.{Place}
 use Rattle.ds2_token.specs.declared.token.Token.{Token}
 use Rattle.ds2_tree.specs.Lists.{if_any, all_spelled}
-use Rattle.ds2_tree.specs.Marks.{open_mark, close_mark, equals_mark, semicolon_mark}
-use Rattle.ds2_tree.specs.Globals.{global_spelling}
-use Rattle.ds2_tree.specs.Units.{DataProgram, renaming_spelling, option_spelling, options_spelling, output_spelling, data_spelling}
+use Rattle.ds2_tree.specs.Marks.{open_mark, close_mark, equals_mark}
+use Rattle.ds2_tree.specs.Units.{renaming_spelling, option_spelling, options_spelling, output_spelling}
 use Rattle.ds2_tree.specs.declared.units.OutputOption.{OutputOption}
 use Rattle.ds2_tree.specs.declared.units.OutputOption.TheVariants as option
 use Rattle.ds2_tree.specs.declared.units.OutputOptions.{OutputOptions}
@@ -27,9 +26,10 @@ use Rattle.ds2_elaboration.specs.ElaborationLaws.{StandsAmong}
 use Rattle.ds2_elaboration.specs.ProgramTypes.{type_or_bigint, made_column}
 use Rattle.ds2_elaboration.specs.TypedPrograms.{StandInOrder}
 use Rattle.ds2_elaboration.proofs.Accepted.{each_empty, same_item, bounded_in}
+use Rattle.ds2_elaboration.proofs.Distinct.{not_true, unlisted_if, distinct_if}
 use Rattle.ds2_elaboration.proofs.Locals.{map_append}
-use Rattle.ds2_elaboration.proofs.Orders.{Within, kept, passed, none_within, itself_within, behind_others, before_others, order_within, parts_within, same_bytes, bytes_are, not_given_before, distinct_tokens}
-use Rattle.ds2_elaboration.proofs.Readings.{of_among}
+use Rattle.ds2_elaboration.proofs.Lookups.{of_among, mapped_among}
+use Rattle.ds2_elaboration.proofs.Orders.{Within, kept, passed, none_within, itself_within, behind_others, before_others, order_within, parts_within, same_bytes, bytes_are, AreApart, not_given_before, distinct_tokens}
 
 -- ---- items of lists
 
@@ -39,36 +39,6 @@ among_any test (y ∷ ys) x m h = elim m [
   | inl e ↦ or_left (test y) (list_any test ys) (ap test (sym e) ∙ h)
   | inr k ↦ or_right (test y) (list_any test ys) (among_any test ys x k h)
 ]
-
-mapped_among : {A B : Type 0} (f : A → B) (xs : List A) (x : A) → StandsAmong xs x → StandsAmong (map f xs) (f x)
-mapped_among f [] x m = absurd m
-mapped_among f (y ∷ ys) x m = elim m [
-  | inl e ↦ inl (ap f e)
-  | inr k ↦ inr (mapped_among f ys x k)
-]
-
-from_not : (b : Bool) → not b ≡ true → b ≡ false
-from_not true h = cc
-from_not false h = refl
-
-unlisted_if : (b : Bool) (own name : List ℕ) (rest : List (List ℕ)) → bytes_eq own name ≡ false → is_listed rest name ≡ false → is_listed (cond b (own ∷ rest) rest) name ≡ false
-unlisted_if true own name rest e h = or_from (bytes_eq own name) (is_listed rest name) e h
-unlisted_if false own name rest e h = h
-
-unlisted_kept : (test : List ℕ → Bool) (names : List (List ℕ)) (name : List ℕ) → is_listed names name ≡ false → is_listed (filter test names) name ≡ false
-unlisted_kept test [] name h = refl
-unlisted_kept test (n ∷ names) name h =
-    let p = or_parts (bytes_eq n name) (is_listed names name) h in unlisted_if (test n) n name (filter test names) p.0 (unlisted_kept test names name p.1)
-
-distinct_if : (b : Bool) (own : List ℕ) (rest : List (List ℕ)) → is_listed rest own ≡ false → are_distinct rest ≡ true → are_distinct (cond b (own ∷ rest) rest) ≡ true
-distinct_if true own rest e h = and_from (not (is_listed rest own)) (are_distinct rest) (not_from_false (is_listed rest own) e) h
-distinct_if false own rest e h = h
-
-pub distinct_kept : (test : List ℕ → Bool) (names : List (List ℕ)) → are_distinct names ≡ true → are_distinct (filter test names) ≡ true
-distinct_kept test [] h = refl
-distinct_kept test (n ∷ names) h =
-    let p = and_parts (not (is_listed names n)) (are_distinct names) h in
-    distinct_if (test n) n (filter test names) (unlisted_kept test names n (from_not (is_listed names n) p.0)) (distinct_kept test names p.1)
 
 -- ---- names of outputs
 
@@ -88,7 +58,7 @@ distinct_map f test [] h = refl
 distinct_map f test (x ∷ xs) h =
     let p = and_parts (not (is_listed (map f xs) (f x))) (are_distinct (map f xs)) h in
     ap are_distinct (map_if f (test x) x (filter test xs))
-    ∙ distinct_if (test x) (f x) (map f (filter test xs)) (unlisted_map f test xs (f x) (from_not (is_listed (map f xs) (f x)) p.0)) (distinct_map f test xs p.1)
+    ∙ distinct_if (test x) (f x) (map f (filter test xs)) (unlisted_map f test xs (f x) (not_true (is_listed (map f xs) (f x)) p.0)) (distinct_map f test xs p.1)
 
 pub tables_within : (outputs : List source_output.OutputTable) → Within (map (λ (o : source_output.OutputTable). o.table) outputs) (all_spelled output_spelling outputs)
 tables_within [] = none_within []
@@ -116,7 +86,7 @@ outputs_distinct outputs order once =
 -- ---- renamed columns
 
 -- the new names of renamings
-abbrev new_tokens : List Renaming → List Token
+abbrev pub new_tokens : List Renaming → List Token
 new_tokens renamings = map (λ (r : Renaming). r.new) renamings
 
 placed_if : (P : Place → Type 0) (b : Bool) (t : Token) (y : PlacedName) (rest : Option PlacedName) → P t.place → (rest ≡ Some y → P y.place)
@@ -129,10 +99,6 @@ of_renamed : (P : Place → Type 0) (renamings : List Renaming) (name : List ℕ
 of_renamed P [] name y f h = cc
 of_renamed P (r ∷ renamings) name y f h =
     placed_if P (bytes_eq (spelled_name r.old) name) r.new y (renamed_to renamings name) f.0 (of_renamed P renamings name y f.1) h
-
--- one place stands before the other
-abbrev AreApart : Place → Place → Type 0
-AreApart a b = (is_earlier a b ≡ true) ⊎ (is_earlier b a ≡ true)
 
 apart_if : (p q : Bool) (r : Renaming) (renamings : List Renaming) (a b : List ℕ) (x y : PlacedName) → bytes_eq (spelled_name r.old) a ≡ p → bytes_eq (spelled_name r.old) b ≡ q
     → bytes_eq a b ≡ false → AllByRecursion (λ (later : Token). is_earlier r.new.place later.place ≡ true) (new_tokens renamings)
@@ -186,7 +152,7 @@ module _ (variables : List typed.Variable) (o : source_output.OutputTable) (orde
 
   -- the columns of these names, as those of a table
   abbrev columns_of : List (List ℕ) → Columns
-  columns_of names = map (λ (c : OutputColumn). record { name = c.name; ty = c.ty }) (map (made_column variables o) names)
+  columns_of names = map (λ (c : OutputColumn). record { name = c.name; ty = c.ty }) (map (made_column variables (renamings_of o)) names)
 
   clash_free : (name : List ℕ) → StandsAmong left name → clashing_name all_names (output_name (renamings_of o) name) ≡ []
   clash_free name m =
@@ -217,7 +183,7 @@ module _ (variables : List typed.Variable) (o : source_output.OutputTable) (orde
       let p = and_parts (not (is_listed rest a)) (are_distinct rest) h in
       and_from (not (has_column (output_name (renamings_of o) a).name (columns_of rest))) (distinct_names (columns_of rest))
       (not_from_false (has_column (output_name (renamings_of o) a).name (columns_of rest))
-      (no_column a rest (f a (inl refl)) (λ name k. f name (inr k)) (from_not (is_listed rest a) p.0)))
+      (no_column a rest (f a (inl refl)) (λ name k. f name (inr k)) (not_true (is_listed rest a) p.0)))
       (columns_distinct_from rest (λ name k. f name (inr k)) p.1)
 
   pub columns_distinct : are_distinct left ≡ true → distinct_names (columns_of left) ≡ true
@@ -275,8 +241,3 @@ outputs_in_order (o ∷ outputs) order = (
   order_within (before_others (all_spelled output_spelling outputs) (itself_within (output_spelling o))) order,
   outputs_in_order outputs (order_within (behind_others (output_spelling o) (itself_within (all_spelled output_spelling outputs))) order),
 )
-
-pub all_outputs_in_order : (u : DataProgram) → StandInOrder (data_spelling u) → StandInOrder (all_spelled output_spelling u.outputs)
-all_outputs_in_order u order =
-    order_within (passed u.keyword (before_others (semicolon_mark u.semicolon ∷ (all_spelled global_spelling u.globals ++ (u.end_keyword ∷ (semicolon_mark u.end ∷ []))))
-    (itself_within (all_spelled output_spelling u.outputs)))) order

@@ -1,164 +1,326 @@
--- A data program that breaks no rule becomes a typed program.
-use Rattle.std.proofs.Common.{◌≡◌, ◌≤◌, bytes_eq, codes, true, not, List, [], ◌∷◌, ◌++◌, length, map, Option, Some, None, refl, ap, ◌∙◌, subst, append-nil}
-use Rattle.std.specs.List.{AllByRecursion}
-use Rattle.ds2_token.specs.declared.token.Token.{Token}
+-- A data or thread program that breaks no rule becomes a typed program.
+use Rattle.std.proofs.Common.{◌≡◌, inr, ℕ, ◌+◌, ◌≤◌, bytes_eq, codes, is_some, cond, Bool, true, false, List, [], ◌∷◌, ◌++◌, length, map, if◌then◌else◌, option_and_then, Option, Some, None, refl, sym, ap, ◌∙◌, subst, true≢false, arith}
+use Rattle.std.specs.Option.{option_map_or}
 use Rattle.ds2_tree.specs.Globals.{Method}
-use Rattle.ds2_tree.specs.Lists.{if_any}
-use Rattle.ds2_tree.specs.Readings.{reading_spelling}
-use Rattle.ds2_tree.specs.Units.{DataProgram}
-use Rattle.ds2_tree.specs.declared.readings.ByVariable as source_by
-use Rattle.ds2_tree.specs.declared.readings.Input as source_input
 use Rattle.ds2_tree.specs.declared.readings.Reading as source_reading
 use Rattle.ds2_tree.specs.declared.readings.Reading.TheVariants as read_as
-use Rattle.ds2_tree.specs.declared.units.OutputTable as source_output
-use Rattle.ds2_value.specs.Types.{JoinTakesBoth, TakesItself, TakesOnward}
-use Rattle.ds2_meaning.specs.declared.refusals.TypeKind.TheVariants.{TypeClash}
-use Rattle.ds2_meaning.specs.declared.readings.MentionedTable.{MentionedTable}
-use Rattle.ds2_meaning.specs.IsTyped.{are_distinct, variable_names, names_of_outputs, IsTypedUnit, ReadsNoStage}
-use Rattle.ds2_names.specs.NameRules.{from_each, place_unless, from_uses, unknown_in_use, may_be_global, all_listed_tokens, is_in_all_tables, unknown_in_instance, unknown_stage, real_outputs}
-use Rattle.ds2_names.specs.Refusals.{broken_at}
-use Rattle.ds2_names.specs.SourceLimits.{BeforeUnit}
-use Rattle.ds2_names.specs.SourceUnit.{TableColumns, spelled_name, PlacedName, placed_name, source_methods, local_names, SourceInstance, reading_of_run, tables_of_reading, bys_of_reading, stage_token, SourceNames, unit_of_data, names_of_unit, all_globals, instance_names}
-use Rattle.ds2_names.specs.UnitRules.{beyond, places_of, too_many_variables, output_without_columns, without_columns, thread_name_place}
+use Rattle.ds2_value.specs.Row.{Columns}
+use Rattle.ds2_meaning.specs.declared.globals.OutputTable as typed_output
+use Rattle.ds2_meaning.specs.declared.globals.Variable as typed
+use Rattle.ds2_meaning.specs.declared.hashes.DeclaredHash.{DeclaredHash}
+use Rattle.ds2_meaning.specs.declared.hashes.DeclaredIterator.{DeclaredIterator}
+use Rattle.ds2_meaning.specs.declared.hashes.ThreadInstance.{ThreadInstance}
+use Rattle.ds2_meaning.specs.declared.readings.Reading as typed_reading
+use Rattle.ds2_meaning.specs.IsTyped.{are_distinct, variable_names, thread_parameters, names_given, AreTypedInstances, AreTypedThreads, IsTypedHead, IsTypedUnit, ReadsStage, ReadsNoStage, AreStageColumns, IsTypedProgram}
+use Rattle.ds2_meaning.specs.ProgramTree.{InstanceTree, UnitTree, ProgramTree, reader_of}
+use Rattle.ds2_meaning.specs.Reading.{stage_instance, stage_columns}
+use Rattle.ds2_names.specs.NameRules.{from_each}
+use Rattle.ds2_names.specs.SourceUnit.{TableColumns, UnitSource, spelled_name, placed_name, names_alone, source_methods, is_package, InstanceOf, AnyPackage, HashObject, HashIterator, AnyThread, SourceInstance, instance_named, stage_token, SourceNames, instance_names}
 use Rattle.ds2_names.specs.Uses.{method_named}
-use Rattle.ds2_elaboration.specs.ElaborationLaws.{BreaksNoRule}
-use Rattle.ds2_elaboration.specs.ProgramTypes.{made_outputs, vector_variables, made_output, read_statement, reading_of_method, method_refusals, typed_program}
-use Rattle.ds2_elaboration.specs.SourceTypes.{clashing_tables}
-use Rattle.ds2_elaboration.specs.TypedPrograms.{StandInOrder, StandsInSource, HaveSchemas, EveryProgramIsTyped}
-use Rattle.ds2_elaboration.proofs.Accepted.{nowhere, each_empty}
-use Rattle.ds2_elaboration.proofs.Limits.{few_tables, few_bys}
-use Rattle.ds2_elaboration.proofs.Methods.{methods_in_order, run_in_order, globals_in_order, held, once, vector_bounds, declared_variable_bounds, methods_typed}
-use Rattle.ds2_elaboration.proofs.Outcome.{both_empty, unplaced}
-use Rattle.ds2_elaboration.proofs.OutputNames.{distinct_map, outputs_distinct, all_outputs_in_order}
-use Rattle.ds2_elaboration.proofs.Outputs.{outputs_typed}
+use Rattle.ds2_elaboration.specs.ExpressionTypes.{TypeScope}
+use Rattle.ds2_elaboration.specs.ProgramTypes.{read_statement, reading_of_method, hash_of_sort, iterator_of_sort, instance_of_package, instance_of_sort, thread_instance_of, scope_of_declarations, typed_unit, over_stage_read, typed_program}
+use Rattle.ds2_elaboration.specs.SourceTypes.{unit_names, unit_stage, vector_variables}
+use Rattle.ds2_elaboration.specs.TypedPrograms.{PackageStands, IsOneOutput}
+use Rattle.ds2_elaboration.specs.UnitsBefore.{PackageTypes, UnitsBefore, package_types, typed_thread_named, thread_of_sort, typed_stage, columns_of_one, typed_stage_columns}
+use Rattle.ds2_elaboration.proofs.Constructors.{init_typed}
+use Rattle.ds2_elaboration.proofs.Counts.{times, times_append, distinct_below, four_counted}
+use Rattle.ds2_elaboration.proofs.Facts.{JoinLaws, UnitHolds, once, vector_bounds, parameter_bounds, stage_known, reading_is}
+use Rattle.ds2_elaboration.proofs.Hashes.{parameter_names_of, objects_typed}
+use Rattle.ds2_elaboration.proofs.Instances.{parameters_distinct}
+use Rattle.ds2_elaboration.proofs.Locals.{map_append}
+use Rattle.ds2_elaboration.proofs.Methods.{names_with, declarations_stand, program_methods, run_typed, term_typed}
+use Rattle.ds2_elaboration.proofs.Objects.{instances_of, threads_of, package_there, hashes_of, iterators_of, parameters_further}
+use Rattle.ds2_elaboration.proofs.Orders.{same_bytes, bytes_are}
+use Rattle.ds2_elaboration.proofs.Outputs.{outputs_typed, output_names_distinct}
 use Rattle.ds2_elaboration.proofs.Readings.{reading_typed}
-use Rattle.ds2_elaboration.proofs.Schemas.{vector_names_distinct, output_schemas}
+use Rattle.ds2_elaboration.proofs.Stages.{ThreadIsThere, thread_there, stage_there, reader_typed, vector_distinct, given_distinct}
+use Rattle.ds2_elaboration.proofs.Vectors.{reading_if_any, reading_found}
 
--- ---- what is read
+-- ---- the names that instances give
 
-no_stage_read : (tables : TableColumns) (made : List MentionedTable) (reading : Option source_reading.Reading) → ReadsNoStage (read_statement tables made reading)
-no_stage_read tables made None = tt
-no_stage_read tables made (Some (read_as.Set keyword inputs end by)) = tt
-no_stage_read tables made (Some (read_as.SetFrom keyword from instance threads end)) = tt
-no_stage_read tables made (Some (read_as.Merge keyword inputs retain end by)) = tt
+map_of_each : {A B : Type 0} (f : B → List ℕ) (g : A → List B) (xs : List A) → map f (from_each g xs) ≡ from_each (λ (x : A). map f (g x)) xs
+map_of_each f g [] = refl
+map_of_each f g (x ∷ xs) = map_append f (g x) (from_each g xs) ∙ ap (λ ns. map f (g x) ++ ns) (map_of_each f g xs)
 
-reads_no_stage : (tables : TableColumns) (made : List MentionedTable) (found : Option Method) → ReadsNoStage (reading_of_method tables made found)
-reads_no_stage tables made None = tt
-reads_no_stage tables made (Some m) = no_stage_read tables made m.reading
+names_of_each : (is : List SourceInstance) → from_each (λ (i : SourceInstance). spelled_name i.name ∷ []) is ≡ names_alone (map (λ (i : SourceInstance). placed_name i.name) is)
+names_of_each [] = refl
+names_of_each (i ∷ is) = ap (λ ns. spelled_name i.name ∷ ns) (names_of_each is)
 
-bys_in_tables : (tables : TableColumns) (reading : Option source_reading.Reading) (bys : List source_by.ByVariable)
-    → from_each (λ (b : PlacedName). place_unless (is_in_all_tables tables (tables_of_reading reading) b.name) b.place) (map (λ (b : source_by.ByVariable). placed_name b.name) bys) ≡ []
-    → AllByRecursion (λ (b : source_by.ByVariable). is_in_all_tables tables (tables_of_reading reading) (spelled_name b.name) ≡ true) bys
-bys_in_tables tables reading [] h = tt
-bys_in_tables tables reading (b ∷ bys) h =
-    let rule = λ (n : PlacedName). place_unless (is_in_all_tables tables (tables_of_reading reading) n.name) n.place in
-    let p = both_empty (rule (placed_name b.name)) (from_each rule (map (λ (x : source_by.ByVariable). placed_name x.name) bys)) h in
-    (unplaced (is_in_all_tables tables (tables_of_reading reading) (spelled_name b.name)) b.name.place p.0, bys_in_tables tables reading bys p.1)
+none_of_four : (k : ℕ) → 0 + 0 + 0 + 0 ≤ k
+none_of_four k = omega arith
 
-input_places : (inputs : List source_input.Input)
-    → map (λ (i : source_input.Input). i.table.place) inputs ≡ map (λ (t : Token). t.place) (map (λ (i : source_input.Input). i.table) inputs)
-input_places [] = refl
-input_places (i ∷ inputs) = ap (λ places. i.table.place ∷ places) (input_places inputs)
+first_of_four : (k : ℕ) → k + 0 + 0 + 0 ≤ k
+first_of_four k = omega arith
 
-by_places : (bys : List source_by.ByVariable)
-    → places_of (map (λ (b : source_by.ByVariable). placed_name b.name) bys) ≡ map (λ (t : Token). t.place) (map (λ (b : source_by.ByVariable). b.name) bys)
-by_places [] = refl
-by_places (b ∷ bys) = ap (λ places. b.name.place ∷ places) (by_places bys)
+second_of_four : (k : ℕ) → 0 + k + 0 + 0 ≤ k
+second_of_four k = omega arith
 
-made_output_names : (tables : TableColumns) (u : DataProgram) (outputs : List source_output.OutputTable)
-    → names_of_outputs (map (made_output tables u) outputs) ≡ map (λ (o : source_output.OutputTable). spelled_name o.table) outputs
-made_output_names tables u [] = refl
-made_output_names tables u (o ∷ outputs) = ap (λ ns. spelled_name o.table ∷ ns) (made_output_names tables u outputs)
+third_of_four : (k : ℕ) → 0 + 0 + k + 0 ≤ k
+third_of_four k = omega arith
 
-three_behind : {A : Type 0} (xs : List A) → xs ++ [] ++ [] ++ [] ≡ xs
-three_behind xs = append-nil (xs ++ [] ++ []) ∙ (append-nil (xs ++ []) ∙ append-nil xs)
+fourth_of_four : (k : ℕ) → 0 + 0 + 0 + k ≤ k
+fourth_of_four k = omega arith
 
-module _ (join : JoinTakesBoth) (itself : TakesItself) (onward : TakesOnward) (tables : TableColumns) (before : BeforeUnit) (u : DataProgram)
-    (source : StandsInSource u) (schemas : HaveSchemas tables) (rules : BreaksNoRule tables before u) where
+module _ (tables : TableColumns) (before : UnitsBefore) (scope : TypeScope) where
+  -- the names of what comes of an instance
+  abbrev hash_names : List ℕ → InstanceOf → List (List ℕ)
+  hash_names own sort = map (λ (h : DeclaredHash). h.name) (hash_of_sort tables before.names.made scope own sort)
+
+  abbrev iterator_names : List ℕ → InstanceOf → List (List ℕ)
+  iterator_names own sort = map (λ (i : DeclaredIterator). i.name) (iterator_of_sort own sort)
+
+  abbrev package_names : List ℕ → InstanceOf → List (List ℕ)
+  package_names own sort = map (λ (i : InstanceTree). i.name) (instance_of_sort before own sort)
+
+  abbrev thread_names : List ℕ → InstanceOf → List (List ℕ)
+  thread_names own sort = map (λ (i : ThreadInstance). i.name) (thread_instance_of before own sort)
+
+  package_counted : (own name : List ℕ) (found : Option PackageTypes)
+      → 0 + 0 + times (map (λ (i : InstanceTree). i.name) (instance_of_package own found)) name + 0 ≤ times (own ∷ []) name
+  package_counted own name None = none_of_four (times (own ∷ []) name)
+  package_counted own name (Some p) = third_of_four (times (own ∷ []) name)
+
+  thread_counted : (own name : List ℕ) (found : Option ProgramTree)
+      → 0 + 0 + 0 + times (map (λ (i : ThreadInstance). i.name) (option_map_or (λ p. record { name = own; parameters = (reader_of p).parameters } ∷ []) found [])) name ≤ times (own ∷ []) name
+  thread_counted own name None = none_of_four (times (own ∷ []) name)
+  thread_counted own name (Some p) = fourth_of_four (times (own ∷ []) name)
+
+  sort_counted : (own name : List ℕ) (sort : InstanceOf)
+      → times (hash_names own sort) name + times (iterator_names own sort) name + times (package_names own sort) name + times (thread_names own sort) name ≤ times (own ∷ []) name
+  sort_counted own name (AnyPackage package' arguments) = package_counted own name (package_types before.packages (spelled_name package'))
+  sort_counted own name (HashObject keys items table) = first_of_four (times (own ∷ []) name)
+  sort_counted own name (HashIterator hash) = second_of_four (times (own ∷ []) name)
+  sort_counted own name (AnyThread thread) = thread_counted own name (typed_thread_named before.threads (spelled_name thread))
+
+  -- what comes of instances has their names, each at most once
+  pub names_counted : (is : List SourceInstance) (name : List ℕ)
+      → times (map (λ (h : DeclaredHash). h.name) (hashes_of before tables before.names.made scope is)) name
+      + times (map (λ (i : DeclaredIterator). i.name) (iterators_of before is)) name
+      + times (map (λ (i : InstanceTree). i.name) (instances_of before is)) name
+      + times (map (λ (i : ThreadInstance). i.name) (threads_of before is)) name ≤ times (names_alone (map (λ (i : SourceInstance). placed_name i.name) is)) name
+  names_counted is name =
+      let a = λ (i : SourceInstance). hash_names (spelled_name i.name) i.sort in
+      let b = λ (i : SourceInstance). iterator_names (spelled_name i.name) i.sort in
+      let c = λ (i : SourceInstance). package_names (spelled_name i.name) i.sort in
+      let d = λ (i : SourceInstance). thread_names (spelled_name i.name) i.sort in
+      let e = λ (i : SourceInstance). spelled_name i.name ∷ [] in
+      let own = four_counted a b c d e name (λ i. sort_counted (spelled_name i.name) name i.sort) is in
+      let ea = ap (λ ns. times ns name) (map_of_each (λ (h : DeclaredHash). h.name) (λ (i : SourceInstance). hash_of_sort tables before.names.made scope (spelled_name i.name) i.sort) is) in
+      let eb = ap (λ ns. times ns name) (map_of_each (λ (x : DeclaredIterator). x.name) (λ (i : SourceInstance). iterator_of_sort (spelled_name i.name) i.sort) is) in
+      let ec = ap (λ ns. times ns name) (map_of_each (λ (x : InstanceTree). x.name) (λ (i : SourceInstance). instance_of_sort before (spelled_name i.name) i.sort) is) in
+      let ed = ap (λ ns. times ns name) (map_of_each (λ (x : ThreadInstance). x.name) (λ (i : SourceInstance). thread_instance_of before (spelled_name i.name) i.sort) is) in
+      let ee = ap (λ ns. times ns name) (names_of_each is) in
+      in_place (times (from_each a is) name) (times (from_each b is) name) (times (from_each c is) name) (times (from_each d is) name) (times (from_each e is) name)
+      (times (map (λ (h : DeclaredHash). h.name) (hashes_of before tables before.names.made scope is)) name) (times (map (λ (i : DeclaredIterator). i.name) (iterators_of before is)) name)
+      (times (map (λ (i : InstanceTree). i.name) (instances_of before is)) name) (times (map (λ (i : ThreadInstance). i.name) (threads_of before is)) name)
+      (times (names_alone (map (λ (i : SourceInstance). placed_name i.name) is)) name) ea eb ec ed ee own
+    where
+      in_place : (a b c d e p q r s t : ℕ) → p ≡ a → q ≡ b → r ≡ c → s ≡ d → e ≡ t → a + b + c + d ≤ e → p + q + r + s ≤ t
+      in_place a b c d e p q r s t ea eb ec ed ee h = omega (arith, ea, eb, ec, ed, ee, h)
+
+-- the names of five lists, of which four come of instances
+five_below : (v h t i s all : List (List ℕ)) (name : List ℕ) → times h name + times t name + times i name + times s name ≤ times all name
+    → times (v ++ (h ++ t) ++ i ++ s) name ≤ times (v ++ all) name
+five_below v h t i s all name own =
+    let e1 : times (v ++ (h ++ t) ++ i ++ s) name ≡ times (v ++ (h ++ t) ++ i) name + times s name = times_append (v ++ (h ++ t) ++ i) s name in
+    let e2 : times (v ++ (h ++ t) ++ i) name ≡ times (v ++ (h ++ t)) name + times i name = times_append (v ++ (h ++ t)) i name in
+    let e3 : times (v ++ (h ++ t)) name ≡ times v name + times (h ++ t) name = times_append v (h ++ t) name in
+    let e4 : times (h ++ t) name ≡ times h name + times t name = times_append h t name in
+    let e5 : times (v ++ all) name ≡ times v name + times all name = times_append v all name in
+    omega (arith, own, e1, e2, e3, e4, e5)
+
+-- ---- instances
+
+instances_append : (xs ys : List InstanceTree) → AreTypedInstances xs → AreTypedInstances ys → AreTypedInstances (xs ++ ys)
+instances_append [] ys f g = g
+instances_append (x ∷ xs) ys f g = (f.0, f.1, f.2, f.3, instances_append xs ys f.4 g)
+
+threads_append : (xs ys : List ThreadInstance) → AreTypedThreads xs → AreTypedThreads ys → AreTypedThreads (xs ++ ys)
+threads_append [] ys f g = g
+threads_append (x ∷ xs) ys f g = (f.0, threads_append xs ys f.1 g)
+
+package_typed : (own : List ℕ) (found : Option PackageTypes) → ((p : PackageTypes) → found ≡ Some p → PackageStands p) → AreTypedInstances (instance_of_package own found)
+package_typed own None f = tt
+package_typed own (Some p) f = (f p refl).typed
+
+thread_typed : (own : List ℕ) (found : Option ProgramTree) → ((p : ProgramTree) → found ≡ Some p → ThreadIsThere p)
+    → AreTypedThreads (option_map_or (λ p. record { name = own; parameters = (reader_of p).parameters } ∷ []) found [])
+thread_typed own None f = tt
+thread_typed own (Some p) f = ((reader_typed p (f p refl).stands.typed).parameters, tt)
+
+one_columns : (outputs : List typed_output.OutputTable) → IsOneOutput outputs → AreStageColumns (columns_of_one outputs) outputs
+one_columns [] o = absurd o
+one_columns (output ∷ []) o = refl
+one_columns (output ∷ (second ∷ outputs)) o = absurd o
+
+some_is_none : {A : Type 0} (x : A) → None ≡ Some x → ⊥
+some_is_none x h = cc
+
+module _ (laws : JoinLaws) (tables : TableColumns) (before : UnitsBefore) (u : UnitSource) (given : UnitHolds tables before u) (runs : is_package u.kind ≡ false) where
   abbrev names_here : SourceNames
-  names_here = names_of_unit tables before.known (unit_of_data u)
+  names_here = unit_names tables before u
 
-  -- a BY variable is a column of each table, and there is no thread program behind `set from`
-  unknown_parts : (from_each (λ (b : PlacedName). place_unless (is_in_all_tables tables (tables_of_reading names_here.reading) b.name) b.place) names_here.bys ≡ [])
-      × (unknown_stage names_here (stage_token names_here.reading) ≡ [])
-  unknown_parts =
-      let uses = from_uses names_here (unknown_in_use names_here) in
-      let listed = from_each (λ (t : Token). place_unless (may_be_global names_here (spelled_name t)) t.place) (all_listed_tokens names_here.unit) in
-      let bys = from_each (λ (b : PlacedName). place_unless (is_in_all_tables tables (tables_of_reading names_here.reading) b.name) b.place) names_here.bys in
-      let instances = from_each (λ (i : SourceInstance). unknown_in_instance tables names_here i.sort) names_here.instances in
-      let p = both_empty (uses ++ listed ++ bys ++ instances) (unknown_stage names_here (stage_token names_here.reading)) (held join tables before u source schemas rules).unknown in
-      ((both_empty (uses ++ listed) bys (both_empty (uses ++ listed ++ bys) instances p.0).0).1, p.1)
+  abbrev program : UnitTree
+  program = typed_unit tables before u
 
-  unclashed_tables : clashing_tables tables u ≡ []
-  unclashed_tables =
-      nowhere TypeClash (clashing_tables tables u)
-      (both_empty (broken_at TypeClash (clashing_tables tables u)) (from_each (method_refusals tables u) (source_methods u.globals)) rules.types).0
+  instance_typed : (own : List ℕ) (sort : InstanceOf) → AreTypedInstances (instance_of_sort before own sort)
+  instance_typed own (AnyPackage package' arguments) =
+      package_typed own (package_types before.packages (spelled_name package')) (package_there before given.stand.packages (spelled_name package'))
+  instance_typed own (HashObject keys items table) = tt
+  instance_typed own (HashIterator hash) = tt
+  instance_typed own (AnyThread thread) = tt
 
-  outputs_with_columns : AllByRecursion (λ (o : source_output.OutputTable). output_without_columns names_here o ≡ []) u.outputs
-  outputs_with_columns =
-      each_empty (output_without_columns names_here) u.outputs
-      (both_empty (from_each (output_without_columns names_here) u.outputs) (from_each (without_columns names_here []) (thread_name_place names_here)) (held join tables before u source schemas rules).columns).0
+  all_instances : (is : List SourceInstance) → AreTypedInstances (instances_of before is)
+  all_instances [] = tt
+  all_instances (i ∷ is) =
+      instances_append (instance_of_sort before (spelled_name i.name) i.sort) (instances_of before is) (instance_typed (spelled_name i.name) i.sort) (all_instances is)
 
-  -- at most 16 tables and 16 BY variables
-  limits : (beyond 16 (map (λ (i : source_input.Input). i.table.place) (tables_of_reading names_here.reading)) ≡ []) × (beyond 16 (places_of names_here.bys) ≡ [])
-  limits =
-      let globals = beyond 1000 (places_of (all_globals names_here) ++ places_of names_here.bys ++ places_of names_here.bys) in
-      let locals = from_each (λ (m : Method). beyond 1000 (places_of (local_names m))) names_here.methods in
-      let outputs = beyond 16 (map (λ (o : source_output.OutputTable). o.table.place) (real_outputs names_here)) in
-      let inputs = beyond 16 (map (λ (i : source_input.Input). i.table.place) (tables_of_reading names_here.reading)) in
-      let bys = beyond 16 (places_of names_here.bys) in
-      let instances = beyond 64 (places_of (instance_names names_here)) in
-      let variables = from_each (λ (i : SourceInstance). too_many_variables i.sort) names_here.instances in
-      let p = both_empty (globals ++ locals ++ outputs ++ inputs ++ bys ++ instances) variables (held join tables before u source schemas rules).too_many in
-      let q = both_empty (globals ++ locals ++ outputs ++ inputs ++ bys) instances p.0 in
-      let r = both_empty (globals ++ locals ++ outputs ++ inputs) bys q.0 in
-      ((both_empty (globals ++ locals ++ outputs) inputs r.0).1, r.1)
+  thread_of_typed : (own : List ℕ) (sort : InstanceOf) → AreTypedThreads (thread_instance_of before own sort)
+  thread_of_typed own (AnyPackage package' arguments) = tt
+  thread_of_typed own (HashObject keys items table) = tt
+  thread_of_typed own (HashIterator hash) = tt
+  thread_of_typed own (AnyThread thread) =
+      thread_typed own (typed_thread_named before.threads (spelled_name thread)) (thread_there before.threads given.stand.threads (spelled_name thread))
 
-  run_order : StandInOrder (if_any reading_spelling (reading_of_run (source_methods u.globals)))
-  run_order = run_in_order (source_methods u.globals) (methods_in_order u.globals (globals_in_order u source.order))
+  all_threads : (is : List SourceInstance) → AreTypedThreads (threads_of before is)
+  all_threads [] = tt
+  all_threads (i ∷ is) =
+      threads_append (thread_instance_of before (spelled_name i.name) i.sort) (threads_of before is) (thread_of_typed (spelled_name i.name) i.sort) (all_threads is)
 
-  few_inputs : length (tables_of_reading (reading_of_run (source_methods u.globals))) ≤ 16
-  few_inputs =
-      let reading = reading_of_run (source_methods u.globals) in
-      few_tables reading run_order (subst (λ places. beyond 16 places ≡ []) (input_places (tables_of_reading reading)) limits.0)
+  all_names_distinct : are_distinct (names_given program) ≡ true
+  all_names_distinct =
+      distinct_below (names_given program) (variable_names (vector_variables tables before u) ++ names_alone (instance_names names_here))
+      (λ name. five_below (variable_names (vector_variables tables before u))
+      (map (λ (h : DeclaredHash). h.name) program.objects.hashes) (map (λ (i : DeclaredIterator). i.name) program.objects.iterators)
+      (map (λ (i : InstanceTree). i.name) program.instances) (map (λ (i : ThreadInstance). i.name) program.threads) (names_alone (instance_names names_here)) name
+      (names_counted tables before (scope_of_declarations tables before u) names_here.instances name))
+      (given_distinct tables before u given.stand given.source (once laws tables before u given).globals)
 
-  few_variables : length (bys_of_reading (reading_of_run (source_methods u.globals))) ≤ 16
-  few_variables =
-      let reading = reading_of_run (source_methods u.globals) in
-      few_bys reading run_order (subst (λ places. beyond 16 places ≡ []) (by_places (bys_of_reading reading)) limits.1)
+  pub unit_typed : IsTypedHead program.thread program.parameters → IsTypedUnit program
+  unit_typed head = record {
+    head = head;
+    variables = (vector_bounds laws tables before u given, vector_distinct tables before u given.stand given.source (once laws tables before u given).globals);
+    parameters = (
+      parameter_bounds laws tables before u given,
+      ap are_distinct (sym (parameter_names_of u)) ∙ parameters_distinct tables before.names.known u given.source (once laws tables before u given).globals,
+    );
+    names = all_names_distinct;
+    instances = all_instances names_here.instances;
+    objects =
+        objects_typed laws tables before u given (names_with laws tables before u given runs [] [] true (length program.outputs) None)
+        (declarations_stand laws tables before u given runs);
+    threads = all_threads names_here.instances;
+    reading = reading_typed laws tables before u given runs;
+    outputs = outputs_typed laws tables before u given;
+    output_names = output_names_distinct laws tables before u given;
+    methods = program_methods laws tables before u given runs;
+    init = init_typed laws tables before u given runs;
+    run = run_typed laws tables before u given runs;
+    term = term_typed laws tables before u given runs;
+  }
 
-  -- the outputs that are made have distinct names
-  made_distinct : are_distinct (names_of_outputs (typed_program tables before.made u).outputs) ≡ true
-  made_distinct =
-      let test = λ (o : source_output.OutputTable). not (bytes_eq (spelled_name o.table) (codes "_null_")) in
-      ap are_distinct (made_output_names tables u (made_outputs u))
-      ∙ distinct_map (λ (o : source_output.OutputTable). spelled_name o.table) test u.outputs
-      (outputs_distinct u.outputs (all_outputs_in_order u source.order) (once join tables before u source schemas rules).outputs)
+  -- ---- what it reads from
 
-  pub unit_typed : IsTypedUnit (typed_program tables before.made u)
-  unit_typed =
-      let methods = methods_typed join tables before u source schemas rules in
-      let distinct = vector_names_distinct join tables before u source schemas rules in
-      record {
-        head = refl;
-        variables = (vector_bounds join tables before u source schemas rules, distinct);
-        parameters = (tt, refl);
-        names = ap are_distinct (three_behind (variable_names (vector_variables tables u))) ∙ distinct;
-        instances = tt;
-        objects = (tt, tt);
-        threads = tt;
-        reading =
-            reading_typed join itself onward tables schemas u source.no_instances (declared_variable_bounds join tables before u source schemas rules) unclashed_tables before.made
-            few_inputs few_variables
-            (bys_in_tables tables (reading_of_run (source_methods u.globals)) (bys_of_reading (reading_of_run (source_methods u.globals))) unknown_parts.0);
-        outputs = outputs_typed tables before.known u source.no_instances unknown_parts.1 outputs_with_columns (output_schemas join tables before u source schemas rules);
-        output_names = made_distinct;
-        methods = methods.methods;
-        init = methods.init;
-        run = methods.run;
-        term = methods.term;
-      }
+  abbrev stage_here : Columns
+  stage_here = typed_stage_columns (unit_stage tables before u)
 
-pub every_program_is_typed : JoinTakesBoth → TakesItself → TakesOnward → EveryProgramIsTyped
-every_program_is_typed join itself onward tables before u source schemas rules =
-    (unit_typed join itself onward tables before u source schemas rules, reads_no_stage tables before.made (method_named (source_methods u.globals) (codes "run")))
+  -- the reading statement of `run`
+  run_reading : names_here.reading ≡ reading_if_any (method_named (source_methods u.globals) (codes "run"))
+  run_reading = reading_is laws tables before u given runs ∙ reading_found (source_methods u.globals)
+
+  no_stage_read : (reading : Option source_reading.Reading) → names_here.reading ≡ reading → unit_stage tables before u ≡ None
+      → ReadsNoStage (read_statement tables before.names.made stage_here reading)
+  no_stage_read None e n = tt
+  no_stage_read (Some (read_as.Set keyword inputs end by)) e n = tt
+  no_stage_read (Some (read_as.SetFrom keyword from instance threads end)) e n =
+      let there = (stage_known laws tables before u given instance (ap stage_token e)).0 in
+      let same = ap (λ (r : Option source_reading.Reading). is_some (typed_stage before.threads names_here.instances (stage_token r))) e in
+      absurd (true≢false (sym there ∙ (sym same ∙ ap (λ (s : Option ProgramTree). is_some s) n)))
+  no_stage_read (Some (read_as.Merge keyword inputs retain end by)) e n = tt
+
+  reads_no_stage : (found : Option Method) → names_here.reading ≡ reading_if_any found → unit_stage tables before u ≡ None
+      → ReadsNoStage (reading_of_method tables before.names.made stage_here found)
+  reads_no_stage None e n = tt
+  reads_no_stage (Some m) e n = no_stage_read m.reading e n
+
+  -- the parameters of the instance that is read from
+  thread_first : (own : List ℕ) (rest : List ThreadInstance) (found : Option ProgramTree) (stage : ProgramTree) → found ≡ Some stage
+      → thread_parameters (option_map_or (λ p. record { name = own; parameters = (reader_of p).parameters } ∷ []) found [] ++ rest) own ≡ Some (reader_of stage).parameters
+  thread_first own rest None stage h = cc
+  thread_first own rest (Some p) stage h =
+      ap (λ b. if b then Some (reader_of p).parameters else thread_parameters rest own) (bytes_are own own refl) ∙ ap (λ (found : Option ProgramTree). parameters_of found) h
+    where
+      parameters_of : Option ProgramTree → Option (List typed.Variable)
+      parameters_of None = None
+      parameters_of (Some x) = Some (reader_of x).parameters
+
+  sort_first : (own name : List ℕ) (rest : List ThreadInstance) (sort : InstanceOf) (stage : ProgramTree) → bytes_eq own name ≡ true → thread_of_sort before.threads sort ≡ Some stage
+      → thread_parameters (thread_instance_of before own sort ++ rest) name ≡ Some (reader_of stage).parameters
+  sort_first own name rest (AnyPackage package' arguments) stage e h = cc
+  sort_first own name rest (HashObject keys items table) stage e h = cc
+  sort_first own name rest (HashIterator hash) stage e h = cc
+  sort_first own name rest (AnyThread thread) stage e h =
+      subst (λ (n : List ℕ). thread_parameters (thread_instance_of before own (AnyThread thread) ++ rest) n ≡ Some (reader_of stage).parameters) (same_bytes own name e)
+      (thread_first own rest (typed_thread_named before.threads (spelled_name thread)) stage h)
+
+  first_if : (b : Bool) (name : List ℕ) (i : SourceInstance) (is : List SourceInstance) (stage : ProgramTree) → bytes_eq (spelled_name i.name) name ≡ b
+      → (option_and_then (λ (j : SourceInstance). thread_of_sort before.threads j.sort) (instance_named is name) ≡ Some stage
+      → thread_parameters (threads_of before is) name ≡ Some (reader_of stage).parameters)
+      → option_and_then (λ (j : SourceInstance). thread_of_sort before.threads j.sort) (cond b (Some i) (instance_named is name)) ≡ Some stage
+      → thread_parameters (threads_of before (i ∷ is)) name ≡ Some (reader_of stage).parameters
+  first_if true name i is stage e f h = sort_first (spelled_name i.name) name (threads_of before is) i.sort stage e h
+  first_if false name i is stage e f h = parameters_further before (spelled_name i.name) name (threads_of before is) i.sort (inr e) ∙ f h
+
+  stage_parameters : (name : List ℕ) (is : List SourceInstance) (stage : ProgramTree)
+      → option_and_then (λ (j : SourceInstance). thread_of_sort before.threads j.sort) (instance_named is name) ≡ Some stage
+      → thread_parameters (threads_of before is) name ≡ Some (reader_of stage).parameters
+  stage_parameters name [] stage h = cc
+  stage_parameters name (i ∷ is) stage h = first_if (bytes_eq (spelled_name i.name) name) name i is stage refl (stage_parameters name is stage) h
+
+  -- what a reading statement has of the thread program that it reads from
+  abbrev FitsReading : ProgramTree → typed_reading.Reading → Type 0
+  FitsReading stage reading =
+      ReadsStage reading × ((is_some (reader_of stage).thread ≡ true) × (AreStageColumns (stage_columns reading) (reader_of stage).outputs
+      × (thread_parameters program.threads (stage_instance reading) ≡ Some (reader_of stage).parameters)))
+
+  fits_reading : (stage : ProgramTree) → unit_stage tables before u ≡ Some stage → ThreadIsThere stage → (reading : Option source_reading.Reading)
+      → typed_stage before.threads names_here.instances (stage_token reading) ≡ Some stage → FitsReading stage (read_statement tables before.names.made stage_here reading)
+  fits_reading stage own there None h = absurd (some_is_none stage h)
+  fits_reading stage own there (Some (read_as.Set keyword inputs end by)) h = absurd (some_is_none stage h)
+  fits_reading stage own there (Some (read_as.SetFrom keyword from instance threads end)) h = (
+    tt,
+    (
+      there.named,
+      (
+        subst (λ (s : Option ProgramTree). AreStageColumns (typed_stage_columns s) (reader_of stage).outputs) (sym own) (one_columns (reader_of stage).outputs there.stands.output),
+        stage_parameters (spelled_name instance) names_here.instances stage h,
+      ),
+    ),
+  )
+  fits_reading stage own there (Some (read_as.Merge keyword inputs retain end by)) h = absurd (some_is_none stage h)
+
+  fits_found : (stage : ProgramTree) → unit_stage tables before u ≡ Some stage → ThreadIsThere stage → (found : Option Method)
+      → typed_stage before.threads names_here.instances (stage_token (reading_if_any found)) ≡ Some stage → FitsReading stage (reading_of_method tables before.names.made stage_here found)
+  fits_found stage own there None h = absurd (some_is_none stage h)
+  fits_found stage own there (Some m) h = fits_reading stage own there m.reading h
+
+  over_stage_typed : IsTypedUnit program → (found : Option ProgramTree) → unit_stage tables before u ≡ found → IsTypedProgram (over_stage_read tables before u found)
+  over_stage_typed typed None e = (typed, reads_no_stage (method_named (source_methods u.globals) (codes "run")) run_reading e)
+  over_stage_typed typed (Some stage) e =
+      let there = stage_there before.threads given.stand.threads names_here.instances (stage_token names_here.reading) stage e in
+      let run = method_named (source_methods u.globals) (codes "run") in
+      let read = sym (ap (λ (r : Option source_reading.Reading). typed_stage before.threads names_here.instances (stage_token r)) run_reading) ∙ e in
+      let fits = fits_found stage e there run read in
+      (typed, (fits.0, fits.1.0, fits.1.1.0, fits.1.1.1), there.stands.typed)
+
+  -- a program that breaks no rule is typed
+  pub program_typed : IsTypedHead program.thread program.parameters → IsTypedProgram (typed_program tables before u)
+  program_typed head = over_stage_typed (unit_typed head) (unit_stage tables before u) refl
+
+-- the program without what it reads from
+pub reader_is : (tables : TableColumns) (before : UnitsBefore) (u : UnitSource) → reader_of (typed_program tables before u) ≡ typed_unit tables before u
+reader_is tables before u = of_stage (unit_stage tables before u)
+  where
+    of_stage : (found : Option ProgramTree) → reader_of (over_stage_read tables before u found) ≡ typed_unit tables before u
+    of_stage None = refl
+    of_stage (Some stage) = refl

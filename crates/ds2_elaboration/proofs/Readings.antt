@@ -1,51 +1,50 @@
--- The reading statement of a data program that breaks no rule is typed.
-use Rattle.std.proofs.Common.{◌≡◌, inl, inr, ℕ, ◌≤◌, length, bytes_eq, codes, Bool, true, false, not, ◌||◌, List, [], ◌∷◌, ◌++◌, map, if◌then◌else◌, Option, Some, None, refl, sym, ap, ◌∙◌, subst}
+-- The reading statement of a program that breaks no rule is typed.
+use Rattle.std.proofs.Common.{◌≡◌, inl, inr, ℕ, ◌≤◌, nat_le, length, bytes_eq, codes, cond, Bool, true, false, not, ◌||◌, List, [], ◌∷◌, ◌++◌, map, filter, if◌then◌else◌, Option, Some, None, refl, sym, ap, ◌∙◌, subst, true≢false, arith}
 use Rattle.std.specs.List.{AllByRecursion}
-use Rattle.std.proofs.lemmas.Bool.{and_parts, or_parts, or_from, or_left, or_right}
+use Rattle.std.proofs.lemmas.Bool.{and_parts, or_parts, or_from, or_left, or_right, not_from_false, leb-true}
 use Rattle.std.proofs.lemmas.List.{length-map}
 use Rattle.std.proofs.lemmas.List.Folds.{list_any-append}
 use Rattle.ds2_base.specs.declared.place.Place.{Place}
+use Rattle.ds2_token.specs.declared.token.Token.{Token}
 use Rattle.ds2_tree.specs.Globals.{Method}
-use Rattle.ds2_tree.specs.Units.{DataProgram}
+use Rattle.ds2_tree.specs.Lists.{if_any}
+use Rattle.ds2_tree.specs.Readings.{reading_spelling}
 use Rattle.ds2_tree.specs.declared.readings.ByVariable as source_by
 use Rattle.ds2_tree.specs.declared.readings.Input as source_input
 use Rattle.ds2_tree.specs.declared.readings.Reading as source_reading
 use Rattle.ds2_tree.specs.declared.readings.Reading.TheVariants as read_as
+use Rattle.ds2_tree.specs.declared.readings.Threads.{Threads}
+use Rattle.ds2_tree.specs.declared.units.OutputTable as source_output
 use Rattle.ds2_value.specs.Row.{Columns}
 use Rattle.ds2_value.specs.Schema.{has_column, distinct_names, types_in_bounds, is_schema}
-use Rattle.ds2_value.specs.Types.{takes, JoinTakesBoth, TakesItself, TakesOnward}
+use Rattle.ds2_value.specs.Types.{takes}
 use Rattle.ds2_value.specs.declared.schema.Column.{Column}
 use Rattle.ds2_value.specs.declared.ty.Ty.{Ty}
 use Rattle.ds2_meaning.specs.declared.globals.Variable as typed
 use Rattle.ds2_meaning.specs.declared.readings.MentionedTable.{MentionedTable}
-use Rattle.ds2_meaning.specs.IsTyped.{type_in, AreInBounds, variable_names, AreVariables, AreByColumns, AreTypedInputs, IsTypedReading}
+use Rattle.ds2_meaning.specs.IsTyped.{type_in, variable_names, AreVariables, AreByColumns, AreTypedInputs, IsTypedReading}
 use Rattle.ds2_meaning.specs.ProgramTree.{is_listed}
-use Rattle.ds2_names.specs.NameRules.{from_each, is_in_all_tables}
-use Rattle.ds2_names.specs.SourceUnit.{TableColumns, spelled_name, PlacedName, names_alone, declared_names, variable_declarations, source_methods, source_instances, reading_of_run, tables_of_reading, bys_of_reading, new_columns_of, new_columns, names_of_source}
+use Rattle.ds2_names.specs.NameRules.{from_each, place_unless, spelled_number, is_in_all_tables, real_outputs}
+use Rattle.ds2_names.specs.SourceUnit.{TableColumns, UnitSource, spelled_name, PlacedName, placed_name, names_alone, variable_declarations, source_methods, local_names, is_package, SourceInstance, reading_of_run, tables_of_reading, bys_of_reading, new_columns_of, new_columns, stage_token, columns_of_stage, SourceNames, instance_names, all_globals}
+use Rattle.ds2_names.specs.UnitRules.{beyond, places_of, too_many_variables, is_between, bad_threads, bad_reading_number}
 use Rattle.ds2_names.specs.Uses.{method_named}
 use Rattle.ds2_elaboration.specs.ElaborationLaws.{StandsAmong}
-use Rattle.ds2_elaboration.specs.ProgramTypes.{vector_variables, read_input, read_by, read_statement, reading_of_method, program_reading}
-use Rattle.ds2_elaboration.specs.SourceTypes.{type_of_column, Absent, joined_over, clashing_table, joined_type, program_variables, program_inputs, column_variables, clashing_tables}
+use Rattle.ds2_elaboration.specs.ProgramTypes.{read_input, read_by, asked_workers, read_statement, reading_of_method, program_reading}
+use Rattle.ds2_elaboration.specs.SourceTypes.{type_of_column, ColumnTyping, Absent, with_table, clashing_table, joined_type, program_variables, unit_names, program_inputs, unit_stage, stage_typing, column_typing, clash_at_stage, clashing_at, column_variables, vector_variables}
+use Rattle.ds2_elaboration.specs.TypedPrograms.{StandInOrder}
+use Rattle.ds2_elaboration.specs.UnitsBefore.{UnitsBefore, typed_stage, typed_stage_columns}
 use Rattle.ds2_elaboration.proofs.Accepted.{each_empty, bounded_in}
-use Rattle.ds2_elaboration.proofs.Distinct.{columns_are, names_append}
-use Rattle.ds2_elaboration.proofs.Joins.{TakesType, fits_all, declared_takes, joined_takes}
+use Rattle.ds2_elaboration.proofs.Distinct.{not_true, names_append, among_listed}
+use Rattle.ds2_elaboration.proofs.Facts.{JoinLaws, UnitHolds, held, reading_numbers, declared_variable_bounds, unclashed_tables, known_bys, column_rules, reading_is}
+use Rattle.ds2_elaboration.proofs.Joins.{TakesType, DeclaredTakes, IsUnclashed, unclashed_step, IsBoundedDeclared, stage_step, type_onward, fits_all, declared_takes, joined_takes}
+use Rattle.ds2_elaboration.proofs.Limits.{few_tables, few_bys}
 use Rattle.ds2_elaboration.proofs.Locals.{declared_variable_names}
+use Rattle.ds2_elaboration.proofs.Lookups.{of_among, for_each, mapped_among}
+use Rattle.ds2_elaboration.proofs.Methods.{methods_in_order, run_in_order}
 use Rattle.ds2_elaboration.proofs.Orders.{same_bytes, bytes_are, turned_bytes}
-use Rattle.ds2_elaboration.proofs.Outcome.{both_empty}
+use Rattle.ds2_elaboration.proofs.Outcome.{both_empty, unplaced}
+use Rattle.ds2_elaboration.proofs.Stages.{stage_schema, stage_types, stage_names}
 use Rattle.ds2_elaboration.proofs.Vectors.{reading_if_any, reading_found}
-
--- ---- items of lists
-
-pub of_among : {A : Type 0} (P : A → Type 0) (xs : List A) (x : A) → AllByRecursion P xs → StandsAmong xs x → P x
-of_among P [] x f m = absurd m
-of_among P (y ∷ ys) x f m = elim m [
-  | inl e ↦ subst P (sym e) f.0
-  | inr k ↦ of_among P ys x f.1 k
-]
-
-pub for_each : {A : Type 0} (P : A → Type 0) (xs : List A) → ((x : A) → StandsAmong xs x → P x) → AllByRecursion P xs
-for_each P [] f = tt
-for_each P (y ∷ ys) f = (f y (inl refl), for_each P ys (λ x m. f x (inr m)))
 
 -- ---- names and types
 
@@ -69,7 +68,7 @@ type_in_second (x ∷ xs) ys name h =
     let p = none_if (bytes_eq x.name name) x.ty (type_in xs name) h in
     ap (λ b. if b then Some x.ty else type_in (xs ++ ys) name) p.0 ∙ type_in_second xs ys name p.1
 
-untyped_unlisted : (xs : List typed.Variable) (name : List ℕ) → type_in xs name ≡ None → is_listed (variable_names xs) name ≡ false
+pub untyped_unlisted : (xs : List typed.Variable) (name : List ℕ) → type_in xs name ≡ None → is_listed (variable_names xs) name ≡ false
 untyped_unlisted [] name h = refl
 untyped_unlisted (x ∷ xs) name h =
     let p = none_if (bytes_eq x.name name) x.ty (type_in xs name) h in
@@ -172,6 +171,19 @@ all_listed tables known (j ∷ inputs) i m c k =
           ∙ all_listed tables (names_alone own ++ known) inputs i n c k)
     ])
 
+-- a name that is listed and passes a test is kept
+kept_if : (test : List ℕ → Bool) (name : List ℕ) → test name ≡ true → (t b listed : Bool) (n : List ℕ) (rest : List (List ℕ)) → bytes_eq n name ≡ b → test n ≡ t
+    → (listed ≡ true → is_listed rest name ≡ true) → (b || listed) ≡ true → is_listed (cond t (n ∷ rest) rest) name ≡ true
+kept_if test name k true true listed n rest e g f h = ap (λ x. x || is_listed rest name) e
+kept_if test name k true false listed n rest e g f h = or_right (bytes_eq n name) (is_listed rest name) (f h)
+kept_if test name k false true listed n rest e g f h = absurd (true≢false (sym k ∙ (ap test (sym (same_bytes n name e)) ∙ g)))
+kept_if test name k false false listed n rest e g f h = f h
+
+kept_listed : (test : List ℕ → Bool) (name : List ℕ) → test name ≡ true → (names : List (List ℕ)) → is_listed names name ≡ true → is_listed (filter test names) name ≡ true
+kept_listed test name k [] h = cc
+kept_listed test name k (n ∷ names) h =
+    kept_if test name k (test n) (bytes_eq n name) (is_listed names name) n (filter test names) refl refl (kept_listed test name k names) h
+
 -- ---- columns with their own types
 
 own_type_if : (b : Bool) (own ty : Ty) (rest : Option Ty) → b ≡ false → rest ≡ Some ty → (if b then Some own else rest) ≡ Some ty
@@ -186,17 +198,13 @@ unlisted_column own (d ∷ columns) c h m =
       | inr k ↦ unlisted_column own columns c p.1 k
     ]
 
-from_not : (b : Bool) → not b ≡ true → b ≡ false
-from_not true h = cc
-from_not false h = refl
-
 own_type : (columns : Columns) → distinct_names columns ≡ true → (c : Column) → StandsAmong columns c → type_of_column c.name columns ≡ Some c.ty
 own_type [] f c m = absurd m
 own_type (d ∷ columns) f c m =
     let p = and_parts (not (has_column d.name columns)) (distinct_names columns) f in elim m [
       | inl e ↦ subst (λ (x : Column). type_of_column x.name (d ∷ columns) ≡ Some x.ty) (sym e)
           (ap (λ b. if b then Some d.ty else type_of_column d.name columns) (bytes_are d.name d.name refl))
-      | inr k ↦ own_type_if (bytes_eq d.name c.name) d.ty c.ty (type_of_column c.name columns) (unlisted_column d.name columns c (from_not (has_column d.name columns) p.0) k)
+      | inr k ↦ own_type_if (bytes_eq d.name c.name) d.ty c.ty (type_of_column c.name columns) (unlisted_column d.name columns c (not_true (has_column d.name columns) p.0) k)
           (own_type columns p.1 c k)
     ]
 
@@ -204,6 +212,18 @@ are_variables : (variables : List typed.Variable) (columns : Columns)
     → AllByRecursion (λ (c : Column). (ty : Ty) × (type_in variables c.name ≡ Some ty) × (takes ty c.ty ≡ true)) columns → AreVariables variables columns
 are_variables variables [] f = tt
 are_variables variables (c ∷ columns) f = (f.0, are_variables variables columns f.1)
+
+-- ---- the places of tables and BY variables
+
+input_places : (inputs : List source_input.Input)
+    → map (λ (i : source_input.Input). i.table.place) inputs ≡ map (λ (t : Token). t.place) (map (λ (i : source_input.Input). i.table) inputs)
+input_places [] = refl
+input_places (i ∷ inputs) = ap (λ places. i.table.place ∷ places) (input_places inputs)
+
+by_places : (bys : List source_by.ByVariable)
+    → places_of (map (λ (b : source_by.ByVariable). placed_name b.name) bys) ≡ map (λ (t : Token). t.place) (map (λ (b : source_by.ByVariable). b.name) bys)
+by_places [] = refl
+by_places (b ∷ bys) = ap (λ places. b.name.place ∷ places) (by_places bys)
 
 -- ---- BY variables
 
@@ -217,7 +237,7 @@ by_columns tables i inputs (b ∷ bys) f =
     let q = by_columns tables i inputs bys f.1 in
     ((p.0, q.0), (p.1, q.1))
 
-module _ (tables : TableColumns) (schemas : (table : List ℕ) → is_schema (tables table) ≡ true) (made : List MentionedTable) (variables : List typed.Variable) where
+module _ (tables : TableColumns) (schemas : (table : List ℕ) → is_schema (tables table) ≡ true) (made : List MentionedTable) (columns : Columns) (variables : List typed.Variable) where
   typed_inputs : (bys : List source_by.ByVariable) (inputs : List source_input.Input)
       → AllByRecursion (λ (i : source_input.Input). AreVariables variables (tables (spelled_name i.table))) inputs
       → AllByRecursion (λ (b : source_by.ByVariable). is_in_all_tables tables inputs (spelled_name b.name) ≡ true) bys
@@ -232,104 +252,231 @@ module _ (tables : TableColumns) (schemas : (table : List ℕ) → is_schema (ta
   few_of bys inputs f g =
       (subst (λ n. n ≤ 16) (sym (length-map inputs (read_input tables made))) f, subst (λ n. n ≤ 16) (sym (length-map bys read_by)) g)
 
-  typed_reading : (reading : Option source_reading.Reading) → length (tables_of_reading reading) ≤ 16 → length (bys_of_reading reading) ≤ 16
-      → AllByRecursion (λ (i : source_input.Input). AreVariables variables (tables (spelled_name i.table))) (tables_of_reading reading)
-      → AllByRecursion (λ (b : source_by.ByVariable). is_in_all_tables tables (tables_of_reading reading) (spelled_name b.name) ≡ true) (bys_of_reading reading)
-      → IsTypedReading variables (read_statement tables made reading)
-  typed_reading None few some f g = (few, some, tt)
-  typed_reading (Some (read_as.Set keyword inputs end by)) few some f g =
-      let bys = bys_of_reading (Some (read_as.Set keyword inputs end by)) in
-      let p = few_of bys inputs few some in (p.0, p.1, typed_inputs bys inputs f g)
-  typed_reading (Some (read_as.SetFrom keyword from instance threads end)) few some f g = (few, some, tt)
-  typed_reading (Some (read_as.Merge keyword inputs retain end by)) few some f g =
-      let p = few_of by.variables inputs few some in (p.0, p.1, typed_inputs by.variables inputs f g)
+  -- one worker, or as many as are asked for
+  workers_asked : (threads : Option Threads) → bad_threads threads ≡ [] → (1 ≤ asked_workers threads) × (asked_workers threads ≤ 64)
+  workers_asked None h = (omega arith, omega arith)
+  workers_asked (Some threads) h =
+      let n = spelled_number threads.number in
+      let p = and_parts (nat_le 1 n) (nat_le n 64) (unplaced (is_between 1 64 n) threads.number.place h) in
+      (leb-true 1 n p.0, leb-true n 64 p.1)
 
-  typed_reading_of : (found : Option Method) → length (tables_of_reading (reading_if_any found)) ≤ 16 → length (bys_of_reading (reading_if_any found)) ≤ 16
-      → AllByRecursion (λ (i : source_input.Input). AreVariables variables (tables (spelled_name i.table))) (tables_of_reading (reading_if_any found))
-      → AllByRecursion (λ (b : source_by.ByVariable). is_in_all_tables tables (tables_of_reading (reading_if_any found)) (spelled_name b.name) ≡ true) (bys_of_reading (reading_if_any found))
-      → IsTypedReading variables (reading_of_method tables made found)
-  typed_reading_of None few some f g = (few, some, tt)
-  typed_reading_of (Some m) few some f g = typed_reading m.reading few some f g
+  -- what a reading statement needs
+  pub record ReadingHolds (reading : Option source_reading.Reading) : Type 0 where
+    pub tables_few : length (tables_of_reading reading) ≤ 16
+    pub bys_few : length (bys_of_reading reading) ≤ 16
+    pub inputs : AllByRecursion (λ (i : source_input.Input). AreVariables variables (tables (spelled_name i.table))) (tables_of_reading reading)
+    pub bys : AllByRecursion (λ (b : source_by.ByVariable). is_in_all_tables tables (tables_of_reading reading) (spelled_name b.name) ≡ true) (bys_of_reading reading)
+    pub numbers : bad_reading_number reading ≡ []
+    pub stage : AreVariables variables columns
+
+  typed_reading : (reading : Option source_reading.Reading) → ReadingHolds reading → IsTypedReading variables (read_statement tables made columns reading)
+  typed_reading None h = (h.tables_few, h.bys_few, tt)
+  typed_reading (Some (read_as.Set keyword inputs end by)) h =
+      let bys = bys_of_reading (Some (read_as.Set keyword inputs end by)) in
+      let p = few_of bys inputs h.tables_few h.bys_few in (p.0, p.1, typed_inputs bys inputs h.inputs h.bys)
+  typed_reading (Some (read_as.SetFrom keyword from instance threads end)) h =
+      let p = workers_asked threads h.numbers in (p.0, p.1, h.stage)
+  typed_reading (Some (read_as.Merge keyword inputs retain end by)) h =
+      let p = few_of by.variables inputs h.tables_few h.bys_few in (p.0, p.1, typed_inputs by.variables inputs h.inputs h.bys)
+
+  pub typed_reading_of : (found : Option Method) → ReadingHolds (reading_if_any found) → IsTypedReading variables (reading_of_method tables made columns found)
+  typed_reading_of None h = (h.tables_few, h.bys_few, tt)
+  typed_reading_of (Some m) h = typed_reading m.reading h
+
+number_if : (b : Bool) (own rest : Option source_reading.Reading) → bad_reading_number own ≡ [] → bad_reading_number rest ≡ [] → bad_reading_number (if b then own else rest) ≡ []
+number_if true own rest f g = f
+number_if false own rest f g = g
+
+run_number : (methods : List Method) → from_each (λ (m : Method). bad_reading_number m.reading) methods ≡ [] → bad_reading_number (reading_of_run methods) ≡ []
+run_number [] h = refl
+run_number (m ∷ methods) h =
+    let p = both_empty (bad_reading_number m.reading) (from_each (λ (x : Method). bad_reading_number x.reading) methods) h in
+    number_if (bytes_eq (spelled_name m.name) (codes "run")) m.reading (reading_of_run methods) p.0 (run_number methods p.1)
 
 -- ---- the reading statement
 
-module _ (join : JoinTakesBoth) (itself : TakesItself) (onward : TakesOnward) (tables : TableColumns) (schemas : (table : List ℕ) → is_schema (tables table) ≡ true)
-    (u : DataProgram) (none : source_instances u.globals ≡ []) (bounds : AreInBounds (program_variables u)) (unclashed : clashing_tables tables u ≡ []) where
+module _ (laws : JoinLaws) (tables : TableColumns) (before : UnitsBefore) (u : UnitSource) (given : UnitHolds tables before u) where
+  abbrev names_here : SourceNames
+  names_here = unit_names tables before u
+
   abbrev inputs_here : List source_input.Input
-  inputs_here = program_inputs u
+  inputs_here = program_inputs tables before u
 
   abbrev columns_here : List PlacedName
-  columns_here = (names_of_source tables u).columns
+  columns_here = names_here.columns
 
-  -- the tables of a name that do not join
+  abbrev stage_here : Columns
+  stage_here = typed_stage_columns (unit_stage tables before u)
+
+  abbrev vector_here : List typed.Variable
+  vector_here = vector_variables tables before u
+
+  -- what is known of a column up to all tables
+  abbrev final_of : Option Ty → List ℕ → ColumnTyping
+  final_of declared name = column_typing tables before u declared name
+
+  -- the places at which a name does not join
   abbrev clash_of : List ℕ → List Place
-  clash_of name = clashing_table tables (type_in (program_variables u) name) name Absent inputs_here
+  clash_of name = clashing_at tables before u (type_in (program_variables u) name) name
 
-  rules_hold : AllByRecursion (λ (v : typed.Variable). clash_of v.name ≡ []) (program_variables u) × AllByRecursion (λ (n : PlacedName). clash_of n.name ≡ []) columns_here
-  rules_hold =
-      let p = both_empty (from_each (λ (v : typed.Variable). clash_of v.name) (program_variables u)) (from_each (λ (n : PlacedName). clash_of n.name) columns_here) unclashed in
-      (each_empty (λ (v : typed.Variable). clash_of v.name) (program_variables u) p.0, each_empty (λ (n : PlacedName). clash_of n.name) columns_here p.1)
+  declared_rules : AllByRecursion (λ (v : typed.Variable). clash_of v.name ≡ []) (program_variables u)
+  declared_rules =
+      each_empty (λ (v : typed.Variable). clash_of v.name) (program_variables u)
+      (both_empty (from_each (λ (v : typed.Variable). clash_of v.name) (program_variables u)) (from_each (λ (n : PlacedName). clash_of n.name) columns_here)
+      (unclashed_tables laws tables before u given)).0
 
-  -- a variable of the vector takes the values of a table's column
+  -- no rule is broken by the thread program that is read from
+  unclashed_stage : (declared : Option Ty) (name : List ℕ) (token : Option Token) → stage_token names_here.reading ≡ token
+      → clash_at_stage tables before u declared name token ≡ [] → IsUnclashed (stage_typing tables before u declared name)
+  unclashed_stage declared name None e h =
+      subst (λ (t : Option Token). IsUnclashed (with_table declared Absent (type_of_column name (typed_stage_columns (typed_stage before.threads names_here.instances t))))) (sym e) tt
+  unclashed_stage declared name (Some t) e h = unclashed_step t.place Absent (stage_typing tables before u declared name) tt h
+
+  -- what is known of a name takes each column of it, and the declared variable takes what is known
+  record FitsName (declared : Option Ty) (name : List ℕ) : Type 0 where
+    taken : DeclaredTakes declared (final_of declared name)
+    inputs : AllByRecursion (λ (i : source_input.Input). (ty : Ty) → type_of_column name (tables (spelled_name i.table)) ≡ Some ty → TakesType (final_of declared name) ty) inputs_here
+    stage : (ty : Ty) → type_of_column name stage_here ≡ Some ty → TakesType (final_of declared name) ty
+
+  fits_name : (declared : Option Ty) → IsBoundedDeclared declared → (name : List ℕ) → clashing_at tables before u declared name ≡ [] → FitsName declared name
+  fits_name declared d name rule =
+      let first = stage_typing tables before u declared name in
+      let p = both_empty (clash_at_stage tables before u declared name (stage_token names_here.reading)) (clashing_table tables declared name first inputs_here) rule in
+      let k = unclashed_stage declared name (stage_token names_here.reading) refl p.0 in
+      let s = stage_step laws.join laws.itself laws.onward declared d name stage_here (stage_types tables before u given.stand) k in
+      let r = fits_all laws.join laws.itself laws.onward tables given.schemas declared d name first inputs_here s.bounds k s.taken p.1 in
+      record {
+        taken = r.1;
+        inputs = r.2;
+        stage = λ ty e. type_onward laws.join laws.itself laws.onward ty first (final_of declared name) (s.own ty e) r.0;
+      }
+
+  -- a variable of the vector takes the values of a column
   abbrev IsTaken : List ℕ → Ty → Type 0
-  IsTaken name own = (ty : Ty) × (type_in (vector_variables tables u) name ≡ Some ty) × (takes ty own ≡ true)
+  IsTaken name own = (ty : Ty) × (type_in vector_here name ≡ Some ty) × (takes ty own ≡ true)
 
-  taken_declared : (name : List ℕ) (d own : Ty) (i : source_input.Input) → StandsAmong inputs_here i → type_of_column name (tables (spelled_name i.table)) ≡ Some own
-      → type_in (program_variables u) name ≡ Some d → IsTaken name own
-  taken_declared name d own i m t e =
-      let rule = subst (λ o. clashing_table tables o name Absent inputs_here ≡ []) e (declared_rule clash_of (program_variables u) name d rules_hold.0 e) in
-      let final = joined_over tables (Some d) name Absent inputs_here in
-      let fits = fits_all join itself onward tables schemas (Some d) (bounded_in (program_variables u) bounds name d e) name Absent inputs_here tt tt tt rule in
-      let own_taken = of_among (λ (x : source_input.Input). (ty : Ty) → type_of_column name (tables (spelled_name x.table)) ≡ Some ty → TakesType final ty) inputs_here i fits.2 m own t in
-      (d, type_in_first (program_variables u) (column_variables tables u) name d e, declared_takes join itself onward d own final fits.1 own_taken)
-
-  taken_column : (name : List ℕ) (own : Ty) (i : source_input.Input) → StandsAmong inputs_here i → type_of_column name (tables (spelled_name i.table)) ≡ Some own
-      → type_in (program_variables u) name ≡ None → is_listed (names_alone columns_here) name ≡ true → IsTaken name own
-  taken_column name own i m t e listed =
-      let rule = subst (λ o. clashing_table tables o name Absent inputs_here ≡ []) e (column_rule clash_of columns_here name rules_hold.1 listed) in
-      let final = joined_over tables None name Absent inputs_here in
-      let fits = fits_all join itself onward tables schemas None tt name Absent inputs_here tt tt tt rule in
-      let own_taken = of_among (λ (x : source_input.Input). (ty : Ty) → type_of_column name (tables (spelled_name x.table)) ≡ Some ty → TakesType final ty) inputs_here i fits.2 m own t in (
-        joined_type final,
-        type_in_second (program_variables u) (column_variables tables u) name e
-            ∙ column_type_in (λ n. joined_type (joined_over tables None n Absent inputs_here)) columns_here name listed,
-        joined_takes own final own_taken,
+  taken_by_name : (name : List ℕ) (own : Ty) (found : Option Ty) → type_in (program_variables u) name ≡ found
+      → ((declared : Option Ty) → FitsName declared name → TakesType (final_of declared name) own)
+      → (found ≡ None → is_listed (names_alone columns_here) name ≡ true) → IsTaken name own
+  taken_by_name name own (Some d) e f g =
+      let rule = subst (λ o. clashing_at tables before u o name ≡ []) e (declared_rule clash_of (program_variables u) name d declared_rules e) in
+      let fits = fits_name (Some d) (bounded_in (program_variables u) (declared_variable_bounds laws tables before u given) name d e) name rule in (
+        d,
+        type_in_first (program_variables u) (column_variables tables before u) name d e,
+        declared_takes laws.join laws.itself laws.onward d own (final_of (Some d) name) fits.taken (f (Some d) fits),
+      )
+  taken_by_name name own None e f g =
+      let listed = g refl in
+      let rule = subst (λ o. clashing_at tables before u o name ≡ []) e (column_rule clash_of columns_here name (column_rules laws tables before u given) listed) in
+      let fits = fits_name None tt name rule in (
+        joined_type (final_of None name),
+        type_in_second (program_variables u) (column_variables tables before u) name e ∙ column_type_in (λ n. joined_type (final_of None n)) columns_here name listed,
+        joined_takes own (final_of None name) (f None fits),
       )
 
-  listed_column : (i : source_input.Input) → StandsAmong inputs_here i → (c : Column) → StandsAmong (tables (spelled_name i.table)) c → type_in (program_variables u) c.name ≡ None
+  abbrev declared_here : List (List ℕ)
+  declared_here = names_alone names_here.declared
+
+  undeclared : (name : List ℕ) → type_in (program_variables u) name ≡ None → is_listed declared_here name ≡ false
+  undeclared name e =
+      sym (ap (λ ns. is_listed ns name) (declared_variable_names (variable_declarations u.globals))) ∙ untyped_unlisted (program_variables u) name e
+
+  -- the columns that tables add, and those that a thread program adds
+  abbrev from_tables : List PlacedName
+  from_tables = new_columns tables declared_here inputs_here
+
+  abbrev from_stage : List PlacedName
+  from_stage = columns_of_stage before.names.known names_here.instances declared_here (stage_token names_here.reading)
+
+  both_listed : (name : List ℕ) → (is_listed (names_alone from_tables) name || is_listed (names_alone from_stage) name) ≡ true → is_listed (names_alone columns_here) name ≡ true
+  both_listed name h =
+      ap (λ ns. is_listed ns name) (names_append from_tables from_stage) ∙ (listed_or (names_alone from_tables) (names_alone from_stage) name ∙ h)
+
+  table_listed : (i : source_input.Input) → StandsAmong inputs_here i → (c : Column) → StandsAmong (tables (spelled_name i.table)) c → type_in (program_variables u) c.name ≡ None
       → is_listed (names_alone columns_here) c.name ≡ true
-  listed_column i m c k e =
-      let declared = names_alone (declared_names (variable_declarations u.globals)) in
-      let unlisted = sym (ap (λ ns. is_listed ns c.name) (declared_variable_names (variable_declarations u.globals))) ∙ untyped_unlisted (program_variables u) c.name e in
-      let new = all_listed tables declared inputs_here i m c k in
-      let made = new_columns tables declared inputs_here in
-      ap (λ ns. is_listed (names_alone ns) c.name) (columns_are tables [] u none) ∙ (sym (ap (λ b. b || is_listed (names_alone made) c.name) unlisted) ∙ new)
+  table_listed i m c k e =
+      let new = all_listed tables declared_here inputs_here i m c k in
+      both_listed c.name (or_left (is_listed (names_alone from_tables) c.name) (is_listed (names_alone from_stage) c.name)
+      (sym (ap (λ b. b || is_listed (names_alone from_tables) c.name) (undeclared c.name e)) ∙ new))
 
-  taken : (found : Option Ty) (i : source_input.Input) → StandsAmong inputs_here i → (c : Column) → StandsAmong (tables (spelled_name i.table)) c
-      → type_in (program_variables u) c.name ≡ found → IsTaken c.name c.ty
-  taken (Some d) i m c k e =
-      let columns = tables (spelled_name i.table) in
-      let t = own_type columns (and_parts (distinct_names columns) (types_in_bounds columns) (schemas (spelled_name i.table))).0 c k in
-      taken_declared c.name d c.ty i m t e
-  taken None i m c k e =
-      let columns = tables (spelled_name i.table) in
-      let t = own_type columns (and_parts (distinct_names columns) (types_in_bounds columns) (schemas (spelled_name i.table))).0 c k in
-      taken_column c.name c.ty i m t e (listed_column i m c k e)
+  stage_listed : (c : Column) → StandsAmong stage_here c → type_in (program_variables u) c.name ≡ None → is_listed (names_alone columns_here) c.name ≡ true
+  stage_listed c k e =
+      let test = λ (name : List ℕ). not (is_listed declared_here name) in
+      let names = map (λ (x : Column). x.name) stage_here in
+      let there = among_listed names c.name (mapped_among (λ (x : Column). x.name) stage_here c k) in
+      let kept = kept_listed test c.name (not_from_false (is_listed declared_here c.name) (undeclared c.name e)) names there in
+      both_listed c.name (or_right (is_listed (names_alone from_tables) c.name) (is_listed (names_alone from_stage) c.name)
+      (ap (λ ns. is_listed ns c.name) (stage_names tables before u given.stand declared_here names_here.instances (stage_token names_here.reading)) ∙ kept))
 
-  pub inputs_typed : AllByRecursion (λ (i : source_input.Input). AreVariables (vector_variables tables u) (tables (spelled_name i.table))) inputs_here
+  -- a column of a table is taken by its variable
+  table_taken : (i : source_input.Input) → StandsAmong inputs_here i → (c : Column) → StandsAmong (tables (spelled_name i.table)) c → IsTaken c.name c.ty
+  table_taken i m c k =
+      let columns = tables (spelled_name i.table) in
+      let t = own_type columns (and_parts (distinct_names columns) (types_in_bounds columns) (given.schemas (spelled_name i.table))).0 c k in
+      taken_by_name c.name c.ty (type_in (program_variables u) c.name) refl
+      (λ declared fits.
+      of_among (λ (x : source_input.Input). (ty : Ty) → type_of_column c.name (tables (spelled_name x.table)) ≡ Some ty → TakesType (final_of declared c.name) ty)
+      inputs_here i fits.inputs m c.ty t)
+      (table_listed i m c k)
+
+  stage_taken : (c : Column) → StandsAmong stage_here c → IsTaken c.name c.ty
+  stage_taken c k =
+      let t = own_type stage_here (and_parts (distinct_names stage_here) (types_in_bounds stage_here) (stage_schema tables before u given.stand)).0 c k in
+      taken_by_name c.name c.ty (type_in (program_variables u) c.name) refl (λ declared fits. fits.stage c.ty t) (stage_listed c k)
+
+  inputs_typed : AllByRecursion (λ (i : source_input.Input). AreVariables vector_here (tables (spelled_name i.table))) inputs_here
   inputs_typed =
-      for_each (λ (i : source_input.Input). AreVariables (vector_variables tables u) (tables (spelled_name i.table))) inputs_here
-      (λ i m. are_variables (vector_variables tables u) (tables (spelled_name i.table))
-      (for_each (λ (c : Column). IsTaken c.name c.ty) (tables (spelled_name i.table)) (λ c k. taken (type_in (program_variables u) c.name) i m c k refl)))
+      for_each (λ (i : source_input.Input). AreVariables vector_here (tables (spelled_name i.table))) inputs_here
+      (λ i m. are_variables vector_here (tables (spelled_name i.table))
+      (for_each (λ (c : Column). IsTaken c.name c.ty) (tables (spelled_name i.table)) (λ c k. table_taken i m c k)))
 
-  pub reading_typed : (made : List MentionedTable) → length (tables_of_reading (reading_of_run (source_methods u.globals))) ≤ 16
-      → length (bys_of_reading (reading_of_run (source_methods u.globals))) ≤ 16
-      → AllByRecursion (λ (b : source_by.ByVariable). is_in_all_tables tables inputs_here (spelled_name b.name) ≡ true) (bys_of_reading (reading_of_run (source_methods u.globals)))
-      → IsTypedReading (vector_variables tables u) (program_reading tables made (source_methods u.globals))
-  reading_typed made few some bys =
-      let e = reading_found (source_methods u.globals) in
-      typed_reading_of tables schemas made (vector_variables tables u) (method_named (source_methods u.globals) (codes "run"))
-      (subst (λ (r : Option source_reading.Reading). length (tables_of_reading r) ≤ 16) e few)
-      (subst (λ (r : Option source_reading.Reading). length (bys_of_reading r) ≤ 16) e some)
-      (subst (λ (r : Option source_reading.Reading). AllByRecursion (λ (i : source_input.Input). AreVariables (vector_variables tables u) (tables (spelled_name i.table))) (tables_of_reading r)) e inputs_typed)
-      (subst (λ (r : Option source_reading.Reading). AllByRecursion (λ (b : source_by.ByVariable). is_in_all_tables tables (tables_of_reading r) (spelled_name b.name) ≡ true) (bys_of_reading r)) e bys)
+  pub stage_typed : AreVariables vector_here stage_here
+  stage_typed = are_variables vector_here stage_here (for_each (λ (c : Column). IsTaken c.name c.ty) stage_here stage_taken)
+
+  -- ---- so many tables and BY variables
+
+  -- at most 16 tables and 16 BY variables
+  limits : (beyond 16 (map (λ (i : source_input.Input). i.table.place) inputs_here) ≡ []) × (beyond 16 (places_of names_here.bys) ≡ [])
+  limits =
+      let globals = beyond 1000 (places_of (all_globals names_here) ++ places_of names_here.bys ++ places_of names_here.bys) in
+      let locals = from_each (λ (m : Method). beyond 1000 (places_of (local_names m))) names_here.methods in
+      let outputs = beyond 16 (map (λ (o : source_output.OutputTable). o.table.place) (real_outputs names_here)) in
+      let inputs = beyond 16 (map (λ (i : source_input.Input). i.table.place) inputs_here) in
+      let bys = beyond 16 (places_of names_here.bys) in
+      let instances = beyond 64 (places_of (instance_names names_here)) in
+      let variables = from_each (λ (i : SourceInstance). too_many_variables i.sort) names_here.instances in
+      let p = both_empty (globals ++ locals ++ outputs ++ inputs ++ bys ++ instances) variables (held laws tables before u given).too_many in
+      let q = both_empty (globals ++ locals ++ outputs ++ inputs ++ bys) instances p.0 in
+      let r = both_empty (globals ++ locals ++ outputs ++ inputs) bys q.0 in
+      ((both_empty (globals ++ locals ++ outputs) inputs r.0).1, r.1)
+
+  bys_in_tables : (bys : List source_by.ByVariable)
+      → from_each (λ (b : PlacedName). place_unless (is_in_all_tables tables inputs_here b.name) b.place) (map (λ (b : source_by.ByVariable). placed_name b.name) bys) ≡ []
+      → AllByRecursion (λ (b : source_by.ByVariable). is_in_all_tables tables inputs_here (spelled_name b.name) ≡ true) bys
+  bys_in_tables [] h = tt
+  bys_in_tables (b ∷ bys) h =
+      let rule = λ (n : PlacedName). place_unless (is_in_all_tables tables inputs_here n.name) n.place in
+      let p = both_empty (rule (placed_name b.name)) (from_each rule (map (λ (x : source_by.ByVariable). placed_name x.name) bys)) h in
+      (unplaced (is_in_all_tables tables inputs_here (spelled_name b.name)) b.name.place p.0, bys_in_tables bys p.1)
+
+  reading_order : is_package u.kind ≡ false → StandInOrder (if_any reading_spelling names_here.reading)
+  reading_order runs =
+      subst (λ (r : Option source_reading.Reading). StandInOrder (if_any reading_spelling r)) (sym (reading_is laws tables before u given runs))
+      (run_in_order (source_methods u.globals) (methods_in_order u.globals given.source.order))
+
+  -- the reading statement of a program is typed
+  pub reading_typed : is_package u.kind ≡ false → IsTypedReading vector_here (program_reading tables before u)
+  reading_typed runs =
+      let order = reading_order runs in
+      let reading = names_here.reading in
+      let e = reading_is laws tables before u given runs in
+      let holds : ReadingHolds tables given.schemas before.names.made stage_here vector_here reading = record {
+        tables_few = few_tables reading order (subst (λ places. beyond 16 places ≡ []) (input_places (tables_of_reading reading)) limits.0);
+        bys_few = few_bys reading order (subst (λ places. beyond 16 places ≡ []) (by_places (bys_of_reading reading)) limits.1);
+        inputs = inputs_typed;
+        bys = bys_in_tables (bys_of_reading reading) (known_bys laws tables before u given);
+        numbers = ap bad_reading_number e ∙ run_number (source_methods u.globals) (reading_numbers laws tables before u given);
+        stage = stage_typed;
+      } in
+      typed_reading_of tables given.schemas before.names.made stage_here vector_here (method_named (source_methods u.globals) (codes "run"))
+      (subst (λ (r : Option source_reading.Reading). ReadingHolds tables given.schemas before.names.made stage_here vector_here r) (e ∙ reading_found (source_methods u.globals)) holds)

@@ -15,7 +15,8 @@ use Rattle.ds2_tree.specs.declared.statements.PutItem.{PutItem}
 use Rattle.ds2_tree.specs.declared.statements.PutItem.TheVariants as item
 use Rattle.ds2_value.specs.declared.ty.Ty.{Ty}
 use Rattle.ds2_value.specs.declared.ty.Ty.TheVariants.{BigInt, Decimal as DecimalOf, Char, Varchar}
-use Rattle.ds2_meaning.specs.IsTyped.{NamesInScope, reference_type, IsTarget, TypeClass, Integers, Decimals, Texts, class_of, expression_type, IsTypedExpression, IsTypedCondition, AreTypedConditions, AreTypedValues, IsTypedInteger, IsTypedStep, AreTypedItems, AreOutputs, IsTypedStatement, AreTypedStatements, AreTypedWhens, AreTypedValueWhens}
+use Rattle.ds2_meaning.specs.declared.globals.Variable as typed
+use Rattle.ds2_meaning.specs.IsTyped.{NamesInScope, reference_type, IsTarget, TypeClass, Integers, Decimals, Texts, class_of, expression_type, IsTypedExpression, IsTypedCondition, AreTypedConditions, AreTypedValues, IsTypedInteger, IsTypedStep, AreTypedItems, AreOutputs, AreValuesFor, IsTypedStatement, AreTypedStatements, AreTypedWhens, AreTypedValueWhens}
 use Rattle.ds2_meaning.specs.ProgramTree.{is_listed}
 use Rattle.ds2_meaning.specs.TypedExpression.{TypedExpression, Widen}
 use Rattle.ds2_meaning.specs.TypedStatement as t
@@ -23,15 +24,16 @@ use Rattle.ds2_names.specs.NameRules.{from_each}
 use Rattle.ds2_names.specs.SourceUnit.{spelled_name}
 use Rattle.ds2_names.specs.UnitRules.{misplaced_return, misplaced_in, misplaced_in_all, misplaced_in_whens, misplaced_in_otherwise}
 use Rattle.ds2_names.specs.Uses.{callee_place, first_place, method_named}
-use Rattle.ds2_elaboration.specs.ExpressionTypes.{TypeScope, KnownVariable, known_variable, elaborated_variable, elaborated_flag, number_of_method, is_settable_reference, elaborated_call, elaborated, elaborated_arguments}
+use Rattle.ds2_elaboration.specs.ExpressionTypes.{TypeScope, ObjectCalls, InstanceCalls, HashCalls, IteratorCalls, ParameterCalls, KnownVariable, known_variable, elaborated_variable, elaborated_member, object_in_scope, number_of_method, is_settable_reference, values_for, elaborated_object_call, elaborated_call, elaborated, elaborated_arguments}
 use Rattle.ds2_elaboration.specs.FunctionTypes.{ElaboratedArgument, nodes_in_order}
 use Rattle.ds2_elaboration.specs.OperatorTypes.{is_known_decimal}
-use Rattle.ds2_elaboration.specs.StatementTypes.{argument_nodes, bound_refusals, condition_test_refusals, value_test_refusals, output_numbers, settable_variable, target_refusals, target_of, assignment_refusals, assignment_node, named_call_refusals, call_refusals, named_call_node, call_node, return_refusals, return_node, item_refusals, item_node, written_refusals, selector_refusals, test_refusals, has_decimal_test, selected_node, step_refusals, step_node, counted_refusals, counted_reference, statement_refusals, statements_refusals, when_refusals, otherwise_refusals, statement_node, statements_node, whens_node, otherwise_node}
+use Rattle.ds2_elaboration.specs.StatementTypes.{argument_nodes, bound_refusals, condition_test_refusals, value_test_refusals, output_numbers, settable_variable, target_refusals, target_of, assignment_refusals, assignment_node, instance_call_refusals, object_call_refusals, instance_call_node, object_call_node, named_call_refusals, call_refusals, named_call_node, call_node, return_refusals, return_node, item_refusals, item_node, written_refusals, selector_refusals, test_refusals, has_decimal_test, selected_node, step_refusals, step_node, counted_refusals, counted_reference, statement_refusals, statements_refusals, when_refusals, otherwise_refusals, statement_node, statements_node, whens_node, otherwise_node}
 use Rattle.ds2_elaboration.specs.TypedForms.{IsOfTyping, IsSoundlyElaborated, IsSoundArgument}
-use Rattle.ds2_elaboration.specs.TypedScopes.{IsBoundedIfAny, ScopeStands, StatementsAreTyped}
+use Rattle.ds2_elaboration.specs.TypedScopes.{IsBoundedIfAny, ObjectStands, ScopeStands, StatementsAreTyped}
 use Rattle.ds2_elaboration.specs.Typings.{TypeRefusals, clash_unless, Typing, Known, NullAt, Unknown, ElaboratedExpression, typing_behind, is_numeric_type, is_integer_type, are_comparable, where_known, where_both_known, null_clash, truth_refusals, assigned_refusals}
+use Rattle.ds2_elaboration.proofs.Arguments.{is_target, method_arguments, values_fit}
 use Rattle.ds2_elaboration.proofs.Choices.{any_of_typing}
-use Rattle.ds2_elaboration.proofs.Expressions.{is_target, KnownStands, StandsIfKnown, known_stands, variable_typed, flag_typed, method_arguments, call_typed, expression_typed, arguments_typed}
+use Rattle.ds2_elaboration.proofs.Expressions.{KnownStands, StandsIfKnown, known_stands, variable_typed, member_typed, object_call, call_typed, expression_typed, arguments_typed}
 use Rattle.ds2_elaboration.proofs.Operands.{unclashed, numeric, integer, operand, truth_operand, wide, assigned_typed}
 use Rattle.ds2_elaboration.proofs.Outcome.{both_empty, unplaced}
 
@@ -125,9 +127,35 @@ module _ (scope : TypeScope) (names : NamesInScope) (stands : ScopeStands scope 
       → IsTypedStatement names loop (named_call_node scope place name xs found)
   named_call_typed loop place name xs (Some m) e f h =
       let k = stands.methods (spelled_name name) m e in
-      (k.method, k.there, method_arguments scope names stands name.place (number_of_method scope.methods (spelled_name name)) m xs k f h)
+      (k.method, k.there, method_arguments names (names.methods None) name.place (number_of_method scope.methods (spelled_name name)) m xs k f h)
   named_call_typed loop place name xs None e f h =
       let x = elaborated_call scope (callee.Function name) xs in any_of_typing names x.typing x.node (call_typed scope names stands (callee.Function name) xs f h)
+
+  instance_call_typed : (loop : Bool) (place : Place) (object name : Token) (methods : List Method) (xs : List ElaboratedArgument)
+      → ObjectStands names (spelled_name object) (InstanceCalls methods) → AllByRecursion (IsSoundArgument names) xs → (found : Option Method)
+      → method_named methods (spelled_name name) ≡ found → instance_call_refusals scope object name methods xs found ≡ []
+      → IsTypedStatement names loop (instance_call_node scope place object name methods xs found)
+  instance_call_typed loop place object name methods xs o f None e h = cc
+  instance_call_typed loop place object name methods xs o f (Some m) e h =
+      let k = o (spelled_name name) m e in
+      (k.method, k.there, method_arguments names (names.methods (Some (spelled_name object))) name.place (number_of_method methods (spelled_name name)) m xs k f h)
+
+  object_call_typed : (loop : Bool) (place : Place) (object name : Token) (xs : List ElaboratedArgument) → AllByRecursion (IsSoundArgument names) xs
+      → (found : Option ObjectCalls) → object_in_scope scope (spelled_name object) ≡ found → object_call_refusals scope object name xs found ≡ []
+      → IsTypedStatement names loop (object_call_node scope place object name xs found)
+  object_call_typed loop place object name xs f None e h = cc
+  object_call_typed loop place object name xs f (Some (InstanceCalls methods)) e h =
+      instance_call_typed loop place object name methods xs (stands.objects (spelled_name object) (InstanceCalls methods) e) f
+      (method_named methods (spelled_name name)) refl h
+  object_call_typed loop place object name xs f (Some HashCalls) e h =
+      let x = elaborated_object_call object name xs (Some HashCalls) in any_of_typing names x.typing x.node (object_call scope names stands object name xs f (Some HashCalls) e h)
+  object_call_typed loop place object name xs f (Some IteratorCalls) e h =
+      let x = elaborated_object_call object name xs (Some IteratorCalls) in
+      any_of_typing names x.typing x.node (object_call scope names stands object name xs f (Some IteratorCalls) e h)
+  object_call_typed loop place object name xs f (Some (ParameterCalls parameters)) e h =
+      let o = stands.objects (spelled_name object) (ParameterCalls parameters) e in
+      subst (λ (found : Option (List typed.Variable)). AreValuesFor names found (values_for name.place parameters xs).values) (sym o.0)
+      (values_fit names name.place parameters xs o.1 f h)
 
   call_stands : (loop : Bool) (place : Place) (f : Callee) (xs : List ElaboratedArgument) → AllByRecursion (IsSoundArgument names) xs → call_refusals scope f xs ≡ []
       → IsTypedStatement names loop (call_node scope place f xs)
@@ -135,8 +163,7 @@ module _ (scope : TypeScope) (names : NamesInScope) (stands : ScopeStands scope 
   call_stands loop place (callee.Null keyword) xs f h =
       let x = elaborated_call scope (callee.Null keyword) xs in any_of_typing names x.typing x.node (call_typed scope names stands (callee.Null keyword) xs f h)
   call_stands loop place (callee.Method object dot method) xs f h =
-      let x = elaborated_call scope (callee.Method object dot method) xs in
-      any_of_typing names x.typing x.node (call_typed scope names stands (callee.Method object dot method) xs f h)
+      object_call_typed loop place object method xs f (object_in_scope scope (spelled_name object)) refl h
 
   -- ---- return, output and put
 
@@ -179,9 +206,9 @@ module _ (scope : TypeScope) (names : NamesInScope) (stands : ScopeStands scope 
       let p = both_empty x.refusals (from_each (item_refusals scope) items) h in
       (any_of_typing names x.typing x.node (variable_typed scope names stands name p.0), items_typed items p.1)
   items_typed (item.Member object dot member ∷ items) h =
-      let x = elaborated_flag scope object member in
+      let x = elaborated_member scope object member in
       let p = both_empty x.refusals (from_each (item_refusals scope) items) h in
-      (any_of_typing names x.typing x.node (flag_typed scope names stands object member p.0), items_typed items p.1)
+      (any_of_typing names x.typing x.node (member_typed scope names stands object member p.0), items_typed items p.1)
 
   -- ---- tests of a `select`
 

@@ -1,5 +1,5 @@
 -- The tokens of a text stand in order, and what its source becomes is typed.
-use Rattle.std.proofs.Common.{◌≡◌, ◌<◌, ◌≤◌, ◌⊎◌, inl, inr, ◌+◌, ◌-◌, ◌^◌, ◌==◌, nat_lt, ℕ, Bool, true, false, ◌&&◌, cond, bytes_eq, List, [], ◌∷◌, ◌++◌, length, take, drop, Ok, refl, sym, ap, ◌∙◌, subst, arith}
+use Rattle.std.proofs.Common.{◌≡◌, ◌<◌, ◌≤◌, ◌⊎◌, inl, inr, ◌+◌, ◌-◌, ◌^◌, ◌==◌, nat_lt, ℕ, Bool, true, false, ◌&&◌, cond, bytes_eq, List, [], ◌∷◌, ◌++◌, length, take, drop, refl, sym, ap, ◌∙◌, subst, arith}
 use Rattle.std.specs.List.{AllByRecursion}
 use Rattle.std.specs.Str.{chars}
 use Rattle.std.proofs.Math.Nat.{min-eq_left}
@@ -11,12 +11,11 @@ use Rattle.ds2_base.specs.declared.place.Place.{Place}
 use Rattle.ds2_token.specs.declared.token.Token.{Token}
 use Rattle.ds2_token.specs.Standing.{BeginsWith, LeadsTo, without_mark}
 use Rattle.ds2_tree.specs.Lists.{Each}
-use Rattle.ds2_tree.specs.Units.{SourcePart, Proc, Run, Quit, APackage, AThread, AData, data_spelling, part_spelling, source_spelling, IsPart}
+use Rattle.ds2_tree.specs.Units.{SourcePart, part_spelling, source_spelling, IsPart}
 use Rattle.ds2_value.specs.Types.{JoinTakesBoth, TakesItself, TakesOnward}
 use Rattle.ds2_names.specs.SourceUnit.{is_earlier}
-use Rattle.ds2_elaboration.specs.Elaboration.{IsDataPart}
 use Rattle.ds2_elaboration.specs.TextPrograms.{TokensStandInOrder, EveryTextIsTyped}
-use Rattle.ds2_elaboration.specs.TypedPrograms.{StandInOrder, DataStands}
+use Rattle.ds2_elaboration.specs.TypedPrograms.{StandInOrder, StandsInSource}
 use Rattle.ds2_elaboration.proofs.FirstBytes.{chars_are_fewer, spelling_has_character}
 use Rattle.ds2_elaboration.proofs.Orders.{itself_within, behind_others, before_others, order_within}
 use Rattle.ds2_elaboration.proofs.Sources.{every_source_is_typed}
@@ -146,19 +145,13 @@ tokens_stand_in_order text tokens h (end, left, leads, gap) =
 
 -- ---- sources
 
-parts_stand : (parts : List SourcePart) → Each IsPart parts → AllByRecursion IsDataPart parts → StandInOrder (source_spelling parts) → AllByRecursion DataStands parts
-parts_stand [] g d o = tt
-parts_stand (AData u ∷ parts) g d o = (
-  record { grammar = g.0; order = order_within (before_others (source_spelling parts) (itself_within (data_spelling u))) o; no_instances = d.0 },
-  parts_stand parts g.1 d.1 (order_within (behind_others (data_spelling u) (itself_within (source_spelling parts))) o),
+parts_stand : (parts : List SourcePart) → Each IsPart parts → StandInOrder (source_spelling parts) → AllByRecursion StandsInSource parts
+parts_stand [] g o = tt
+parts_stand (part ∷ parts) g o = (
+  record { grammar = g.0; order = order_within (before_others (source_spelling parts) (itself_within (part_spelling part))) o },
+  parts_stand parts g.1 (order_within (behind_others (part_spelling part) (itself_within (source_spelling parts))) o),
 )
-parts_stand (Proc keyword ds2 end ∷ parts) g d o = (tt, parts_stand parts g.1 d.1 o.1.1.1)
-parts_stand (Run keyword end ∷ parts) g d o = (tt, parts_stand parts g.1 d.1 o.1.1)
-parts_stand (Quit keyword end ∷ parts) g d o = (tt, parts_stand parts g.1 d.1 o.1.1)
-parts_stand (APackage u ∷ parts) g d o = absurd d.0
-parts_stand (AThread u ∷ parts) g d o = absurd d.0
 
 pub every_text_is_typed : JoinTakesBoth → TakesItself → TakesOnward → EveryTextIsTyped
-every_text_is_typed join itself onward tables text parts programs schemas few stands grammar domain h =
-    every_source_is_typed join itself onward tables parts programs schemas
-    (parts_stand parts grammar domain (tokens_stand_in_order text (source_spelling parts) few stands)) h
+every_text_is_typed join itself onward tables text parts programs schemas few stands grammar h =
+    every_source_is_typed join itself onward tables parts programs schemas (parts_stand parts grammar (tokens_stand_in_order text (source_spelling parts) few stands)) h

@@ -1,4 +1,4 @@
--- The types of the variables of a program are in bounds, and its flags are those of its reading statement.
+-- The types of the variables of a unit are in bounds, and its flags are those of its reading statement.
 use Rattle.std.proofs.Common.{◌≡◌, ℕ, bytes_eq, codes, Bool, true, false, ◌||◌, List, [], ◌∷◌, map, if◌then◌else◌, Option, Some, None, refl, subst}
 use Rattle.std.proofs.lemmas.Bool.{and_parts}
 use Rattle.ds2_token.specs.declared.token.Token.{Token}
@@ -74,11 +74,19 @@ module _ (join : JoinTakesBoth) where
   joined_type_bounded (Joined ty) k = k
   joined_type_bounded Clashed k = refl
 
-  pub columns_bounded : (tables : TableColumns) → ((table : List ℕ) → is_schema (tables table) ≡ true) → (inputs : List source_input.Input) (names : List PlacedName)
-      → AreInBounds (map (λ (n : PlacedName). record { name = n.name; ty = joined_type (joined_over tables None n.name Absent inputs) }) names)
-  columns_bounded tables schemas inputs [] = tt
-  columns_bounded tables schemas inputs (n ∷ names) =
-      (joined_type_bounded (joined_over tables None n.name Absent inputs) (joined_bounded tables schemas None n.name Absent inputs tt), columns_bounded tables schemas inputs names)
+  -- what is known of a column of the thread program that is read from
+  pub stage_bounded : (columns : Columns) → types_in_bounds columns ≡ true → (declared : Option Ty) (name : List ℕ)
+      → IsBoundedTyping (with_table declared Absent (type_of_column name columns))
+  stage_bounded columns h declared name = table_bounded declared Absent (type_of_column name columns) tt (column_bounded name columns h)
+
+  pub columns_bounded : (tables : TableColumns) → ((table : List ℕ) → is_schema (tables table) ≡ true) → (before : List ℕ → ColumnTyping)
+      → ((name : List ℕ) → IsBoundedTyping (before name)) → (inputs : List source_input.Input) (names : List PlacedName)
+      → AreInBounds (map (λ (n : PlacedName). record { name = n.name; ty = joined_type (joined_over tables None n.name (before n.name) inputs) }) names)
+  columns_bounded tables schemas before f inputs [] = tt
+  columns_bounded tables schemas before f inputs (n ∷ names) = (
+    joined_type_bounded (joined_over tables None n.name (before n.name) inputs) (joined_bounded tables schemas None n.name (before n.name) inputs (f n.name)),
+    columns_bounded tables schemas before f inputs names,
+  )
 
 -- ---- flags
 
@@ -121,42 +129,42 @@ reading_found [] = refl
 reading_found (m ∷ methods) =
     reading_found_if (bytes_eq (spelled_name m.name) (codes "run")) m (reading_of_run methods) (method_named methods (codes "run")) (reading_found methods)
 
-flag_of_reading : (tables : TableColumns) (made : List MentionedTable) (reading : Option source_reading.Reading) (name : List ℕ)
-    → is_listed (names_alone (flag_names (tables_of_reading reading))) name ≡ true → is_present (inputs_of (read_statement tables made reading)) name ≡ true
-flag_of_reading tables made None name h = cc
-flag_of_reading tables made (Some (read_as.Set keyword inputs end by)) name h = flags_present tables made inputs name h
-flag_of_reading tables made (Some (read_as.SetFrom keyword from instance threads end)) name h = cc
-flag_of_reading tables made (Some (read_as.Merge keyword inputs retain end by)) name h = flags_present tables made inputs name h
+flag_of_reading : (tables : TableColumns) (made : List MentionedTable) (columns : Columns) (reading : Option source_reading.Reading) (name : List ℕ)
+    → is_listed (names_alone (flag_names (tables_of_reading reading))) name ≡ true → is_present (inputs_of (read_statement tables made columns reading)) name ≡ true
+flag_of_reading tables made columns None name h = cc
+flag_of_reading tables made columns (Some (read_as.Set keyword inputs end by)) name h = flags_present tables made inputs name h
+flag_of_reading tables made columns (Some (read_as.SetFrom keyword from instance threads end)) name h = cc
+flag_of_reading tables made columns (Some (read_as.Merge keyword inputs retain end by)) name h = flags_present tables made inputs name h
 
-by_of_reading : (tables : TableColumns) (made : List MentionedTable) (reading : Option source_reading.Reading) (name : List ℕ)
+by_of_reading : (tables : TableColumns) (made : List MentionedTable) (columns : Columns) (reading : Option source_reading.Reading) (name : List ℕ)
     → is_listed (names_alone (map (λ (b : source_by.ByVariable). placed_name b.name) (bys_of_reading reading))) name ≡ true
-    → is_by (bys_of (read_statement tables made reading)) name ≡ true
-by_of_reading tables made None name h = cc
-by_of_reading tables made (Some (read_as.Set keyword inputs end by)) name h = by_present (bys_of_reading (Some (read_as.Set keyword inputs end by))) name h
-by_of_reading tables made (Some (read_as.SetFrom keyword from instance threads end)) name h = cc
-by_of_reading tables made (Some (read_as.Merge keyword inputs retain end by)) name h = by_present by.variables name h
+    → is_by (bys_of (read_statement tables made columns reading)) name ≡ true
+by_of_reading tables made columns None name h = cc
+by_of_reading tables made columns (Some (read_as.Set keyword inputs end by)) name h = by_present (bys_of_reading (Some (read_as.Set keyword inputs end by))) name h
+by_of_reading tables made columns (Some (read_as.SetFrom keyword from instance threads end)) name h = cc
+by_of_reading tables made columns (Some (read_as.Merge keyword inputs retain end by)) name h = by_present by.variables name h
 
-flag_of_found : (tables : TableColumns) (made : List MentionedTable) (found : Option Method) (name : List ℕ)
-    → is_listed (names_alone (flag_names (tables_of_reading (reading_if_any found)))) name ≡ true → is_present (inputs_of (reading_of_method tables made found)) name ≡ true
-flag_of_found tables made None name h = cc
-flag_of_found tables made (Some m) name h = flag_of_reading tables made m.reading name h
+flag_of_found : (tables : TableColumns) (made : List MentionedTable) (columns : Columns) (found : Option Method) (name : List ℕ)
+    → is_listed (names_alone (flag_names (tables_of_reading (reading_if_any found)))) name ≡ true → is_present (inputs_of (reading_of_method tables made columns found)) name ≡ true
+flag_of_found tables made columns None name h = cc
+flag_of_found tables made columns (Some m) name h = flag_of_reading tables made columns m.reading name h
 
-by_of_found : (tables : TableColumns) (made : List MentionedTable) (found : Option Method) (name : List ℕ)
+by_of_found : (tables : TableColumns) (made : List MentionedTable) (columns : Columns) (found : Option Method) (name : List ℕ)
     → is_listed (names_alone (map (λ (b : source_by.ByVariable). placed_name b.name) (bys_of_reading (reading_if_any found)))) name ≡ true
-    → is_by (bys_of (reading_of_method tables made found)) name ≡ true
-by_of_found tables made None name h = cc
-by_of_found tables made (Some m) name h = by_of_reading tables made m.reading name h
+    → is_by (bys_of (reading_of_method tables made columns found)) name ≡ true
+by_of_found tables made columns None name h = cc
+by_of_found tables made columns (Some m) name h = by_of_reading tables made columns m.reading name h
 
-pub flag_stands : (tables : TableColumns) (made : List MentionedTable) (methods : List Method) (name : List ℕ)
+pub flag_stands : (tables : TableColumns) (made : List MentionedTable) (columns : Columns) (methods : List Method) (name : List ℕ)
     → is_listed (names_alone (flag_names (tables_of_reading (reading_of_run methods)))) name ≡ true
-    → is_present (inputs_of (reading_of_method tables made (method_named methods (codes "run")))) name ≡ true
-flag_stands tables made methods name h =
-    flag_of_found tables made (method_named methods (codes "run")) name
+    → is_present (inputs_of (reading_of_method tables made columns (method_named methods (codes "run")))) name ≡ true
+flag_stands tables made columns methods name h =
+    flag_of_found tables made columns (method_named methods (codes "run")) name
     (subst (λ r. is_listed (names_alone (flag_names (tables_of_reading r))) name ≡ true) (reading_found methods) h)
 
-pub by_stands : (tables : TableColumns) (made : List MentionedTable) (methods : List Method) (name : List ℕ)
+pub by_stands : (tables : TableColumns) (made : List MentionedTable) (columns : Columns) (methods : List Method) (name : List ℕ)
     → is_listed (names_alone (map (λ (b : source_by.ByVariable). placed_name b.name) (bys_of_reading (reading_of_run methods)))) name ≡ true
-    → is_by (bys_of (reading_of_method tables made (method_named methods (codes "run")))) name ≡ true
-by_stands tables made methods name h =
-    by_of_found tables made (method_named methods (codes "run")) name
+    → is_by (bys_of (reading_of_method tables made columns (method_named methods (codes "run")))) name ≡ true
+by_stands tables made columns methods name h =
+    by_of_found tables made columns (method_named methods (codes "run")) name
     (subst (λ r. is_listed (names_alone (map (λ (b : source_by.ByVariable). placed_name b.name) (bys_of_reading r))) name ≡ true) (reading_found methods) h)

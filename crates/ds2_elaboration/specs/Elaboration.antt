@@ -1,56 +1,35 @@
--- What becomes of the data programs of a source: typed programs in order, or the first refusal. A program's names come before its
--- types, and an earlier program before a later one. The domain is sources of data programs without instances (`IsDataSource`): of
--- packages, thread programs and programs with instances nothing is said.
-use Rattle.std.specs.Prelude.{◌≡◌, ℕ, bytes_eq, if◌then◌else◌, List, [], ◌∷◌, Option, Some, None, Result, Ok, Err}
-use Rattle.std.specs.List.{AllByRecursion}
+-- What becomes of a source: the typed programs of its data programs in order, each with the thread program that it reads from, or the
+-- first refusal. A unit's names come before its types, and an earlier unit before a later one.
+use Rattle.std.specs.Prelude.{ℕ, bytes_eq, if◌then◌else◌, List, [], ◌∷◌, ◌++◌, option_and_then, Option, Some, None, Result, Ok, Err}
 use Rattle.ds2_base.specs.declared.place.Refusal.{Refusal}
-use Rattle.ds2_tree.specs.Units.{DataProgram, SourcePart, Proc, Run, Quit, APackage, AThread, AData}
+use Rattle.ds2_tree.specs.Units.{SourcePart, APackage, AThread, AData}
 use Rattle.ds2_value.specs.Row.{Columns}
 use Rattle.ds2_meaning.specs.declared.globals.OutputTable as typed_output
 use Rattle.ds2_meaning.specs.declared.refusals.ScopeKind.{ScopeKind}
 use Rattle.ds2_meaning.specs.declared.refusals.TypeKind.{TypeKind}
 use Rattle.ds2_meaning.specs.ProgramMeaning.{output_columns}
-use Rattle.ds2_meaning.specs.ProgramTree.{UnitTree}
-use Rattle.ds2_names.specs.SourceLimits.{BeforeUnit, before_all, behind_part, scope_refusal}
-use Rattle.ds2_names.specs.SourceUnit.{TableColumns, unit_of_data, source_instances}
-use Rattle.ds2_elaboration.specs.ProgramTypes.{type_refusal, typed_program}
+use Rattle.ds2_meaning.specs.ProgramTree.{UnitTree, ProgramTree, reader_of}
+use Rattle.ds2_names.specs.SourceLimits.{before_all, behind_part, scope_refusal, unit_of_part}
+use Rattle.ds2_names.specs.SourceUnit.{TableColumns, UnitSource, unit_of_data, unit_of_package, unit_of_thread, spelled_name}
+use Rattle.ds2_elaboration.specs.ProgramTypes.{type_refusal, typed_program, typed_package}
+use Rattle.ds2_elaboration.specs.UnitsBefore.{PackageTypes, UnitsBefore}
 
--- ---- the domain
+-- ---- one unit
 
--- a data program declares no instance of a package or of a thread program, no hash object and no iterator
-abbrev pub DeclaresNoInstance : DataProgram → Type 0
-DeclaresNoInstance u = source_instances u.globals ≡ []
-
--- a part of a source is a data program without instances, or stands for nothing
-abbrev pub IsDataPart : SourcePart → Type 0
-IsDataPart (Proc keyword ds2 end) = Unit {0}
-IsDataPart (Run keyword end) = Unit {0}
-IsDataPart (Quit keyword end) = Unit {0}
-IsDataPart (APackage u) = ⊥
-IsDataPart (AThread u) = ⊥
-IsDataPart (AData u) = DeclaresNoInstance u
-
--- a source of data programs without instances
-abbrev pub IsDataSource : List SourcePart → Type 0
-IsDataSource parts = AllByRecursion IsDataPart parts
-
--- ---- one program
-
--- why a program is refused: its names or its types
+-- why a unit is refused: its names or its types
 pub data ProgramRefusal : Type 0 where
   OfNames : Refusal ScopeKind → ProgramRefusal
   OfTypes : Refusal TypeKind → ProgramRefusal
 
--- a program that is refused for its names, for its types where its names are sound, or that becomes a typed program
-abbrev pub names_before_types : Option (Refusal ScopeKind) → Option (Refusal TypeKind) → UnitTree → Result UnitTree ProgramRefusal
-names_before_types (Some refusal) types p = Err (OfNames refusal)
-names_before_types None (Some refusal) p = Err (OfTypes refusal)
-names_before_types None None p = Ok p
+-- a unit is refused for its names, and for its types where its names are sound
+abbrev pub names_before_types : Option (Refusal ScopeKind) → Option (Refusal TypeKind) → Option ProgramRefusal
+names_before_types (Some refusal) types = Some (OfNames refusal)
+names_before_types None (Some refusal) = Some (OfTypes refusal)
+names_before_types None None = None
 
--- what becomes of a program behind other units
-abbrev pub elaborated_program : TableColumns → BeforeUnit → DataProgram → Result UnitTree ProgramRefusal
-elaborated_program tables before u =
-    names_before_types (scope_refusal tables before (unit_of_data u)) (type_refusal tables u) (typed_program tables before.made u)
+-- the refusal of a unit behind others, where it is refused
+abbrev pub unit_refusal : TableColumns → UnitsBefore → UnitSource → Option ProgramRefusal
+unit_refusal tables before u = names_before_types (scope_refusal tables before.names u) (type_refusal tables before u)
 
 -- ---- a source
 
@@ -63,24 +42,65 @@ made_columns (o ∷ outputs) name others = if bytes_eq o.name name then output_c
 abbrev pub tables_behind : TableColumns → UnitTree → TableColumns
 tables_behind tables p = λ name. made_columns p.outputs name (tables name)
 
--- a typed program before further ones
-abbrev pub before_others : UnitTree → Result (List UnitTree) ProgramRefusal → Result (List UnitTree) ProgramRefusal
-before_others p (Ok programs) = Ok (p ∷ programs)
-before_others p (Err refusal) = Err refusal
+-- what the tables are behind a part of a source: a data program makes some
+abbrev pub tables_behind_part : TableColumns → UnitsBefore → SourcePart → TableColumns
+tables_behind_part tables before (AData u) = tables_behind tables (reader_of (typed_program tables before (unit_of_data u)))
+tables_behind_part tables before _ = tables
 
--- a program that is refused ends a source
-abbrev pub and_then_others : Result UnitTree ProgramRefusal → (UnitTree → Result (List UnitTree) ProgramRefusal) → Result (List UnitTree) ProgramRefusal
-and_then_others (Ok p) others = before_others p (others p)
-and_then_others (Err refusal) others = Err refusal
+-- the package that a part of a source is
+abbrev pub package_in : TableColumns → UnitsBefore → SourcePart → List PackageTypes
+package_in tables before (APackage u) = typed_package tables before (unit_of_package u) (spelled_name u.name) ∷ []
+package_in tables before _ = []
 
--- what becomes of the data programs of these parts behind others, each over the tables of the store and those that earlier programs
--- make; packages and thread programs, which no source of the domain has, are passed by
-abbrev pub elaborated_parts : TableColumns → BeforeUnit → List SourcePart → Result (List UnitTree) ProgramRefusal
+-- the thread program that a part of a source is
+abbrev pub threads_in : TableColumns → UnitsBefore → SourcePart → List ProgramTree
+threads_in tables before (AThread u) = typed_program tables before (unit_of_thread u) ∷ []
+threads_in tables before _ = []
+
+-- the data program that a part of a source is
+abbrev pub program_in : TableColumns → UnitsBefore → SourcePart → List ProgramTree
+program_in tables before (AData u) = typed_program tables before (unit_of_data u) ∷ []
+program_in tables before _ = []
+
+-- before the first unit of a source
+abbrev pub before_source : List SourcePart → UnitsBefore
+before_source parts = record { names = before_all parts; packages = []; threads = [] }
+
+-- what stands before the unit that follows a part of a source
+abbrev pub units_behind : TableColumns → SourcePart → UnitsBefore → UnitsBefore
+units_behind tables part before = record {
+  names = behind_part tables part before.names;
+  packages = package_in tables before part ++ before.packages;
+  threads = threads_in tables before part ++ before.threads;
+}
+
+-- the refusal of a part of a source, where it is refused
+abbrev pub part_refusal : TableColumns → UnitsBefore → SourcePart → Option ProgramRefusal
+part_refusal tables before part = option_and_then (unit_refusal tables before) (unit_of_part part)
+
+-- a unit that is refused ends a source; else its typed programs stand before those of the rest
+abbrev pub with_programs : Option ProgramRefusal → List ProgramTree → Result (List ProgramTree) ProgramRefusal → Result (List ProgramTree) ProgramRefusal
+with_programs (Some refusal) own others = Err refusal
+with_programs None own (Ok programs) = Ok (own ++ programs)
+with_programs None own (Err refusal) = Err refusal
+
+-- what becomes of these parts behind others, each over the tables of the store and those that earlier programs make
+abbrev pub elaborated_parts : TableColumns → UnitsBefore → List SourcePart → Result (List ProgramTree) ProgramRefusal
 elaborated_parts tables before [] = Ok []
-elaborated_parts tables before (AData u ∷ parts) =
-    and_then_others (elaborated_program tables before u) (λ p. elaborated_parts (tables_behind tables p) (behind_part tables (AData u) before) parts)
-elaborated_parts tables before (part ∷ parts) = elaborated_parts tables (behind_part tables part before) parts
+elaborated_parts tables before (part ∷ parts) =
+    with_programs (part_refusal tables before part) (program_in tables before part)
+    (elaborated_parts (tables_behind_part tables before part) (units_behind tables part before) parts)
 
--- what becomes of a source of data programs, over the tables of the store
-abbrev pub elaborated_source : TableColumns → List SourcePart → Result (List UnitTree) ProgramRefusal
-elaborated_source tables parts = elaborated_parts tables (before_all parts) parts
+-- what becomes of a source, over the tables of the store
+abbrev pub elaborated_source : TableColumns → List SourcePart → Result (List ProgramTree) ProgramRefusal
+elaborated_source tables parts = elaborated_parts tables (before_source parts) parts
+
+-- what becomes of the thread programs among these parts behind others
+abbrev pub threads_of_parts : TableColumns → UnitsBefore → List SourcePart → List ProgramTree
+threads_of_parts tables before [] = []
+threads_of_parts tables before (part ∷ parts) =
+    threads_in tables before part ++ threads_of_parts (tables_behind_part tables before part) (units_behind tables part before) parts
+
+-- what becomes of the thread programs of a source that is not refused, in order, whether a program reads from them or not
+abbrev pub elaborated_threads : TableColumns → List SourcePart → List ProgramTree
+elaborated_threads tables parts = threads_of_parts tables (before_source parts) parts

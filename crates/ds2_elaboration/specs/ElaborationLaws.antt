@@ -1,21 +1,21 @@
--- What is given of the rules that a program breaks, and when it becomes a typed program.
-use Rattle.std.specs.Prelude.{◌≡◌, ◌⊎◌, ℕ, true, List, [], ◌∷◌, Some, None, Ok, Err}
+-- What is given of the rules that a unit breaks, and when it becomes a typed program or package.
+use Rattle.std.specs.Prelude.{◌≡◌, ◌⊎◌, ℕ, true, List, [], ◌∷◌, Some, None}
 use Rattle.std.specs.List.{AllByRecursion}
 use Rattle.ds2_base.specs.declared.place.Refusal.{Refusal}
 use Rattle.ds2_tree.specs.Statements as s
-use Rattle.ds2_tree.specs.Units.{DataProgram}
 use Rattle.ds2_meaning.specs.IsTyped.{ListSurelyReturns}
-use Rattle.ds2_meaning.specs.ProgramTree.{UnitTree}
 use Rattle.ds2_names.specs.Refusals.{scope_rank, type_rank, comes_before, least_refusal}
-use Rattle.ds2_names.specs.SourceLimits.{BeforeUnit, beyond_source_limits, scope_refusal}
-use Rattle.ds2_names.specs.SourceUnit.{TableColumns, unit_of_data, names_of_unit}
+use Rattle.ds2_names.specs.SourceLimits.{beyond_source_limits, scope_refusal}
+use Rattle.ds2_names.specs.SourceUnit.{TableColumns, UnitSource}
 use Rattle.ds2_names.specs.UnitRules.{broken_name_rules}
 use Rattle.ds2_meaning.specs.declared.refusals.ScopeKind.{ScopeKind}
 use Rattle.ds2_meaning.specs.declared.refusals.TypeKind.{TypeKind}
-use Rattle.ds2_elaboration.specs.Elaboration.{DeclaresNoInstance, OfNames, OfTypes, elaborated_program}
+use Rattle.ds2_elaboration.specs.Elaboration.{OfNames, OfTypes, unit_refusal}
 use Rattle.ds2_elaboration.specs.ExpressionTypes.{TypeScope}
-use Rattle.ds2_elaboration.specs.ProgramTypes.{broken_type_rules, type_refusal, typed_program}
+use Rattle.ds2_elaboration.specs.ProgramTypes.{broken_type_rules, type_refusal}
+use Rattle.ds2_elaboration.specs.SourceTypes.{unit_names}
 use Rattle.ds2_elaboration.specs.StatementTypes.{list_surely_returns, statements_node}
+use Rattle.ds2_elaboration.specs.UnitsBefore.{UnitsBefore}
 
 -- ---- the first refusal
 
@@ -36,24 +36,21 @@ pub record FirstRefusals : Type 0 where
 
 -- ---- one outcome
 
--- a program behind other units breaks no rule
-pub record BreaksNoRule (tables : TableColumns) (before : BeforeUnit) (u : DataProgram) : Type 0 where
-  pub names : broken_name_rules tables (names_of_unit tables before.known (unit_of_data u)) ≡ []
-  pub limits : beyond_source_limits before (unit_of_data u) ≡ []
-  pub types : broken_type_rules tables u ≡ []
+-- a unit behind others breaks no rule
+pub record BreaksNoRule (tables : TableColumns) (before : UnitsBefore) (u : UnitSource) : Type 0 where
+  pub names : broken_name_rules tables (unit_names tables before u) ≡ []
+  pub limits : beyond_source_limits before.names u ≡ []
+  pub types : broken_type_rules tables before u ≡ []
 
--- a program has one outcome. One without instances becomes its typed program exactly where it breaks no rule, and is refused for its
--- types exactly where its names are sound and one of their rules is broken; any program is refused for its names exactly where one of
--- their rules is broken
+-- a unit is not refused exactly where it breaks no rule; it is refused for its names exactly where one of their rules is broken, and for
+-- its types exactly where its names are sound and one of theirs is broken
 pub record OneOutcome : Type 0 where
-  pub becomes_typed : (tables : TableColumns) (before : BeforeUnit) (u : DataProgram) → DeclaresNoInstance u → BreaksNoRule tables before u
-      → elaborated_program tables before u ≡ Ok (typed_program tables before.made u)
-  pub breaks_no_rule : (tables : TableColumns) (before : BeforeUnit) (u : DataProgram) (p : UnitTree) → DeclaresNoInstance u → elaborated_program tables before u ≡ Ok p
-      → BreaksNoRule tables before u × (p ≡ typed_program tables before.made u)
-  pub refused_for_names : (tables : TableColumns) (before : BeforeUnit) (u : DataProgram) (r : Refusal ScopeKind)
-      → elaborated_program tables before u ≡ Err (OfNames r) → scope_refusal tables before (unit_of_data u) ≡ Some r
-  pub refused_for_types : (tables : TableColumns) (before : BeforeUnit) (u : DataProgram) (r : Refusal TypeKind) → DeclaresNoInstance u
-      → elaborated_program tables before u ≡ Err (OfTypes r) → (scope_refusal tables before (unit_of_data u) ≡ None) × (type_refusal tables u ≡ Some r)
+  pub not_refused : (tables : TableColumns) (before : UnitsBefore) (u : UnitSource) → BreaksNoRule tables before u → unit_refusal tables before u ≡ None
+  pub breaks_no_rule : (tables : TableColumns) (before : UnitsBefore) (u : UnitSource) → unit_refusal tables before u ≡ None → BreaksNoRule tables before u
+  pub refused_for_names : (tables : TableColumns) (before : UnitsBefore) (u : UnitSource) (r : Refusal ScopeKind)
+      → unit_refusal tables before u ≡ Some (OfNames r) → scope_refusal tables before.names u ≡ Some r
+  pub refused_for_types : (tables : TableColumns) (before : UnitsBefore) (u : UnitSource) (r : Refusal TypeKind)
+      → unit_refusal tables before u ≡ Some (OfTypes r) → (scope_refusal tables before.names u ≡ None) × (type_refusal tables before u ≡ Some r)
 
 -- ---- surely returning
 

@@ -1,4 +1,6 @@
 -- What becomes of the expressions of a method.
+use Rattle.std.specs.List.{find}
+use Rattle.std.specs.Option.{option_map}
 use Rattle.std.specs.Prelude.{ℕ, ℤ, max, nat_le, ◌++◌, Bool, true, false, not, bytes_eq, codes, if◌then◌else◌, List, [], ◌∷◌, filter, position, unwrap_or, is_some, option_and_then, Option, Some, None}
 use Rattle.ds2_value.specs.Types.{same_ty}
 use Rattle.ds2_base.specs.Characters.{char_count}
@@ -16,6 +18,10 @@ use Rattle.ds2_tree.specs.declared.expressions.ChainKind.TheVariants as chain
 use Rattle.ds2_value.specs.declared.ty.TheConstants.{TEXT_CHARACTERS}
 use Rattle.ds2_value.specs.declared.ty.Ty.{Ty}
 use Rattle.ds2_value.specs.declared.ty.Ty.TheVariants.{BigInt, Decimal as DecimalOf, Varchar}
+use Rattle.ds2_value.specs.declared.hash_function.HashFunction.{HashFunction}
+use Rattle.ds2_value.specs.declared.hash_function.HashFunction.TheVariants.{Find, Check, Add, Replace, Remove, Clear, NumItems}
+use Rattle.ds2_value.specs.declared.hash_function.IteratorFunction.{IteratorFunction}
+use Rattle.ds2_value.specs.declared.hash_function.IteratorFunction.TheVariants as iterator
 use Rattle.ds2_value.specs.declared.value.Value.TheVariants.{Null as NullValue, Int, Dec, Txt}
 use Rattle.ds2_meaning.specs.declared.globals.Variable as typed
 use Rattle.ds2_meaning.specs.declared.location.Global.{Global}
@@ -26,9 +32,10 @@ use Rattle.ds2_meaning.specs.declared.methods.Parameter.{Parameter}
 use Rattle.ds2_meaning.specs.IsTyped.{expression_type, type_in}
 use Rattle.ds2_meaning.specs.ProgramTree.{is_listed}
 use Rattle.ds2_meaning.specs.declared.refusals.TypeKind.TheVariants.{TypeClash}
-use Rattle.ds2_names.specs.NameRules.{from_each}
+use Rattle.ds2_names.specs.NameRules.{from_each, is_flag_word}
 use Rattle.ds2_names.specs.SourceUnit.{PlacedName, spelled_name, is_system_name}
 use Rattle.ds2_meaning.specs.TypedExpression as tree
+use Rattle.ds2_meaning.specs.TypedStatement.{ParameterValue}
 use Rattle.ds2_names.specs.Uses.{first_place, method_named}
 use Rattle.ds2_elaboration.specs.FunctionTypes.{ElaboratedArgument, elaborated_null_test, elaborated_function}
 use Rattle.ds2_elaboration.specs.OperatorTypes.{is_operand_type, pair_refusals, ElaboratedLink, elaborated_link, elaborated_comparison, elaborated_sign, elaborated_not}
@@ -79,11 +86,26 @@ constant_node t = if is_integer t then integer_constant t else if is_decimal t t
 
 -- ---- names
 
+-- what can be called on an object: the methods of the package that an instance is one of, the calls of hash objects and of
+-- iterators, and `setparms` of an instance of a thread program with these parameters
+pub data ObjectCalls : Type 0 where
+  InstanceCalls : (methods : List Method) → ObjectCalls
+  HashCalls : ObjectCalls
+  IteratorCalls : ObjectCalls
+  ParameterCalls : (parameters : List typed.Variable) → ObjectCalls
+
+-- an object that a unit declares: an instance of a package or of a thread program, a hash object, or an iterator
+pub record ObjectInScope : Type 0 where
+  pub name : List ℕ
+  pub calls : ObjectCalls
+
 -- what the statements of a method see: the variables of the vector, those columns among them whose tables do not join, each at the
--- table at which they do not, the `in=` flags and BY variables, the parameters and locals that hide them, the methods of the unit
--- that can be called, the names of its outputs, and the type that the method returns
+-- table at which they do not, the parameters of a thread program, the `in=` flags and BY variables, the objects, the parameters and
+-- locals that hide them, the methods of the unit that can be called, the names of its outputs, and the type that the method returns
 pub record TypeScope : Type 0 where
   pub variables : List typed.Variable
+  pub parameters : List typed.Variable
+  pub objects : List ObjectInScope
   pub unjoined : List PlacedName
   pub flags : List (List ℕ)
   pub bys : List (List ℕ)
@@ -106,18 +128,49 @@ variable_typing v = typing_behind v.refusals v.ty
 abbrev pub unjoined_refusals : TypeScope → List ℕ → TypeRefusals
 unjoined_refusals scope name = from_each (λ (c : PlacedName). if bytes_eq c.name name then type_refusal_at TypeClash c.place else []) scope.unjoined
 
--- what a name stands for that is no parameter or local: a variable of the vector, where there is one of it with a type, else an `in=`
--- flag
+-- the call of a hash object of this name
+abbrev pub hash_function_named : List ℕ → Option HashFunction
+hash_function_named name =
+    if bytes_eq name (codes "find") then Some Find
+    else if bytes_eq name (codes "check") then Some Check
+    else if bytes_eq name (codes "add") then Some Add
+    else if bytes_eq name (codes "replace") then Some Replace
+    else if bytes_eq name (codes "remove") then Some Remove
+    else if bytes_eq name (codes "clear") then Some Clear
+    else if bytes_eq name (codes "num_items") then Some NumItems
+    else None
+
+-- the call of an iterator of this name
+abbrev pub iterator_function_named : List ℕ → Option IteratorFunction
+iterator_function_named name =
+    if bytes_eq name (codes "first") then Some iterator.First
+    else if bytes_eq name (codes "next") then Some iterator.Next
+    else if bytes_eq name (codes "prev") then Some iterator.Prev
+    else if bytes_eq name (codes "last") then Some iterator.Last
+    else None
+
+-- what a name stands for that is no parameter or local and no variable of the vector: a parameter of a thread program, where there is
+-- one of it with a type, else an `in=` flag
+abbrev pub known_parameter : TypeScope → List ℕ → Option Ty → Option KnownVariable
+known_parameter scope name (Some ty) = Some (record { reference = At (ThreadParameter name); ty = ty; refusals = [] })
+known_parameter scope name None = if is_listed scope.flags name then Some (record { reference = At (Present name); ty = BigInt; refusals = [] }) else None
+
+-- what a name stands for that is no parameter or local: a variable of the vector, where there is one of it with a type, else another
+-- global
 abbrev pub known_global : TypeScope → List ℕ → Option Ty → Option KnownVariable
 known_global scope name (Some ty) = Some (record { reference = At (Named name); ty = ty; refusals = unjoined_refusals scope name })
-known_global scope name None = if is_listed scope.flags name then Some (record { reference = At (Present name); ty = BigInt; refusals = [] }) else None
+known_global scope name None = known_parameter scope name (type_in scope.parameters name)
+
+-- the global that a name stands for
+abbrev pub global_variable : TypeScope → List ℕ → Option KnownVariable
+global_variable scope name = known_global scope name (type_in scope.variables name)
 
 -- what a name stands for: a parameter or local, where there is one of it with a type, else a global
 abbrev pub known_before_globals : TypeScope → List ℕ → Option Ty → Option KnownVariable
 known_before_globals scope name (Some ty) = Some (record { reference = Local name; ty = ty; refusals = [] })
-known_before_globals scope name None = known_global scope name (type_in scope.variables name)
+known_before_globals scope name None = global_variable scope name
 
--- what a name stands for: a parameter or local, else a variable of the vector, else an `in=` flag
+-- what a name stands for: a parameter or local, else a variable of the vector, a parameter of a thread program, or an `in=` flag
 abbrev pub known_variable : TypeScope → List ℕ → Option KnownVariable
 known_variable scope name = known_before_globals scope name (type_in scope.locals name)
 
@@ -147,9 +200,28 @@ elaborated_flag scope object member =
     else if is_word (codes "last") object then form_of_operands [] (flag_node (Last (spelled_name member)))
     else elaborated_nameless object.place
 
+-- the object that a name stands for; a parameter or local hides it
+abbrev pub object_in_scope : TypeScope → List ℕ → Option ObjectCalls
+object_in_scope scope name =
+    if is_some (type_in scope.locals name) then None
+    else option_map (λ (o : ObjectInScope). o.calls) (find (λ (o : ObjectInScope). bytes_eq o.name name) scope.objects)
+
+-- the number of items of a hash object, without an argument list; other words behind an object's point are refused by the rules of names
+abbrev pub member_of_object : Token → Token → Option ObjectCalls → ElaboratedExpression
+member_of_object object member (Some HashCalls) =
+    if bytes_eq (spelled_name member) (codes "num_items") then form_of_type BigInt [] (tree.HashCalled (spelled_name object) NumItems)
+    else elaborated_nameless object.place
+member_of_object object member _ = elaborated_nameless object.place
+
+-- `x.y` without an argument list: a flag of a BY variable, or the number of items of a hash object
+abbrev pub elaborated_member : TypeScope → Token → Token → ElaboratedExpression
+elaborated_member scope object member =
+    if is_flag_word object then elaborated_flag scope object member
+    else member_of_object object member (object_in_scope scope (spelled_name object))
+
 -- ---- calls of methods
 
--- the methods of a unit that can be called: all but `init`, `run` and `term`
+-- the methods of a program that can be called: all but `init`, `run` and `term`
 abbrev pub callable_methods : List Method → List Method
 callable_methods methods = filter (λ (m : Method). not (is_system_name (spelled_name m.name))) methods
 
@@ -210,32 +282,79 @@ arguments_for name (p ∷ ps) [] = no_arguments (type_refusal_at TypeClash name)
 arguments_for name (p ∷ ps) (x ∷ xs) =
     if p.is_in_out then in_out_argument p.ty x (arguments_for name ps xs) else value_argument p.ty x (arguments_for name ps xs)
 
--- the result of the method of this number, whose name stands at this place; one that returns nothing is TypeClash at its name
-abbrev pub result_of_method : Place → ℕ → ElaboratedArguments → Option Ty → ElaboratedExpression
-result_of_method place number arguments (Some ty) = form_of_type ty arguments.refusals (tree.Called None number arguments.arguments ty)
-result_of_method place number arguments None =
-    form_of_operands (arguments.refusals ++ clash_unless false place) (tree.Called None number arguments.arguments BigInt)
+-- the result of the method of this number, of an instance or of the unit itself, whose name stands at this place; one that returns
+-- nothing is TypeClash at its name
+abbrev pub result_of_method : Place → Option (List ℕ) → ℕ → ElaboratedArguments → Option Ty → ElaboratedExpression
+result_of_method place instance number arguments (Some ty) = form_of_type ty arguments.refusals (tree.Called instance number arguments.arguments ty)
+result_of_method place instance number arguments None =
+    form_of_operands (arguments.refusals ++ clash_unless false place) (tree.Called instance number arguments.arguments BigInt)
 
--- a call of a method as an expression
-abbrev pub elaborated_method_call : TypeScope → Token → Method → List ElaboratedArgument → ElaboratedExpression
-elaborated_method_call scope name method xs =
-    result_of_method name.place (number_of_method scope.methods (spelled_name name)) (arguments_for name.place (elaborated_parameters method) xs)
+-- a call of one of these methods, of an instance or of the unit itself, as an expression
+abbrev pub elaborated_method_call : Option (List ℕ) → List Method → Token → Method → List ElaboratedArgument → ElaboratedExpression
+elaborated_method_call instance methods name method xs =
+    result_of_method name.place instance (number_of_method methods (spelled_name name)) (arguments_for name.place (elaborated_parameters method) xs)
     (returned_type method.returns)
 
 -- a call of a name: of this method, where there is one, else of a function
 abbrev pub method_or_function_call : TypeScope → Token → List ElaboratedArgument → Option Method → ElaboratedExpression
-method_or_function_call scope name xs (Some method) = elaborated_method_call scope name method xs
+method_or_function_call scope name xs (Some method) = elaborated_method_call None scope.methods name method xs
 method_or_function_call scope name xs None = elaborated_function name xs
 
 -- a call of a name: of the unit's method, else of a function
 abbrev pub elaborated_named_call : TypeScope → Token → List ElaboratedArgument → ElaboratedExpression
 elaborated_named_call scope name xs = method_or_function_call scope name xs (method_named scope.methods (spelled_name name))
 
+-- ---- calls on objects
+
+-- values for the parameters of a thread program: the rules that are broken in them, and what they become
+pub record ElaboratedParameterValues : Type 0 where
+  pub refusals : TypeRefusals
+  pub values : List ParameterValue
+
+-- a value for a parameter, before the others: it is assigned to the parameter's type
+abbrev pub with_parameter_value : typed.Variable → ElaboratedArgument → ElaboratedParameterValues → ElaboratedParameterValues
+with_parameter_value p x rest = record {
+  refusals = assigned_refusals p.ty x.place x.value ++ rest.refusals;
+  values = record { parameter = p.name; value = assigned_node p.ty x.value } ∷ rest.values;
+}
+
+-- values for the parameters of a thread program, in order, behind the word `setparms` at this place; another number of them is refused
+-- by the rules of names
+abbrev pub values_for : Place → List typed.Variable → List ElaboratedArgument → ElaboratedParameterValues
+values_for place [] [] = record { refusals = []; values = [] }
+values_for place (p ∷ ps) (x ∷ xs) = with_parameter_value p x (values_for place ps xs)
+values_for place _ _ = record { refusals = type_refusal_at TypeClash place; values = [] }
+
+-- a call of a hash object, whose code is a BIGINT; another name is refused by the rules of names
+abbrev pub elaborated_hash_call : Token → Token → Option HashFunction → ElaboratedExpression
+elaborated_hash_call object method None = elaborated_nameless object.place
+elaborated_hash_call object method (Some f) = form_of_type BigInt [] (tree.HashCalled (spelled_name object) f)
+
+-- a call of an iterator, whose code is a BIGINT; another name is refused by the rules of names
+abbrev pub elaborated_iterator_call : Token → Token → Option IteratorFunction → ElaboratedExpression
+elaborated_iterator_call object method None = elaborated_nameless object.place
+elaborated_iterator_call object method (Some f) = form_of_type BigInt [] (tree.IteratorCalled (spelled_name object) f)
+
+-- a call of this method of an instance's package, or of none
+abbrev pub elaborated_instance_call : Token → Token → List Method → List ElaboratedArgument → Option Method → ElaboratedExpression
+elaborated_instance_call object name methods xs None = elaborated_nameless object.place
+elaborated_instance_call object name methods xs (Some method) = elaborated_method_call (Some (spelled_name object)) methods name method xs
+
+-- a call on an object as an expression; `setparms` returns nothing, so it is TypeClash at its name
+abbrev pub elaborated_object_call : Token → Token → List ElaboratedArgument → Option ObjectCalls → ElaboratedExpression
+elaborated_object_call object method xs None = elaborated_nameless object.place
+elaborated_object_call object method xs (Some (InstanceCalls methods)) =
+    elaborated_instance_call object method methods xs (method_named methods (spelled_name method))
+elaborated_object_call object method xs (Some HashCalls) = elaborated_hash_call object method (hash_function_named (spelled_name method))
+elaborated_object_call object method xs (Some IteratorCalls) = elaborated_iterator_call object method (iterator_function_named (spelled_name method))
+elaborated_object_call object method xs (Some (ParameterCalls parameters)) =
+    form_of_operands ((values_for method.place parameters xs).refusals ++ clash_unless false method.place) (tree.Constant NullValue BigInt)
+
 -- a call
 abbrev pub elaborated_call : TypeScope → Callee → List ElaboratedArgument → ElaboratedExpression
 elaborated_call scope (callee.Function name) xs = elaborated_named_call scope name xs
 elaborated_call scope (callee.Null keyword) xs = elaborated_null_test keyword.place xs
-elaborated_call scope (callee.Method object dot method) xs = elaborated_nameless object.place
+elaborated_call scope (callee.Method object dot method) xs = elaborated_object_call object method xs (object_in_scope scope (spelled_name object))
 
 -- ---- expressions
 
@@ -276,7 +395,7 @@ module _ (scope : TypeScope) where
     elaborated (Constant t) = form_of_operands [] (constant_node t)
     elaborated (Null keyword) = elaborated_null keyword.place
     elaborated (Variable name) = elaborated_variable scope name
-    elaborated (Member object dot member) = elaborated_flag scope object member
+    elaborated (Member object dot member) = elaborated_member scope object member
     elaborated (Call f opening arguments closing) = elaborated_call scope f (elaborated_arguments arguments)
     elaborated (Parenthesis opening inner closing) = elaborated inner
     elaborated (Sign operator operand) = elaborated_sign operator (elaborated operand)

@@ -1,3 +1,4 @@
+pub mod UnitsBefore
 pub mod SourceTypes
 pub mod Typings
 pub mod OperatorTypes
@@ -12,6 +13,7 @@ pub mod CallExamples
 pub mod SourceExamples
 pub mod VariableExamples
 pub mod ListingExamples
+pub mod PackageExamples
 pub mod ElaborationLaws
 pub mod TypedForms
 pub mod TypedScopes

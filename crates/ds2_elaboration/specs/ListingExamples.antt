@@ -5,7 +5,7 @@ use Rattle.ds2_tree.specs.Expressions.{Expression}
 use Rattle.ds2_tree.specs.Globals.{Listed}
 use Rattle.ds2_tree.specs.Statements.{Assignment}
 use Rattle.ds2_tree.specs.declared.expressions.ChainKind.TheVariants.{Sum}
-use Rattle.ds2_tree.specs.Units.{Package, DataProgram, Run, APackage, AThread, AData}
+use Rattle.ds2_tree.specs.Units.{DataProgram}
 use Rattle.ds2_value.specs.declared.ty.Ty.TheVariants.{BigInt, Decimal as DecimalOf, Varchar}
 use Rattle.ds2_meaning.specs.ExampleWords.{col, variable_of, plus, assign_at, bigint, output_column, program_with}
 use Rattle.ds2_meaning.specs.FurtherExamples.{naming}
@@ -21,15 +21,13 @@ use Rattle.ds2_meaning.specs.declared.location.Reference.TheVariants.{At}
 use Rattle.ds2_meaning.specs.declared.readings.Reading.TheVariants.{Set}
 use Rattle.ds2_layout.specs.Layout.{slot_for, layout_of}
 use Rattle.ds2_layout.specs.declared.slot.SlotRole.TheVariants.{Cleared, Kept, Column, Flag}
-use Rattle.ds2_names.specs.InstanceExamples.{bigints_at, hash_at}
+use Rattle.ds2_names.specs.InstanceExamples.{bigints_at}
 use Rattle.ds2_names.specs.NameExamples.{word_in, program_of_statement, two_columns}
 use Rattle.ds2_names.specs.RuleExamples.{listing_at}
-use Rattle.ds2_names.specs.SourceLimits.{before_all}
-use Rattle.ds2_elaboration.specs.Elaboration.{IsDataSource, ProgramRefusal, OfNames, OfTypes, elaborated_program}
+use Rattle.ds2_elaboration.specs.Elaboration.{ProgramRefusal, OfNames, OfTypes}
 use Rattle.ds2_elaboration.specs.ExpressionTypes.{is_settable_reference}
-use Rattle.ds2_elaboration.specs.OperatorExamples.{no_columns_at_all, program_around, statements_of_run}
-use Rattle.ds2_elaboration.specs.ProgramTypes.{typed_program}
-use Rattle.ds2_elaboration.specs.SourceWords.{name_at, text_at, chained, program_from}
+use Rattle.ds2_elaboration.specs.OperatorExamples.{no_columns_at_all, statements_of_run}
+use Rattle.ds2_elaboration.specs.SourceWords.{becomes_alone, typed_alone, name_at, text_at, chained}
 
 -- ---- keep and drop
 
@@ -58,14 +56,14 @@ made_of name columns = record { name = name; overwrites = false; columns = map (
 -- the columns that each output has
 pub record ListedColumnExamples : Type 0 where
   -- k is dropped although `out` keeps it, m is not kept, and `rest` drops j
-  pub columns_left_of_each : (typed_program no_columns_at_all [] program_with_lists).outputs
+  pub columns_left_of_each : (typed_alone no_columns_at_all program_with_lists).outputs
       ≡ made_of (codes "out") (codes "i" ∷ []) ∷ made_of (codes "rest") (codes "i" ∷ []) ∷ made_of (codes "all") (codes "i" ∷ codes "j" ∷ []) ∷ []
 
 -- ---- one program from its names to its tree
 
 -- what data out; dcl bigint x; method run(); set t; x = this; end; enddata; becomes, where t has the columns a and b
 abbrev pub one_assignment : Expression → Result TypedStatements ProgramRefusal
-one_assignment value = statements_of_run (elaborated_program two_columns (before_all []) (program_of_statement (Assignment (word_in 46 (codes "x")) (col 48) value (col 60))))
+one_assignment value = statements_of_run (becomes_alone two_columns (program_of_statement (Assignment (word_in 46 (codes "x")) (col 48) value (col 60))))
 
 -- a source that is taken, one that is refused for its names, and one for its types
 pub record AssignedSourceExamples : Type 0 where
@@ -76,22 +74,10 @@ pub record AssignedSourceExamples : Type 0 where
   -- x = 'a';
   pub text_for_integer : one_assignment (text_at 50 (codes "'a'")) ≡ Err (OfTypes (record { kind = TypeClash; place = col 46 }))
 
--- ---- the domain
+-- ---- what may be set
 
--- package p; endpackage;
-abbrev pub empty_package : Package
-empty_package = record { keyword = word_in 1 (codes "package"); name = word_in 9 (codes "p"); semicolon = col 10; globals = []; end_keyword = word_in 12 (codes "endpackage"); end = col 22 }
-
--- which sources are sources of data programs without instances, and what may be set
-pub record DomainExamples : Type 0 where
-  -- a data program with variables and methods, and `run;`
-  pub data_alone : IsDataSource (AData (program_around []) ∷ Run (word_in 500 (codes "run")) (col 503) ∷ [])
-  -- package p; endpackage; before it
-  pub with_a_package : IsDataSource (APackage empty_package ∷ AData (program_around []) ∷ []) → ⊥
-  -- thread t; endthread; before it
-  pub with_a_thread : IsDataSource (AThread (record { keyword = word_in 1 (codes "thread"); name = word_in 8 (codes "t"); parameters = None; semicolon = col 9; globals = []; end_keyword = word_in 11 (codes "endthread"); end = col 20 }) ∷ AData (program_around []) ∷ []) → ⊥
-  -- dcl package hash h([k],[v]);
-  pub with_a_hash : IsDataSource (AData (program_from (hash_at 10 (codes "h") (codes "k") (codes "v") ∷ [])) ∷ []) → ⊥
+-- what may be set
+pub record SettableExamples : Type 0 where
   -- a parameter of a thread program may be set, and a flag may not
   pub parameter_is_settable : is_settable_reference (At (Parameter (codes "p"))) ≡ true
   pub flag_is_not_settable : is_settable_reference (At (Present (codes "p"))) ≡ false

@@ -18,9 +18,8 @@ use Rattle.ds2_meaning.specs.declared.expressions.Prefix.TheVariants as prefix
 use Rattle.ds2_meaning.specs.declared.refusals.ScopeKind.TheVariants.{UnknownName}
 use Rattle.ds2_meaning.specs.declared.refusals.TypeKind.{TypeKind}
 use Rattle.ds2_meaning.specs.declared.refusals.TypeKind.TheVariants.{TypeClash, ScaleTooLarge, NotTruth}
-use Rattle.ds2_names.specs.SourceLimits.{before_all}
-use Rattle.ds2_elaboration.specs.Elaboration.{ProgramRefusal, OfNames, OfTypes, elaborated_program}
-use Rattle.ds2_elaboration.specs.SourceWords.{name_at, integer_at, decimal_at, text_at, null_at, parenthesis_at, sign_at, not_at, chained, chained_twice, compared_at, calling_at, sets, returns_at, bigint_word, decimal_words, text_words, declares, parameter_at, in_out_at, returning, method_at, program_from}
+use Rattle.ds2_elaboration.specs.Elaboration.{ProgramRefusal, OfNames, OfTypes}
+use Rattle.ds2_elaboration.specs.SourceWords.{becomes_alone, name_at, integer_at, decimal_at, text_at, null_at, parenthesis_at, sign_at, not_at, chained, chained_twice, compared_at, calling_at, sets, returns_at, bigint_word, decimal_words, text_words, declares, parameter_at, in_out_at, returning, method_at, program_from}
 
 -- ---- the program around a statement
 
@@ -45,7 +44,7 @@ statements_of_run = result_map_both (λ (p : UnitTree). p.run.statements) (λ re
 
 -- what statements of `run` become in that program
 abbrev pub become : List Statement → Result TypedStatements ProgramRefusal
-become body = statements_of_run (elaborated_program no_columns_at_all (before_all []) (program_around body))
+become body = statements_of_run (becomes_alone no_columns_at_all (program_around body))
 
 -- what target = value; in column 100 becomes
 abbrev pub setting : List ℕ → Expression → Result TypedStatements ProgramRefusal

@@ -135,9 +135,13 @@ elaborated_comparison operator a b =
 
 -- ---- operators before an operand
 
+-- the operator that `-` before a number of this type is
+abbrev pub minus_prefix : Ty → Prefix
+minus_prefix ty = if is_integer_type ty then prefix.IntegerNegate else prefix.DecimalNegate
+
 -- the operator that a sign before a value of this type is
 abbrev pub sign_prefix : Token → Ty → Prefix
-sign_prefix operator ty = if is_plus operator then prefix.Plus else if is_integer_type ty then prefix.IntegerNegate else prefix.DecimalNegate
+sign_prefix operator ty = if is_plus operator then prefix.Plus else minus_prefix ty
 
 -- a sign before a number; it keeps the number's type
 abbrev pub elaborated_sign : Token → ElaboratedExpression → ElaboratedExpression

@@ -26,18 +26,16 @@ use Rattle.ds2_meaning.specs.declared.refusals.TypeKind.TheVariants.{TypeClash, 
 use Rattle.ds2_meaning.specs.ExampleWords.{col, local, binary, bigint, bigint_column, stored}
 use Rattle.ds2_meaning.specs.Method.{MethodTree}
 use Rattle.ds2_names.specs.NameExamples.{word_in}
-use Rattle.ds2_meaning.specs.ProgramTree.{UnitTree}
+use Rattle.ds2_meaning.specs.ProgramTree.{UnitTree, ProgramTree, reader_of}
 use Rattle.ds2_meaning.specs.Reading.{inputs_of}
 use Rattle.ds2_names.specs.SourceUnit.{TableColumns}
 use Rattle.ds2_meaning.specs.TypedExpression.{Constant, Variable as Reads, Widen, Convert}
 use Rattle.ds2_meaning.specs.TypedStatement.{TypedStatements, Finish, Next, ReturnValue}
 use Rattle.ds2_layout.specs.declared.slot.SlotRole.TheVariants.{Cleared, Kept, Column, Flag}
-use Rattle.ds2_names.specs.SourceLimits.{before_all}
-use Rattle.ds2_elaboration.specs.Elaboration.{ProgramRefusal, OfNames, OfTypes, elaborated_program, elaborated_source}
+use Rattle.ds2_elaboration.specs.Elaboration.{ProgramRefusal, OfNames, OfTypes, elaborated_source}
 use Rattle.ds2_layout.specs.Layout.{slot_for, layout_of}
 use Rattle.ds2_elaboration.specs.OperatorExamples.{no_columns_at_all, program_around, statements_of_run, refused_in}
-use Rattle.ds2_elaboration.specs.ProgramTypes.{typed_program}
-use Rattle.ds2_elaboration.specs.SourceWords.{name_at, integer_at, decimal_at, null_at, chained, sets, returns_at, bigint_word, decimal_words, text_words, parameter_at, declares, returning, method_at, program_from}
+use Rattle.ds2_elaboration.specs.SourceWords.{becomes_alone, typed_alone, name_at, integer_at, decimal_at, null_at, chained, sets, returns_at, bigint_word, decimal_words, text_words, parameter_at, declares, returning, method_at, program_from}
 
 -- ---- programs that read tables
 
@@ -69,12 +67,12 @@ columns_of = result_map_both (λ (p : UnitTree). p.columns) (λ refusal. refusal
 
 -- what the columns of two tables become beside declared variables
 abbrev pub columns_over : List GlobalItem → List ℕ → List ℕ → Result (List Variable) ProgramRefusal
-columns_over globals first second = columns_of (elaborated_program small_tables (before_all []) (reading_program globals (read_at 104 first ∷ read_at 112 second ∷ [])))
+columns_over globals first second = columns_of (becomes_alone small_tables (reading_program globals (read_at 104 first ∷ read_at 112 second ∷ [])))
 
 -- what the columns of three tables become
 abbrev pub columns_over_three : List ℕ → List ℕ → List ℕ → Result (List Variable) ProgramRefusal
 columns_over_three first second third =
-    columns_of (elaborated_program small_tables (before_all []) (reading_program [] (read_at 104 first ∷ read_at 112 second ∷ read_at 120 third ∷ [])))
+    columns_of (becomes_alone small_tables (reading_program [] (read_at 104 first ∷ read_at 112 second ∷ read_at 120 third ∷ [])))
 
 -- a TypeClash in this column
 abbrev pub clash_in : ℕ → Result (List Variable) ProgramRefusal
@@ -127,23 +125,23 @@ merging_program = program_from (method_at 80 (codes "run") [] None (Some (read_a
 -- what becomes of methods, columns and outputs
 pub record ProgramTypeExamples : Type 0 where
   -- if i then return 1; : does not surely return
-  pub no_return : statements_of_run (elaborated_program no_columns_at_all (before_all []) (program_with_method (returns_if 75 (name_at 78 (codes "i")) (integer_at 92 (codes "1"))))) ≡ refused_in NoReturn 67
+  pub no_return : statements_of_run (becomes_alone no_columns_at_all (program_with_method (returns_if 75 (name_at 78 (codes "i")) (integer_at 92 (codes "1"))))) ≡ refused_in NoReturn 67
   -- return 1;
-  pub surely_returned : statements_of_run (elaborated_program no_columns_at_all (before_all []) (program_with_method (returns_at 75 (integer_at 82 (codes "1"))))) ≡ Ok Finish
+  pub surely_returned : statements_of_run (becomes_alone no_columns_at_all (program_with_method (returns_at 75 (integer_at 82 (codes "1"))))) ≡ Ok Finish
   -- return a; of a BIGINT from a method that returns decimal(5,2)
-  pub returned_value_converted : bodies_of (typed_program no_columns_at_all [] (program_around []))
+  pub returned_value_converted : bodies_of (typed_alone no_columns_at_all (program_around []))
       ≡ Next (ReturnValue (col 40) (Convert (Widen (local (codes "a"))) (DecimalOf 5 2))) Finish ∷ Finish ∷ []
   -- return a; of a BIGINT from a method that returns decimal(19,0) : widened alone
-  pub widened_alone : bodies_unless_refused (elaborated_program no_columns_at_all (before_all []) (returning_program (parameter_at 70 bigint_word (codes "a")) (decimal_words (codes "19") (codes "0")) (returns_at 75 (name_at 82 (codes "a")))))
+  pub widened_alone : bodies_unless_refused (becomes_alone no_columns_at_all (returning_program (parameter_at 70 bigint_word (codes "a")) (decimal_words (codes "19") (codes "0")) (returns_at 75 (name_at 82 (codes "a")))))
       ≡ Ok (Next (ReturnValue (col 75) (Widen (local (codes "a")))) Finish ∷ [])
   -- return a || a; of 1,000 characters from a method that returns varchar(1024) : cut to that, and not converted
-  pub joined_at_most : bodies_unless_refused (elaborated_program no_columns_at_all (before_all []) (returning_program (parameter_at 70 (text_words (codes "char") (codes "1000")) (codes "a")) (text_words (codes "varchar") (codes "1024")) (returns_at 75 (chained Concatenation 84 (codes "||") (name_at 82 (codes "a")) (name_at 87 (codes "a"))))))
+  pub joined_at_most : bodies_unless_refused (becomes_alone no_columns_at_all (returning_program (parameter_at 70 (text_words (codes "char") (codes "1000")) (codes "a")) (text_words (codes "varchar") (codes "1024")) (returns_at 75 (chained Concatenation 84 (codes "||") (name_at 82 (codes "a")) (name_at 87 (codes "a"))))))
       ≡ Ok (Next (ReturnValue (col 75) (binary Concatenate (Varchar 1024) (Reads (Local (codes "a")) (Char 1000)) (Reads (Local (codes "a")) (Char 1000)))) Finish ∷ [])
   -- return null; from a method that returns bigint
-  pub null_returned : bodies_unless_refused (elaborated_program no_columns_at_all (before_all []) (program_with_method (returns_at 75 (null_at 82))))
+  pub null_returned : bodies_unless_refused (becomes_alone no_columns_at_all (program_with_method (returns_at 75 (null_at 82))))
       ≡ Ok (Next (ReturnValue (col 75) (Constant Null BigInt)) Finish ∷ [])
   -- return 1.5n; from it : at the word
-  pub decimal_returned : bodies_unless_refused (elaborated_program no_columns_at_all (before_all []) (program_with_method (returns_at 75 (decimal_at 82 (codes "1.5n")))))
+  pub decimal_returned : bodies_unless_refused (becomes_alone no_columns_at_all (program_with_method (returns_at 75 (decimal_at 82 (codes "1.5n")))))
       ≡ Err (OfTypes (record { kind = TypeClash; place = col 75 }))
   -- set short long; : the columns join
   pub columns_joined : columns_over [] (codes "short") (codes "long") ≡ Ok (record { name = codes "k"; ty = Char 3 } ∷ [])
@@ -163,30 +161,30 @@ pub record ProgramTypeExamples : Type 0 where
   pub declared_joins : columns_over (declares 10 (text_words (codes "varchar") (codes "3")) (codes "k") ∷ []) (codes "short") (codes "free") ≡ Ok []
   pub declared_char_clashes : columns_over (declares 10 (text_words (codes "char") (codes "3")) (codes "k") ∷ []) (codes "short") (codes "free") ≡ clash_in 112
   -- out has z in place of k, rest has i alone and may be written over
-  pub outputs_made : (typed_program no_columns_at_all [] program_with_options).outputs
+  pub outputs_made : (typed_alone no_columns_at_all program_with_options).outputs
       ≡ record { name = codes "out"; overwrites = false; columns = record { name = codes "i"; source = codes "i"; ty = BigInt } ∷ record { name = codes "z"; source = codes "k"; ty = BigInt } ∷ [] }
       ∷ record { name = codes "rest"; overwrites = true; columns = record { name = codes "i"; source = codes "i"; ty = BigInt } ∷ [] } ∷ []
   -- no `run`: no load; `run` without a reading statement: one
-  pub no_load : (typed_program no_columns_at_all [] program_with_options).reading ≡ typed_as.Nothing
-  pub one_load : (typed_program no_columns_at_all [] (program_around [])).reading ≡ typed_as.Once
+  pub no_load : (typed_alone no_columns_at_all program_with_options).reading ≡ typed_as.Nothing
+  pub one_load : (typed_alone no_columns_at_all (program_around [])).reading ≡ typed_as.Once
   -- the tables of a `merge` with their columns, its BY variables, and `/ retain`
-  pub merged : (typed_program small_tables [] merging_program).reading
+  pub merged : (typed_alone small_tables merging_program).reading
       ≡ typed_as.Merge (record { table = stored (codes "short"); present = None; columns = record { name = codes "k"; ty = Char 2 } ∷ [] } ∷ record { table = stored (codes "long"); present = None; columns = record { name = codes "k"; ty = Char 3 } ∷ [] } ∷ [])
       (record { name = codes "k"; is_descending = true } ∷ []) true
 
 -- ---- sources
 
 -- for each program of a source that is not refused its columns
-abbrev pub columns_of_each : Result (List UnitTree) ProgramRefusal → Result (List (List Variable)) ProgramRefusal
-columns_of_each = result_map_both (map (λ (p : UnitTree). p.columns)) (λ refusal. refusal)
+abbrev pub columns_of_each : Result (List ProgramTree) ProgramRefusal → Result (List (List Variable)) ProgramRefusal
+columns_of_each = result_map_both (map (λ (p : ProgramTree). (reader_of p).columns)) (λ refusal. refusal)
 
 -- a source of two programs that are made of these globals
 abbrev pub two_programs : List GlobalItem → List GlobalItem → Result (List (List Variable)) ProgramRefusal
 two_programs first second = columns_of_each (elaborated_source small_tables (AData (program_from first) ∷ AData (program_from second) ∷ []))
 
 -- for each program of a source that is not refused the tables of its reading statement
-abbrev pub tables_of_each : Result (List UnitTree) ProgramRefusal → Result (List (List MentionedTable)) ProgramRefusal
-tables_of_each = result_map_both (map (λ (p : UnitTree). map (λ (i : typed_input.Input). i.table) (inputs_of p.reading))) (λ refusal. refusal)
+abbrev pub tables_of_each : Result (List ProgramTree) ProgramRefusal → Result (List (List MentionedTable)) ProgramRefusal
+tables_of_each = result_map_both (map (λ (p : ProgramTree). map (λ (i : typed_input.Input). i.table) (inputs_of (reader_of p).reading))) (λ refusal. refusal)
 
 -- method run(); target = i; end; beside i
 abbrev pub setting_program : List ℕ → List GlobalItem
@@ -226,11 +224,11 @@ flagged_program = program_from (
 -- the slots of small programs
 pub record LayoutExamples : Type 0 where
   -- i is kept, j is set to null, k is a column; then the flags p, first.k and last.k; the output has i, j and k
-  pub slots_in_order : layout_of (typed_program small_tables [] flagged_program) ≡ record {
+  pub slots_in_order : layout_of (typed_alone small_tables flagged_program) ≡ record {
     slots =
         slot_for None (Named (codes "i")) BigInt Kept ∷ slot_for None (Named (codes "j")) BigInt Cleared ∷ slot_for None (Named (codes "k")) BigInt Column
         ∷ slot_for None (Present (codes "p")) BigInt Flag ∷ slot_for None (First (codes "k")) BigInt Flag ∷ slot_for None (Last (codes "k")) BigInt Flag ∷ [];
     projections = (0 ∷ 1 ∷ 2 ∷ []) ∷ [];
   }
   -- a renamed output has the slot of the old name
-  pub renamed_output : (layout_of (typed_program no_columns_at_all [] program_with_options)).projections ≡ (0 ∷ 1 ∷ []) ∷ (0 ∷ []) ∷ []
+  pub renamed_output : (layout_of (typed_alone no_columns_at_all program_with_options)).projections ≡ (0 ∷ 1 ∷ []) ∷ (0 ∷ []) ∷ []

@@ -1,11 +1,10 @@
--- The types of what the source of a data program names: declared variables, columns joined over the tables, parameters and locals.
-use Rattle.std.specs.Prelude.{ℕ, Bool, true, false, ◌&&◌, ◌==◌, bytes_eq, codes, if◌then◌else◌, List, [], ◌∷◌, ◌++◌, map, is_some, Option, Some, None}
+-- The types of what a unit of a source names: declared variables, columns joined over the tables, parameters and locals.
+use Rattle.std.specs.Prelude.{ℕ, Bool, true, false, bytes_eq, codes, if◌then◌else◌, List, [], ◌∷◌, ◌++◌, map, is_some, Option, Some, None}
 use Rattle.std.specs.Option.{option_map}
 use Rattle.ds2_base.specs.declared.place.Place.{Place}
 use Rattle.ds2_token.specs.Words.{is_word}
 use Rattle.ds2_token.specs.declared.token.Token.{Token}
 use Rattle.ds2_tree.specs.Globals.{Method}
-use Rattle.ds2_tree.specs.Units.{DataProgram}
 use Rattle.ds2_tree.specs.declared.globals.Parameter as source_parameter
 use Rattle.ds2_tree.specs.declared.globals.Returns.{Returns}
 use Rattle.ds2_tree.specs.declared.globals.Scale.{Scale}
@@ -21,7 +20,9 @@ use Rattle.ds2_meaning.specs.declared.globals.Variable as typed
 use Rattle.ds2_meaning.specs.declared.methods.Parameter as typed_parameter
 use Rattle.ds2_meaning.specs.IsTyped.{type_in, with_parameters_of}
 use Rattle.ds2_names.specs.NameRules.{from_each, spelled_number}
-use Rattle.ds2_names.specs.SourceUnit.{TableColumns, spelled_name, PlacedName, variable_declarations, source_methods, reading_of_run, tables_of_reading, names_of_source}
+use Rattle.ds2_meaning.specs.ProgramTree.{ProgramTree}
+use Rattle.ds2_names.specs.SourceUnit.{TableColumns, UnitSource, SourceNames, spelled_name, PlacedName, variable_declarations, tables_of_reading, stage_token, names_of_unit}
+use Rattle.ds2_elaboration.specs.UnitsBefore.{UnitsBefore, typed_stage, typed_stage_columns}
 
 -- ---- spelled types
 
@@ -120,29 +121,61 @@ joined_type _ = BigInt
 
 -- ---- the program data vector
 
--- the declared variables of a program
-abbrev pub program_variables : DataProgram → List typed.Variable
+-- the declared variables of a unit
+abbrev pub program_variables : UnitSource → List typed.Variable
 program_variables u = declared_variables (variable_declarations u.globals)
 
--- the tables of the reading statement of `run`
-abbrev pub program_inputs : DataProgram → List source_input.Input
-program_inputs u = tables_of_reading (reading_of_run (source_methods u.globals))
+-- the parameters of a thread program, with their types
+abbrev pub parameter_variables : UnitSource → List typed.Variable
+parameter_variables u = map (λ (p : source_parameter.Parameter). record { name = spelled_name p.name; ty = spelled_type p.ty }) u.parameters
 
--- the columns of the reading statement that are not declared, with the types that their tables join to
-abbrev pub column_variables : TableColumns → DataProgram → List typed.Variable
-column_variables tables u =
-    map (λ (n : PlacedName). record { name = n.name; ty = joined_type (joined_over tables None n.name Absent (program_inputs u)) }) (names_of_source tables u).columns
+module _ (tables : TableColumns) (before : UnitsBefore) (u : UnitSource) where
+  -- what the unit gives names to
+  abbrev pub unit_names : SourceNames
+  unit_names = names_of_unit tables before.names.known u
 
--- the columns of the reading statement that are not declared and whose tables do not join, each at the first table at which they
--- do not
-abbrev pub unjoined_columns : TableColumns → DataProgram → List PlacedName
-unjoined_columns tables u =
-    from_each (λ (n : PlacedName). map (λ (place : Place). record { name = n.name; place = place }) (clashing_table tables None n.name Absent (program_inputs u)))
-    (names_of_source tables u).columns
+  -- the tables of its reading statement
+  abbrev pub program_inputs : List source_input.Input
+  program_inputs = tables_of_reading unit_names.reading
 
--- TypeClash of columns: for each column of the statement the first table at which its types do not fit
-abbrev pub clashing_tables : TableColumns → DataProgram → List Place
-clashing_tables tables u =
-    let of_name = λ (name : List ℕ). clashing_table tables (type_in (program_variables u) name) name Absent (program_inputs u) in
-    from_each (λ (v : typed.Variable). of_name v.name) (program_variables u)
-    ++ from_each (λ (n : PlacedName). of_name n.name) (names_of_source tables u).columns
+  -- the thread program that it reads from
+  abbrev pub unit_stage : Option ProgramTree
+  unit_stage = typed_stage before.threads unit_names.instances (stage_token unit_names.reading)
+
+  -- what is known of the type of a column before the tables: what the thread program gives that is read from
+  abbrev pub stage_typing : Option Ty → List ℕ → ColumnTyping
+  stage_typing declared name = with_table declared Absent (type_of_column name (typed_stage_columns unit_stage))
+
+  -- the type of a column of its reading statement, beside a declared variable of this type or none
+  abbrev pub column_typing : Option Ty → List ℕ → ColumnTyping
+  column_typing declared name = joined_over tables declared name (stage_typing declared name) program_inputs
+
+  -- the place of the instance behind `set from`, where the column of the thread program does not join with its declared variable
+  abbrev pub clash_at_stage : Option Ty → List ℕ → Option Token → List Place
+  clash_at_stage declared name None = []
+  clash_at_stage declared name (Some instance) = clash_at_table instance.place Absent (stage_typing declared name)
+
+  -- the first table of its reading statement at which the types of a column do not join, or the instance behind `set from`
+  abbrev pub clashing_at : Option Ty → List ℕ → List Place
+  clashing_at declared name =
+      clash_at_stage declared name (stage_token unit_names.reading) ++ clashing_table tables declared name (stage_typing declared name) program_inputs
+
+  -- the columns of the reading statement that are not declared, with the types that their tables join to
+  abbrev pub column_variables : List typed.Variable
+  column_variables = map (λ (n : PlacedName). record { name = n.name; ty = joined_type (column_typing None n.name) }) unit_names.columns
+
+  -- the columns of the reading statement that are not declared and whose tables do not join, each at the first table at which they
+  -- do not
+  abbrev pub unjoined_columns : List PlacedName
+  unjoined_columns =
+      from_each (λ (n : PlacedName). map (λ (place : Place). record { name = n.name; place = place }) (clashing_at None n.name)) unit_names.columns
+
+  -- TypeClash of columns: for each column of the statement the first table at which its types do not fit
+  abbrev pub clashing_tables : List Place
+  clashing_tables =
+      from_each (λ (v : typed.Variable). clashing_at (type_in (program_variables u) v.name) v.name) (program_variables u)
+      ++ from_each (λ (n : PlacedName). clashing_at (type_in (program_variables u) n.name) n.name) unit_names.columns
+
+  -- the variables of the vector, in order: declared ones, then columns
+  abbrev pub vector_variables : List typed.Variable
+  vector_variables = program_variables u ++ column_variables

@@ -1,5 +1,5 @@
 -- Words that the small sources of the examples are written with. Each takes the column at which it stands.
-use Rattle.std.specs.Prelude.{ℕ, ◌+◌, codes, List, [], ◌∷◌, Option, Some, None}
+use Rattle.std.specs.Prelude.{ℕ, ◌+◌, codes, List, [], ◌∷◌, Option, Some, None, Result, Ok, Err}
 use Rattle.ds2_token.specs.declared.kinds.TokenKind.TheVariants as kind
 use Rattle.ds2_token.specs.declared.token.Token.{Token}
 use Rattle.ds2_tree.specs.Expressions.{Expression, Constant, Null, Variable, Call, Parenthesis, Sign, Chain, Comparison, Not, NoOperand, Operand, Arguments, NoArgument, Argument}
@@ -15,7 +15,11 @@ use Rattle.ds2_tree.specs.declared.globals.TypeName.{TypeName}
 use Rattle.ds2_tree.specs.declared.globals.TypeName.TheVariants as type_name
 use Rattle.ds2_tree.specs.declared.readings.Reading as source_reading
 use Rattle.ds2_meaning.specs.ExampleWords.{col}
+use Rattle.ds2_meaning.specs.ProgramTree.{UnitTree, reader_of}
 use Rattle.ds2_names.specs.NameExamples.{word_in}
+use Rattle.ds2_names.specs.SourceUnit.{TableColumns, unit_of_data}
+use Rattle.ds2_elaboration.specs.Elaboration.{ProgramRefusal, unit_refusal, before_source}
+use Rattle.ds2_elaboration.specs.ProgramTypes.{typed_program}
 
 -- ---- tokens
 
@@ -191,3 +195,18 @@ program_from globals = record {
   end_keyword = word_in 999 (codes "enddata");
   end = col 999;
 }
+
+-- ---- outcomes
+
+-- what a data program becomes over these tables, behind no other unit
+abbrev pub typed_alone : TableColumns → DataProgram → UnitTree
+typed_alone tables u = reader_of (typed_program tables (before_source []) (unit_of_data u))
+
+-- a program, where it is not refused
+abbrev pub unless_refused : UnitTree → Option ProgramRefusal → Result UnitTree ProgramRefusal
+unless_refused p None = Ok p
+unless_refused p (Some refusal) = Err refusal
+
+-- what a data program becomes over these tables behind no other unit, or its refusal
+abbrev pub becomes_alone : TableColumns → DataProgram → Result UnitTree ProgramRefusal
+becomes_alone tables u = unless_refused (typed_alone tables u) (unit_refusal tables (before_source []) (unit_of_data u))

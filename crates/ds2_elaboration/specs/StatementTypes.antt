@@ -21,7 +21,7 @@ use Rattle.ds2_meaning.specs.ProgramTree.{is_listed}
 use Rattle.ds2_meaning.specs.TypedExpression.{TypedExpression}
 use Rattle.ds2_meaning.specs.TypedStatement as t
 use Rattle.ds2_names.specs.Uses.{callee_place, first_place, method_named}
-use Rattle.ds2_elaboration.specs.ExpressionTypes.{TypeScope, KnownVariable, variable_typing, known_variable, elaborated_variable, elaborated_flag, is_settable_reference, reference_or_none, number_of_method, arguments_for, elaborated_call, elaborated, elaborated_arguments}
+use Rattle.ds2_elaboration.specs.ExpressionTypes.{TypeScope, ObjectCalls, InstanceCalls, ParameterCalls, KnownVariable, variable_typing, known_variable, elaborated_variable, elaborated_member, object_in_scope, is_settable_reference, reference_or_none, number_of_method, arguments_for, values_for, elaborated_instance_call, elaborated_object_call, elaborated_call, elaborated, elaborated_arguments}
 use Rattle.ds2_elaboration.specs.FunctionTypes.{ElaboratedArgument, nodes_in_order}
 use Rattle.ds2_elaboration.specs.OperatorTypes.{is_known_decimal}
 use Rattle.ds2_elaboration.specs.SourceTypes.{elaborated_parameters}
@@ -81,6 +81,29 @@ module _ (scope : TypeScope) where
 
   -- ---- calls as statements
 
+  -- what a call of a method of an instance as a statement breaks; the method need not return a value
+  abbrev pub instance_call_refusals : Token → Token → List Method → List ElaboratedArgument → Option Method → TypeRefusals
+  instance_call_refusals object name methods xs (Some method) = (arguments_for name.place (elaborated_parameters method) xs).refusals
+  instance_call_refusals object name methods xs None = (elaborated_instance_call object name methods xs None).refusals
+
+  -- what a call on an object as a statement breaks
+  abbrev pub object_call_refusals : Token → Token → List ElaboratedArgument → Option ObjectCalls → TypeRefusals
+  object_call_refusals object name xs (Some (InstanceCalls methods)) = instance_call_refusals object name methods xs (method_named methods (spelled_name name))
+  object_call_refusals object name xs (Some (ParameterCalls parameters)) = (values_for name.place parameters xs).refusals
+  object_call_refusals object name xs calls = (elaborated_object_call object name xs calls).refusals
+
+  -- a call of a method of an instance as a statement
+  abbrev pub instance_call_node : Place → Token → Token → List Method → List ElaboratedArgument → Option Method → t.TypedStatement
+  instance_call_node place object name methods xs (Some method) =
+      t.Invoke place (Some (spelled_name object)) (number_of_method methods (spelled_name name)) (arguments_for name.place (elaborated_parameters method) xs).arguments
+  instance_call_node place object name methods xs None = t.Evaluate place (elaborated_instance_call object name methods xs None).node
+
+  -- a call on an object as a statement
+  abbrev pub object_call_node : Place → Token → Token → List ElaboratedArgument → Option ObjectCalls → t.TypedStatement
+  object_call_node place object name xs (Some (InstanceCalls methods)) = instance_call_node place object name methods xs (method_named methods (spelled_name name))
+  object_call_node place object name xs (Some (ParameterCalls parameters)) = t.SetParameters place (spelled_name object) (values_for name.place parameters xs).values
+  object_call_node place object name xs calls = t.Evaluate place (elaborated_object_call object name xs calls).node
+
   -- what a call of a name as a statement breaks, where it calls this method or none; the method need not return a value
   abbrev pub named_call_refusals : Token → List ElaboratedArgument → Option Method → TypeRefusals
   named_call_refusals name xs (Some method) = (arguments_for name.place (elaborated_parameters method) xs).refusals
@@ -89,7 +112,8 @@ module _ (scope : TypeScope) where
   -- what a call as a statement breaks
   abbrev pub call_refusals : Callee → List ElaboratedArgument → TypeRefusals
   call_refusals (callee.Function name) xs = named_call_refusals name xs (method_named scope.methods (spelled_name name))
-  call_refusals f xs = (elaborated_call scope f xs).refusals
+  call_refusals (callee.Null keyword) xs = (elaborated_call scope (callee.Null keyword) xs).refusals
+  call_refusals (callee.Method object dot method) xs = object_call_refusals object method xs (object_in_scope scope (spelled_name object))
 
   -- a call of a name as a statement: of a method, or of a function, whose value is dropped
   abbrev pub named_call_node : Place → Token → List ElaboratedArgument → Option Method → t.TypedStatement
@@ -100,7 +124,8 @@ module _ (scope : TypeScope) where
   -- a call as a statement
   abbrev pub call_node : Place → Callee → List ElaboratedArgument → t.TypedStatement
   call_node place (callee.Function name) xs = named_call_node place name xs (method_named scope.methods (spelled_name name))
-  call_node place f xs = t.Evaluate place (elaborated_call scope f xs).node
+  call_node place (callee.Null keyword) xs = t.Evaluate place (elaborated_call scope (callee.Null keyword) xs).node
+  call_node place (callee.Method object dot method) xs = object_call_node place object method xs (object_in_scope scope (spelled_name object))
 
   -- ---- return and put
 
@@ -120,14 +145,14 @@ module _ (scope : TypeScope) where
   abbrev pub item_refusals : PutItem → TypeRefusals
   item_refusals (item.Text text) = []
   item_refusals (item.Variable name equals) = (elaborated_variable scope name).refusals
-  item_refusals (item.Member object dot member) = (elaborated_flag scope object member).refusals
+  item_refusals (item.Member object dot member) = (elaborated_member scope object member).refusals
 
   -- an item of `put`
   abbrev pub item_node : PutItem → t.Item
   item_node (item.Text text) = t.Text (text_content text.spelling)
   item_node (item.Variable name None) = t.Shown (elaborated_variable scope name).node
   item_node (item.Variable name (Some equals)) = t.Labelled (spelled_name name) (elaborated_variable scope name).node
-  item_node (item.Member object dot member) = t.Shown (elaborated_flag scope object member).node
+  item_node (item.Member object dot member) = t.Shown (elaborated_member scope object member).node
 
   -- a table of `output` that is no output is refused by the rules of names
   abbrev pub written_refusals : Token → TypeRefusals

@@ -5,18 +5,18 @@ use Rattle.ds2_base.specs.Bytes.{Bytes}
 use Rattle.ds2_token.specs.Standing.{StandsFor}
 use Rattle.ds2_token.specs.declared.token.Token.{Token}
 use Rattle.ds2_tree.specs.Units.{SourcePart, source_spelling, IsSource}
-use Rattle.ds2_meaning.specs.IsTyped.{IsTypedProgram}
-use Rattle.ds2_meaning.specs.ProgramTree.{UnitTree, OverTables}
+use Rattle.ds2_meaning.specs.IsTyped.{IsTypedDataProgram}
+use Rattle.ds2_meaning.specs.ProgramTree.{ProgramTree}
 use Rattle.ds2_names.specs.SourceUnit.{TableColumns}
-use Rattle.ds2_elaboration.specs.Elaboration.{IsDataSource, elaborated_source}
+use Rattle.ds2_elaboration.specs.Elaboration.{elaborated_source}
 use Rattle.ds2_elaboration.specs.TypedPrograms.{StandInOrder, HaveSchemas}
 
 -- the tokens that stand for a text stand in order; its lines and columns are counted up to 2 ^ 32 - 1, so it has fewer bytes
 abbrev pub TokensStandInOrder : Type 0
 TokensStandInOrder = (text : Bytes) (tokens : List Token) → length text + 1 < 2 ^ 32 → StandsFor text tokens → StandInOrder tokens
 
--- what a text becomes whose tokens are a source of data programs without instances is typed programs, where it is not refused
+-- what a text becomes whose tokens are a source is typed data programs, where it is not refused
 abbrev pub EveryTextIsTyped : Type 0
-EveryTextIsTyped = (tables : TableColumns) (text : Bytes) (parts : List SourcePart) (programs : List UnitTree) → HaveSchemas tables
-    → length text + 1 < 2 ^ 32 → StandsFor text (source_spelling parts) → IsSource parts → IsDataSource parts
-    → elaborated_source tables parts ≡ Ok programs → AllByRecursion (λ (p : UnitTree). IsTypedProgram (OverTables p)) programs
+EveryTextIsTyped = (tables : TableColumns) (text : Bytes) (parts : List SourcePart) (programs : List ProgramTree) → HaveSchemas tables
+    → length text + 1 < 2 ^ 32 → StandsFor text (source_spelling parts) → IsSource parts
+    → elaborated_source tables parts ≡ Ok programs → AllByRecursion IsTypedDataProgram programs

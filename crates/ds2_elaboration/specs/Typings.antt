@@ -55,8 +55,7 @@ form_of_operands refusals node = record { typing = typing_behind refusals (expre
 abbrev pub elaborated_null : Place → ElaboratedExpression
 elaborated_null place = record { typing = NullAt place; refusals = []; node = Constant Null BigInt }
 
--- a form that the rules of names refuse, at this place; they come first. Calls on instances, hash objects and iterators, and
--- `setparms`, are accepted by them and have no rules of types here yet: they are refused here too, though they should not be
+-- a form that the rules of names refuse, at this place; they come first
 abbrev pub elaborated_nameless : Place → ElaboratedExpression
 elaborated_nameless place = form_of_operands (type_refusal_at TypeClash place) (Constant Null BigInt)
 

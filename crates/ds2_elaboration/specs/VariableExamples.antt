@@ -16,11 +16,10 @@ use Rattle.ds2_meaning.specs.ExampleWords.{col, global, variable_of, text_consta
 use Rattle.ds2_meaning.specs.TypedExpression as tree
 use Rattle.ds2_meaning.specs.TypedStatement as t
 use Rattle.ds2_names.specs.NameExamples.{word_in}
-use Rattle.ds2_names.specs.SourceLimits.{before_all}
-use Rattle.ds2_elaboration.specs.Elaboration.{ProgramRefusal, OfTypes, elaborated_program}
+use Rattle.ds2_elaboration.specs.Elaboration.{ProgramRefusal, OfTypes}
 use Rattle.ds2_elaboration.specs.OperatorExamples.{no_columns_at_all, statements_of_run, refused_in}
 use Rattle.ds2_elaboration.specs.SourceExamples.{small_tables, columns_over, clash_in, bodies_unless_refused, flagged_reading}
-use Rattle.ds2_elaboration.specs.SourceWords.{name_at, integer_at, text_at, chained, compared_at, calling_at, sets, calls, counts_at, bigint_word, text_words, declares, parameter_at, in_out_at, method_at, statements_from, program_from}
+use Rattle.ds2_elaboration.specs.SourceWords.{becomes_alone, name_at, integer_at, text_at, chained, compared_at, calling_at, sets, calls, counts_at, bigint_word, text_words, declares, parameter_at, in_out_at, method_at, statements_from, program_from}
 
 -- ---- columns whose tables do not join
 
@@ -79,7 +78,7 @@ pub record UnjoinedColumnExamples : Type 0 where
 -- dcl bigint i; method run(); set whole (in=p); by k; and these statements, end;
 abbrev pub beside_flags : List Statement → Result t.TypedStatements ProgramRefusal
 beside_flags body =
-    statements_of_run (elaborated_program small_tables (before_all []) (program_from (declares 10 bigint_word (codes "i") ∷ declares 12 five_characters (codes "v") ∷ method_at 80 (codes "run") [] None flagged_reading body ∷ [])))
+    statements_of_run (becomes_alone small_tables (program_from (declares 10 bigint_word (codes "i") ∷ declares 12 five_characters (codes "v") ∷ method_at 80 (codes "run") [] None flagged_reading body ∷ [])))
 
 -- first.k or last.k in this column
 abbrev pub flag_at : ℕ → List ℕ → Expression
@@ -92,13 +91,13 @@ value_of_flag flag = tree.Variable (At flag) BigInt
 -- dcl bigint i; method h(varchar(5) i); and this statement, end;
 abbrev pub beside_parameter : Statement → Result (List t.TypedStatements) ProgramRefusal
 beside_parameter statement =
-    bodies_unless_refused (elaborated_program no_columns_at_all (before_all []) (program_from (
+    bodies_unless_refused (becomes_alone no_columns_at_all (program_from (
     declares 10 bigint_word (codes "i") ∷ method_at 60 (codes "h") (parameter_at 70 five_characters (codes "i") ∷ []) None None (statement ∷ []) ∷ [])))
 
 -- dcl bigint i; method h(); dcl varchar(5) i; and this statement, end;
 abbrev pub beside_local : Statement → Result (List t.TypedStatements) ProgramRefusal
 beside_local statement =
-    bodies_unless_refused (elaborated_program no_columns_at_all (before_all []) (program_from (
+    bodies_unless_refused (becomes_alone no_columns_at_all (program_from (
     declares 10 bigint_word (codes "i") ∷ method_with_local 60 (codes "h") five_characters (codes "i") (statement ∷ []) ∷ [])))
 
 -- i = 'x'; in column 80, where i is a local or parameter of five characters
@@ -108,7 +107,7 @@ text_set = Ok (t.Next (assign_local 80 (codes "i") (tree.Convert (text_constant 
 -- dcl bigint i; dcl varchar(5) v; method m(bigint a, in_out bigint b); end; method run(); m(i, second); end;
 abbrev pub calling_with_both : List ℕ → Result t.TypedStatements ProgramRefusal
 calling_with_both second =
-    statements_of_run (elaborated_program no_columns_at_all (before_all []) (program_from (
+    statements_of_run (becomes_alone no_columns_at_all (program_from (
     declares 10 bigint_word (codes "i") ∷ declares 12 five_characters (codes "v")
     ∷ method_at 60 (codes "m") (parameter_at 70 bigint_word (codes "a") ∷ in_out_at 72 bigint_word (codes "b") ∷ []) None None []
     ∷ method_at 80 (codes "run") [] None None (calls 130 (codes "m") (name_at 132 (codes "i") ∷ name_at 135 second ∷ []) ∷ []) ∷ [])))

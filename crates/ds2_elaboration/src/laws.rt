@@ -2,13 +2,14 @@
 ghost use Rattle.ds2_elaboration.specs.ElaborationLaws.{FirstRefusals, OneOutcome, ReturningIsKept};
 ghost use Rattle.ds2_elaboration.specs.TypedForms.{EveryFormIsTyped};
 ghost use Rattle.ds2_elaboration.specs.TextPrograms.{EveryTextIsTyped, TokensStandInOrder};
-ghost use Rattle.ds2_elaboration.specs.TypedPrograms.{EveryMethodIsTyped, EveryProgramIsTyped, EverySourceIsTyped};
+ghost use Rattle.ds2_elaboration.specs.TypedPrograms.{EveryMethodIsTyped, EveryUnitIsTyped, EverySourceIsTyped, EveryThreadIsTyped};
 ghost use Rattle.ds2_elaboration.specs.TypedScopes.{ExpressionsAreTyped, StatementsAreTyped};
 ghost use Rattle.ds2_elaboration.specs.OperatorExamples.{OperatorExamples, TruthTypeExamples, AssignmentExamples};
 ghost use Rattle.ds2_elaboration.specs.CallExamples.{FunctionExamples, MethodCallExamples, ChoiceTypeExamples};
 ghost use Rattle.ds2_elaboration.specs.SourceExamples.{ProgramTypeExamples, TwoProgramExamples, LayoutExamples};
-ghost use Rattle.ds2_elaboration.specs.ListingExamples.{AssignedSourceExamples, DomainExamples, ListedColumnExamples, ThreadLayoutExamples};
+ghost use Rattle.ds2_elaboration.specs.ListingExamples.{AssignedSourceExamples, SettableExamples, ListedColumnExamples, ThreadLayoutExamples};
 ghost use Rattle.ds2_elaboration.specs.VariableExamples.{UnjoinedColumnExamples, VariableTypeExamples};
+ghost use Rattle.ds2_elaboration.specs.PackageExamples.{InstanceTypeExamples, HashTypeExamples, ThreadTypeExamples};
 
 /// Operators between operands, in small statements.
 pub fn operator_examples()
@@ -65,9 +66,24 @@ pub fn assigned_source_examples()
     ensures { AssignedSourceExamples }
 {}
 
-/// Sources inside and outside of the domain, and what may be set.
-pub fn domain_examples()
-    ensures { DomainExamples }
+/// What may be set.
+pub fn settable_examples()
+    ensures { SettableExamples }
+{}
+
+/// Instances of packages, in small sources.
+pub fn instance_type_examples()
+    ensures { InstanceTypeExamples }
+{}
+
+/// Hash objects, in a small source.
+pub fn hash_type_examples()
+    ensures { HashTypeExamples }
+{}
+
+/// Thread programs, in small sources.
+pub fn thread_type_examples()
+    ensures { ThreadTypeExamples }
 {}
 
 /// Layouts of programs with parameters, instances and thread programs.
@@ -100,25 +116,37 @@ pub fn statements_are_typed()
     ensures { StatementsAreTyped }
 {}
 
-/// The methods of a data program that breaks no rule of names or types become typed methods, and its system methods typed bodies.
+/// The methods of a data or thread program that breaks no rule of names or types become typed methods, and its system methods typed
+/// bodies.
 pub fn every_method_is_typed()
     ensures { EveryMethodIsTyped }
-{
-    ds2_value::laws::join_takes_both();
-}
-
-/// A data program that breaks no rule of names or types becomes a typed program.
-pub fn every_program_is_typed()
-    ensures { EveryProgramIsTyped }
 {
     ds2_value::laws::join_takes_both();
     ds2_value::laws::takes_itself();
     ds2_value::laws::takes_onward();
 }
 
-/// What a source of data programs without instances becomes, where it is not refused, is typed programs.
+/// A unit that breaks no rule of names or types becomes a typed program, or a package whose instances are typed.
+pub fn every_unit_is_typed()
+    ensures { EveryUnitIsTyped }
+{
+    ds2_value::laws::join_takes_both();
+    ds2_value::laws::takes_itself();
+    ds2_value::laws::takes_onward();
+}
+
+/// What a source becomes, where it is not refused, is typed data programs.
 pub fn every_source_is_typed()
     ensures { EverySourceIsTyped }
+{
+    ds2_value::laws::join_takes_both();
+    ds2_value::laws::takes_itself();
+    ds2_value::laws::takes_onward();
+}
+
+/// The thread programs of a source that is not refused are typed, whether a program reads from them or not.
+pub fn every_thread_is_typed()
+    ensures { EveryThreadIsTyped }
 {
     ds2_value::laws::join_takes_both();
     ds2_value::laws::takes_itself();
@@ -130,7 +158,7 @@ pub fn tokens_stand_in_order()
     ensures { TokensStandInOrder }
 {}
 
-/// What a text becomes whose tokens are a source of data programs without instances, where it is not refused, is typed programs.
+/// What a text becomes whose tokens are a source, where it is not refused, is typed data programs.
 pub fn every_text_is_typed()
     ensures { EveryTextIsTyped }
 {
@@ -139,13 +167,12 @@ pub fn every_text_is_typed()
     ds2_value::laws::takes_onward();
 }
 
-/// Of the broken rules of a program the one with the least place is given, and at one place the first kind.
+/// Of the broken rules of a unit the one with the least place is given, and at one place the first kind.
 pub fn first_refusals()
     ensures { FirstRefusals }
 {}
 
-/// A program without instances becomes its typed program, is refused for its names, or for its types, and each exactly where the
-/// rules say so.
+/// A unit is not refused, is refused for its names, or for its types, and each exactly where the rules say so.
 pub fn one_outcome()
     ensures { OneOutcome }
 {}

@@ -1,5 +1,6 @@
 pub mod IfOks
 pub mod KnownNames
+pub mod ObjectForms
 pub mod FirstPlaces
 pub mod FunctionForms
 pub mod References

@@ -10,6 +10,9 @@ use Rattle.ds2_token.specs.Values.{token_integer, token_decimal, token_text}
 use Rattle.ds2_token.specs.Words.{is_integer, is_decimal, is_word}
 use Rattle.ds2_decimal.specs.Decimal.{Decimal}
 use Rattle.ds2_value.specs.declared.ty.Ty.{Ty}
+use Rattle.ds2_value.specs.declared.hash_function.HashFunction.{HashFunction}
+use Rattle.ds2_value.specs.declared.hash_function.HashFunction.TheVariants.{NumItems}
+use Rattle.ds2_value.specs.declared.hash_function.IteratorFunction.{IteratorFunction}
 use Rattle.ds2_tree.specs.Expressions.{Expression, Constant, Null, Variable, Member, Call, Parenthesis, Sign, Chain, Comparison, Not}
 use Rattle.ds2_tree.specs.Globals.{Method}
 use Rattle.ds2_tree.specs.declared.expressions.Callee.{Callee}
@@ -20,12 +23,13 @@ use Rattle.ds2_meaning.specs.ProgramTree.{is_listed}
 use Rattle.ds2_meaning.specs.declared.expressions.Function.TheVariants as function
 use Rattle.ds2_meaning.specs.declared.location.Global.TheVariants.{First, Last}
 use Rattle.ds2_meaning.specs.declared.location.Reference.{Reference}
+use Rattle.ds2_names.specs.NameRules.{is_flag_word}
 use Rattle.ds2_names.specs.SourceUnit.{spelled_name}
 use Rattle.ds2_names.specs.Uses.{method_named}
 use Rattle.ds2_elaboration.specs.SourceTypes.{elaborated_parameters, returned_type}
 use Rattle.ds2_elaboration.specs.FunctionTypes.{ElaboratedArgument, nodes_in_order, of_one_node, elaborated_null_test, elaborated_function, form_of_one, form_of_several, form_of_two, elaborated_part, elaborated_absolute, elaborated_whole, elaborated_length, elaborated_trim, elaborated_coalesce, elaborated_extreme, elaborated_many}
-use Rattle.ds2_elaboration.specs.Typings.{ElaboratedExpression, elaborated_nameless, form_of_operands, is_integer_type, widened_node}
-use Rattle.ds2_elaboration.specs.ExpressionTypes.{TypeScope, KnownVariable, ElaboratedArguments, known_variable, value_of_variable, elaborated_variable, flag_node, elaborated_flag, is_settable_reference, reference_in, constant_node, integer_node, decimal_node, text_node, elaborated_call, method_or_function_call, result_of_method, elaborated, elaborated_arguments, arguments_for, number_of_method, text_within}
+use Rattle.ds2_elaboration.specs.Typings.{ElaboratedExpression, elaborated_nameless, form_of_operands, form_of_type, is_integer_type, widened_node}
+use Rattle.ds2_elaboration.specs.ExpressionTypes.{TypeScope, KnownVariable, ElaboratedArguments, known_variable, value_of_variable, elaborated_variable, flag_node, elaborated_flag, is_settable_reference, reference_in, constant_node, integer_node, decimal_node, text_node, elaborated_call, method_or_function_call, result_of_method, elaborated, elaborated_arguments, arguments_for, number_of_method, text_within, ObjectCalls, InstanceCalls, HashCalls, IteratorCalls, ParameterCalls, object_in_scope, member_of_object, elaborated_member, hash_function_named, iterator_function_named, elaborated_hash_call, elaborated_iterator_call, elaborated_instance_call, elaborated_object_call}
 use Rattle.std.specs.Prelude.{option_and_then}
 use Rattle.ds2_expression_walk.specs.Scopes.{reference_of, known_in, IsKnownAs, IsScopeOf}
 use Rattle.ds2_expression_walk.specs.declared.scopes.KnownName.{KnownName}
@@ -150,14 +154,50 @@ no_function t [] = refl
 no_function t (x ∷ []) = no_one (spelled_name t) t.place x
 no_function t (x ∷ y ∷ more) = no_several (spelled_name t) t.place x y more
 
-no_result : (place : Place) (number : ℕ) (arguments : ElaboratedArguments) (ty : Option Ty) → IsNone (result_of_method place number arguments ty)
-no_result place number arguments None = refl
-no_result place number arguments (Some ty) = refl
+no_result : (place : Place) (instance : Option (List ℕ)) (number : ℕ) (arguments : ElaboratedArguments) (ty : Option Ty)
+    → IsNone (result_of_method place instance number arguments ty)
+no_result place instance number arguments None = refl
+no_result place instance number arguments (Some ty) = refl
 
 no_named : (types : TypeScope) (name : Token) (xs : List ElaboratedArgument) (m : Option Method) → IsNone (method_or_function_call types name xs m)
 no_named types name xs None = no_function name xs
 no_named types name xs (Some m) =
-    no_result name.place (number_of_method types.methods (spelled_name name)) (arguments_for name.place (elaborated_parameters m) xs) (returned_type m.returns)
+    no_result name.place None (number_of_method types.methods (spelled_name name)) (arguments_for name.place (elaborated_parameters m) xs) (returned_type m.returns)
+
+no_instance_call : (object name : Token) (methods : List Method) (xs : List ElaboratedArgument) (m : Option Method) → IsNone (elaborated_instance_call object name methods xs m)
+no_instance_call object name methods xs None = refl
+no_instance_call object name methods xs (Some m) =
+    no_result name.place (Some (spelled_name object)) (number_of_method methods (spelled_name name)) (arguments_for name.place (elaborated_parameters m) xs) (returned_type m.returns)
+
+no_hash_call : (object name : Token) (f : Option HashFunction) → IsNone (elaborated_hash_call object name f)
+no_hash_call object name None = refl
+no_hash_call object name (Some f) = refl
+
+no_iterator_call : (object name : Token) (f : Option IteratorFunction) → IsNone (elaborated_iterator_call object name f)
+no_iterator_call object name None = refl
+no_iterator_call object name (Some f) = refl
+
+no_object_value : (object name : Token) (xs : List ElaboratedArgument) (calls : Option ObjectCalls) → IsNone (elaborated_object_call object name xs calls)
+no_object_value object name xs None = refl
+no_object_value object name xs (Some (InstanceCalls methods)) = no_instance_call object name methods xs (method_named methods (spelled_name name))
+no_object_value object name xs (Some HashCalls) = no_hash_call object name (hash_function_named (spelled_name name))
+no_object_value object name xs (Some IteratorCalls) = no_iterator_call object name (iterator_function_named (spelled_name name))
+no_object_value object name xs (Some (ParameterCalls parameters)) = refl
+
+-- ---- members
+
+no_object_member : (object member : Token) (calls : Option ObjectCalls) → IsNone (member_of_object object member calls)
+no_object_member object member None = refl
+no_object_member object member (Some (InstanceCalls methods)) = refl
+no_object_member object member (Some HashCalls) =
+    none_either (bytes_eq (spelled_name member) (codes "num_items")) (form_of_type BigInt [] (tree.HashCalled (spelled_name object) NumItems)) (elaborated_nameless object.place) refl refl
+no_object_member object member (Some IteratorCalls) = refl
+no_object_member object member (Some (ParameterCalls parameters)) = refl
+
+no_member : (types : TypeScope) (object member : Token) → IsNone (elaborated_member types object member)
+no_member types object member =
+    none_either (is_flag_word object) (elaborated_flag types object member) (member_of_object object member (object_in_scope types (spelled_name object)))
+    (no_flag_variable types object member) (no_object_member object member (object_in_scope types (spelled_name object)))
 
 no_null_test : (word : Place) (xs : List ElaboratedArgument) → IsNone (elaborated_null_test word xs)
 no_null_test word [] = refl
@@ -167,7 +207,7 @@ no_null_test word (x ∷ y ∷ xs) = refl
 no_call : (types : TypeScope) (f : Callee) (xs : List ElaboratedArgument) → IsNone (elaborated_call types f xs)
 no_call types (callee.Function name) xs = no_named types name xs (method_named types.methods (spelled_name name))
 no_call types (callee.Null keyword) xs = no_null_test keyword.place xs
-no_call types (callee.Method object dot method) xs = refl
+no_call types (callee.Method object dot method) xs = no_object_value object method xs (object_in_scope types (spelled_name object))
 
 -- ---- expressions
 
@@ -182,7 +222,7 @@ pub no_reference : (types : TypeScope) (e : Expression) → IsOther e → refere
 no_reference types (Constant t) h = no_constant t
 no_reference types (Null keyword) h = refl
 no_reference types (Variable name) h = absurd h
-no_reference types (Member object dot member) h = no_flag_variable types object member
+no_reference types (Member object dot member) h = no_member types object member
 no_reference types (Call f opening arguments closing) h = no_call types f (elaborated_arguments types arguments)
 no_reference types (Parenthesis opening inner closing) h = absurd h
 no_reference types (Sign operator operand) h = refl

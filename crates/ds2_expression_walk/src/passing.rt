@@ -1,10 +1,11 @@
 //! Arguments of methods: by value, or variables that are handed in and out.
-ghost use Rattle.std.specs.Prelude.{◌≡◌, ◌++◌, ◌∷◌, [], ℕ, false, List as Items, IfOk, Err, Some, None, map, is_some};
+ghost use Rattle.std.specs.Prelude.{◌≡◌, ◌++◌, ◌∷◌, [], false, List as Items, IfOk, Err, Some, None, map, is_some};
+ghost use Rattle.std.specs.Option.{option_copied};
 ghost use Rattle.ds2_value.specs.Types.{same_ty};
 ghost use Rattle.ds2_base.specs.declared.place.Place.{Place as PlaceOf};
 ghost use Rattle.ds2_elaboration.specs.ExpressionTypes.{ElaboratedArguments, reference_in, result_of_method};
 ghost use Rattle.ds2_elaboration.specs.FunctionTypes.{ElaboratedArgument};
-ghost use Rattle.ds2_elaboration.specs.Typings.{TypeRefusals, clash_unless, where_known};
+ghost use Rattle.ds2_elaboration.specs.Typings.{TypeRefusals, clash_unless, form_of_operands, where_known};
 ghost use Rattle.ds2_meaning.specs.TypedExpression as tree;
 ghost use Rattle.ds2_meaning.specs.View.{Part, in_a_row, typed_expression, argument_tree};
 ghost use Rattle.ds2_types.specs.Judgements.{first_type_refusal, typing_of, node_tree, IsJudged, Judges, ruled};
@@ -12,7 +13,7 @@ ghost use Rattle.ds2_expression_walk.specs.FurtherArguments.{arguments_and};
 ghost use Rattle.ds2_expression_walk.specs.Passing.{part_of_value, part_of_variable, lent_variable, passed_part, passed_refusals, IsByValue, IsLent, IsPassed, ArePassed, AreAllPassed};
 
 use crate::scopes::KnownMethod;
-use ds2_base::{List, OutOfMemory, Place, Refusal};
+use ds2_base::{List, Name, OutOfMemory, Place, Refusal};
 use ds2_meaning::{Argument, Call, Expression, Parameter, Reference, TypeKind};
 use ds2_types::assignment::assigned_value;
 use ds2_types::judgement::{Judgement, Node, Outcome, Typing};
@@ -211,13 +212,26 @@ pub fn counted_arguments(as_many: bool, name: Place, arguments: PassedArguments)
     }
 }
 
-/// The tree of a call of the unit's method of this number.
-fn call_of(number: u32, arguments: List<Argument>, ty: Ty) -> Expression
-    ensures { typed_expression result ≡ tree.Called None number (in_a_row (map argument_tree arguments) tree.NoArgument) ty }
+/// The name of an instance, where there is one.
+pub fn copied(alloc: Global, instance: Option<&Name>) -> Result<Option<Name>, OutOfMemory>
+    ensures { IfOk result (λ name. name ≡ option_copied instance.entry) }
+{
+    match instance {
+        None => Ok(None),
+        Some(name) => {
+            let own = name.copy(alloc)?;
+            Ok(Some(own))
+        }
+    }
+}
+
+/// The tree of a call of the method of this number, of an instance or of the unit itself.
+fn call_of(instance: Option<Name>, number: u32, arguments: List<Argument>, ty: Ty) -> Expression
+    ensures { typed_expression result ≡ tree.Called instance number (in_a_row (map argument_tree arguments) tree.NoArgument) ty }
 {
     Expression::Called {
         call: Call {
-            instance: None,
+            instance,
             method: number,
             arguments,
         },
@@ -225,27 +239,29 @@ fn call_of(number: u32, arguments: List<Argument>, ty: Ty) -> Expression
     }
 }
 
-/// A call of the unit's method of this number.
+/// A call of the method of this number, of an instance or of the unit itself.
 fn called(
     alloc: Global,
+    instance: Option<Name>,
     number: u32,
     arguments: List<Argument>,
     ty: Ty,
 ) -> Result<Node, OutOfMemory>
-    ensures { IfOk result (λ n. node_tree n ≡ tree.Called None number (in_a_row (map argument_tree arguments) tree.NoArgument) ty) }
+    ensures { IfOk result (λ n. node_tree n ≡ tree.Called instance number (in_a_row (map argument_tree arguments) tree.NoArgument) ty) }
 {
-    let tree = Box::new(alloc, call_of(number, arguments, ty))?;
+    let tree = Box::new(alloc, call_of(instance, number, arguments, ty))?;
     Ok(Node { ty, tree })
 }
 
-/// The result of a method that returns this type.
+/// The result of a method that returns this type, of an instance or of the unit itself.
 fn with_result(
     alloc: Global,
+    instance: Option<&Name>,
     number: u32,
     ty: Ty,
     arguments: PassedArguments,
 ) -> Result<Judgement, OutOfMemory>
-    ensures { (name : PlaceOf) (a : ElaboratedArguments) → AreAllPassed a arguments → Judges (result_of_method name number a (Some ty)) result }
+    ensures { (name : PlaceOf) (a : ElaboratedArguments) → AreAllPassed a arguments → Judges (result_of_method name (option_copied instance.entry) number a (Some ty)) result }
 {
     match arguments {
         Err(refusal) => Ok(Judgement {
@@ -253,7 +269,8 @@ fn with_result(
             outcome: Err(refusal),
         }),
         Ok(arguments) => {
-            let node = called(alloc, number, arguments, ty)?;
+            let own = copied(alloc, instance)?;
+            let node = called(alloc, own, number, arguments, ty)?;
             Ok(Judgement {
                 typing: Typing::Known(ty),
                 outcome: Ok(node),
@@ -272,9 +289,9 @@ fn broken_arguments(arguments: PassedArguments, clash: Refusal<TypeKind>) -> Ref
     }
 }
 
-/// A method without a result, which may not stand in an expression: TypeClash at its name.
-fn without_result(name: Place, arguments: PassedArguments) -> Judgement
-    ensures { (number : ℕ) (a : ElaboratedArguments) → AreAllPassed a arguments → IsJudged (result_of_method name number a None) result }
+/// What returns nothing, which may not stand in an expression: TypeClash at its name.
+pub fn without_result(name: Place, arguments: PassedArguments) -> Judgement
+    ensures { (node : tree.TypedExpression) (a : ElaboratedArguments) → AreAllPassed a arguments → IsJudged (form_of_operands (a.refusals ++ clash_unless false name) node) result }
 {
     Judgement {
         typing: Typing::Unknown,
@@ -282,17 +299,18 @@ fn without_result(name: Place, arguments: PassedArguments) -> Judgement
     }
 }
 
-/// The result of a method, with its arguments.
+/// The result of a method, of an instance or of the unit itself, with its arguments.
 pub fn result_of(
     alloc: Global,
     name: Place,
+    instance: Option<&Name>,
     method: &KnownMethod,
     arguments: PassedArguments,
 ) -> Result<Judgement, OutOfMemory>
-    ensures { (a : ElaboratedArguments) → AreAllPassed a arguments → Judges (result_of_method name method.now.number a method.now.returns) result }
+    ensures { (a : ElaboratedArguments) → AreAllPassed a arguments → Judges (result_of_method name (option_copied instance.entry) method.now.number a method.now.returns) result }
 {
     match method.returns {
-        Some(ty) => with_result(alloc, method.number, ty, arguments),
+        Some(ty) => with_result(alloc, instance, method.number, ty, arguments),
         None => Ok(without_result(name, arguments)),
     }
 }

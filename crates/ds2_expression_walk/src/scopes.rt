@@ -3,7 +3,7 @@ ghost use Rattle.std.specs.Prelude.{◌≡◌, nat_eq};
 ghost use Rattle.std.specs.Cmp.Lexicographic.{pointwise};
 ghost use Rattle.std.specs.HashMap.{get};
 ghost use Rattle.std.specs.Option.{option_copied};
-ghost use Rattle.ds2_expression_walk.specs.Scopes.{known_in};
+ghost use Rattle.ds2_expression_walk.specs.Scopes.{known_in, object_in};
 
 use ds2_base::{Bytes, List, Name, Refusal};
 use ds2_meaning::{Parameter, TypeKind};
@@ -17,6 +17,8 @@ pub enum Standing {
     Local,
     /// A declared variable or a column.
     Variable,
+    /// A parameter of a thread program.
+    Parameter,
     /// The flag that an input table's `in=` names.
     Flag,
 }
@@ -38,6 +40,26 @@ pub struct KnownMethod {
     pub returns: Option<Ty>,
 }
 
+/// What can be called on an object.
+#[derive(Drop)]
+pub enum KnownCalls {
+    /// The methods of the package that an instance is one of.
+    Methods(KnownMethods),
+    /// Those of a hash object.
+    Hash,
+    /// Those of an iterator.
+    Iterator,
+    /// `setparms` of an instance of a thread program with these parameters, none of which is in_out.
+    Parameters(List<Parameter>),
+}
+
+/// An object that a unit declares, with what can be called on it.
+#[derive(Drop)]
+pub struct KnownObject {
+    pub name: Name,
+    pub calls: KnownCalls,
+}
+
 /// Variables by their names.
 pub type KnownNames = HashMap<Bytes, KnownName>;
 
@@ -47,14 +69,25 @@ pub type KnownBys = HashMap<Bytes, Name>;
 /// Methods by their names.
 pub type KnownMethods = HashMap<Bytes, KnownMethod>;
 
+/// Objects by their names.
+pub type KnownObjects = HashMap<Bytes, KnownObject>;
+
 /// What the names of a method stand for: its parameters and locals, behind them the variables of the unit, the BY variables of
-/// what it reads, and its methods.
+/// what it reads, its methods, and its objects.
 #[derive(Clone, Copy)]
 pub struct Scope<'a> {
     pub locals: &'a KnownNames,
     pub globals: &'a KnownNames,
     pub bys: &'a KnownBys,
     pub methods: &'a KnownMethods,
+    pub objects: &'a KnownObjects,
+}
+
+/// The one of these methods that has a name.
+pub fn method_among<'m>(methods: &'m KnownMethods, name: &Bytes) -> Option<&'m KnownMethod>
+    ensures { option_copied result ≡ get (pointwise nat_eq) methods.now name.now }
+{
+    methods.get(name)
 }
 
 impl Scope<'_> {
@@ -80,5 +113,16 @@ impl Scope<'_> {
         ensures { option_copied result ≡ get (pointwise nat_eq) self.now.methods.now name.now }
     {
         self.methods.get(name)
+    }
+
+    /// The object of a name; a parameter or local hides it.
+    pub fn object(&self, name: &Bytes) -> Option<&KnownObject>
+        ensures { option_copied result ≡ object_in self.now name.now }
+    {
+        let local = self.locals.get(name);
+        match local {
+            Some(_) => None,
+            None => self.objects.get(name),
+        }
     }
 }

@@ -27,6 +27,10 @@ fn settable_known(alloc: Global, known: &KnownName) -> Result<Option<Reference>,
             let found = reference(alloc, &known.name, Standing::Variable)?;
             Ok(Some(found))
         }
+        Standing::Parameter => {
+            let found = reference(alloc, &known.name, Standing::Parameter)?;
+            Ok(Some(found))
+        }
         Standing::Flag => Ok(None),
     }
 }

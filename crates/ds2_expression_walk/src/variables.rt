@@ -1,12 +1,14 @@
 //! The values of names: variables, and the flags of BY variables.
 ghost use Rattle.std.specs.Prelude.{◌≡◌, [], IfOk, None};
-ghost use Rattle.ds2_elaboration.specs.ExpressionTypes.{TypeScope, KnownVariable, flag_node, variable_node, elaborated_flag, elaborated_variable};
+ghost use Rattle.ds2_elaboration.specs.ExpressionTypes.{TypeScope, KnownVariable, flag_node, variable_node, elaborated_flag, elaborated_member, elaborated_variable};
 ghost use Rattle.ds2_elaboration.specs.Typings.{form_of_operands};
+ghost use Rattle.ds2_names.specs.NameRules.{is_flag_word};
 ghost use Rattle.ds2_expression_walk.specs.Flags.{flag_named, flag_form};
 ghost use Rattle.ds2_expression_walk.specs.Scopes.{reference_of, IsKnownVariable, IsScopeOf};
 ghost use Rattle.ds2_types.specs.Judgements.{Judges};
 
 use crate::names::{nameless, spelled_name};
+use crate::objects::object_member;
 use crate::scopes::{KnownName, Scope, Standing};
 use ds2_base::{Name, OutOfMemory};
 use ds2_meaning::{Global, Reference};
@@ -29,6 +31,7 @@ pub fn reference(
     match standing {
         Standing::Local => Ok(Reference::Local(name)),
         Standing::Variable => Ok(Reference::At(Global::Named(name))),
+        Standing::Parameter => Ok(Reference::At(Global::Parameter(name))),
         Standing::Flag => Ok(Reference::At(Global::Present(name))),
     }
 }
@@ -105,7 +108,7 @@ fn flag_of(alloc: Allocator, object: &Token, name: &Name) -> Result<Judgement, O
 }
 
 /// `first.v` and `last.v` of a BY variable.
-pub fn flag(
+fn flag(
     alloc: Allocator,
     scope: &Scope<'_>,
     object: &Token,
@@ -117,5 +120,29 @@ pub fn flag(
     match scope.by_variable(&spelled) {
         None => Ok(nameless(object.place)),
         Some(name) => flag_of(alloc, object, name),
+    }
+}
+
+/// A word that names a flag of a BY variable before a point.
+fn is_flag_word(object: &Token) -> bool
+    ensures { result ≡ is_flag_word object.now }
+{
+    object.is_word("first") || object.is_word("last")
+}
+
+/// What stands behind a name and a point, without an argument list: a flag of a BY variable, or the number of items of a hash object.
+pub fn member_value(
+    alloc: Allocator,
+    scope: &Scope<'_>,
+    object: &Token,
+    member: &Token,
+) -> Result<Judgement, OutOfMemory>
+    ensures { (types : TypeScope) → IsScopeOf types scope.now → Judges (elaborated_member types object.now member.now) result }
+{
+    let is_flag = is_flag_word(object);
+    if is_flag {
+        flag(alloc, scope, object, member)
+    } else {
+        object_member(alloc, scope, object, member)
     }
 }

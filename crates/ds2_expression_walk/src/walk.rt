@@ -1,9 +1,13 @@
 //! Expressions: what is known of their types, and their typed trees or the rules that they break.
-ghost use Rattle.std.specs.Prelude.{◌≡◌, ◌++◌, ◌∷◌, [], true, false, List as Items, IfOk};
-ghost use Rattle.ds2_elaboration.specs.ExpressionTypes.{TypeScope, is_truth_chain, arguments_for, elaborated_named_call, elaborated_call, elaborated_chain, value_links, truth_links, elaborated, elaborated_arguments};
-ghost use Rattle.ds2_elaboration.specs.Typings.{TypeRefusals, ElaboratedExpression};
+ghost use Rattle.std.specs.Prelude.{◌≡◌, ◌++◌, ◌∷◌, [], true, false, List as Items, IfOk, Some, map};
+ghost use Rattle.ds2_elaboration.specs.ExpressionTypes.{TypeScope, ObjectCalls, is_truth_chain, arguments_for, values_for, object_in_scope, elaborated_named_call, elaborated_instance_call, elaborated_object_call, elaborated_call, elaborated_chain, value_links, truth_links, elaborated, elaborated_arguments};
+ghost use Rattle.ds2_elaboration.specs.Typings.{TypeRefusals, ElaboratedExpression, clash_unless, form_of_operands};
 ghost use Rattle.ds2_meaning.specs.IsTyped.{expression_type};
 ghost use Rattle.ds2_meaning.specs.TypedExpression as typed;
+ghost use Rattle.ds2_meaning.specs.declared.globals.Variable.{Variable};
+ghost use Rattle.ds2_names.specs.SourceUnit.{spelled_name};
+ghost use Rattle.ds2_names.specs.Uses.{method_named};
+ghost use Rattle.ds2_tree.specs.Globals.{Method};
 ghost use Rattle.ds2_meaning.specs.View.{Part};
 ghost use Rattle.ds2_tree.specs.ExpressionViews.{expression_tree, operands_of, arguments_of};
 ghost use Rattle.ds2_types.specs.Judgements.{IsOutcome, IsJudged, Judges};
@@ -13,17 +17,18 @@ ghost use Rattle.ds2_expression_walk.specs.ArgumentTrees.{argument_in};
 ghost use Rattle.ds2_expression_walk.specs.ChainForms.{chain_behind};
 ghost use Rattle.ds2_expression_types.specs.Growth.{IsGrownChain, IsGrowth};
 ghost use Rattle.ds2_expression_walk.specs.Passing.{ArePassed, AreAllPassed, passed_part, passed_refusals};
-ghost use Rattle.ds2_expression_walk.specs.Scopes.{IsScopeOf};
+ghost use Rattle.ds2_expression_walk.specs.Scopes.{AreKnownMethods, IsKnownObject, IsScopeOf, value_parameter};
 
 use crate::named_functions::{function, null_call};
 use crate::names::{nameless, spelled_name};
+use crate::objects::{hash_call, iterator_call};
 use crate::parameters::{first_parameter, further_parameters, have_arguments};
-use crate::passing::{PassedArguments, counted_arguments, pass, result_of};
+use crate::passing::{PassedArguments, counted_arguments, pass, result_of, without_result};
 use crate::places::first_place;
-use crate::scopes::Scope;
+use crate::scopes::{KnownCalls, KnownMethods, KnownObject, Scope, method_among};
 use crate::settable::lent_variable;
-use crate::variables::{flag, variable};
-use ds2_base::{List, OutOfMemory, Place};
+use crate::variables::{member_value, variable};
+use ds2_base::{List, Name, OutOfMemory, Place};
 use ds2_expression_types::constants::{constant_value, null_value};
 use ds2_expression_types::growth::{
     GrownOutcome, Growth, finished, finished_truth, grow, grow_truth, seed, seed_truth,
@@ -176,8 +181,93 @@ fn named_call(
         Some(method) => {
             let parameters = method.parameters.as_slice();
             let passed = passed_arguments(alloc, scope, arguments, name.place, parameters)?;
-            result_of(alloc, name.place, method, passed)
+            result_of(alloc, name.place, None, method, passed)
         }
+    }
+}
+
+/// A call of a method of an instance of a package with these methods.
+#[cycle(judge)]
+fn instance_call(
+    alloc: Global,
+    scope: &Scope<'_>,
+    instance: &Name,
+    methods: &KnownMethods,
+    object: &Token,
+    name: &Token,
+    arguments: &[Argument],
+) -> Result<Judgement, OutOfMemory>
+    ensures { (types : TypeScope) (sources : Items Method) → IsScopeOf types scope.now → AreKnownMethods sources methods.now → instance.now ≡ spelled_name object.now
+        → Judges (elaborated_instance_call object.now name.now sources (elaborated_arguments types (arguments_of arguments.now)) (method_named sources (spelled_name name.now))) result }
+{
+    let spelled = spelled_name(alloc, name)?;
+    match method_among(methods, &spelled) {
+        None => Ok(nameless(object.place)),
+        Some(method) => {
+            let parameters = method.parameters.as_slice();
+            let passed = passed_arguments(alloc, scope, arguments, name.place, parameters)?;
+            result_of(alloc, name.place, Some(instance), method, passed)
+        }
+    }
+}
+
+/// `setparms` of an instance of a thread program with these parameters: it returns nothing, so it is TypeClash at its name.
+#[cycle(judge)]
+fn setting(
+    alloc: Global,
+    scope: &Scope<'_>,
+    parameters: &[Parameter],
+    name: &Token,
+    arguments: &[Argument],
+) -> Result<Judgement, OutOfMemory>
+    ensures { (types : TypeScope) (variables : Items Variable) (node : typed.TypedExpression) → IsScopeOf types scope.now → parameters.now ≡ map value_parameter variables
+        → Judges (form_of_operands ((values_for name.now.place variables (elaborated_arguments types (arguments_of arguments.now))).refusals ++ clash_unless false name.now.place) node) result }
+{
+    let passed = passed_arguments(alloc, scope, arguments, name.place, parameters)?;
+    Ok(without_result(name.place, passed))
+}
+
+/// A call on an object that is known.
+#[cycle(judge)]
+fn known_call(
+    alloc: Global,
+    scope: &Scope<'_>,
+    known: &KnownObject,
+    object: &Token,
+    name: &Token,
+    arguments: &[Argument],
+) -> Result<Judgement, OutOfMemory>
+    ensures { (types : TypeScope) (calls : ObjectCalls) → IsScopeOf types scope.now → IsKnownObject (spelled_name object.now) known.now calls
+        → Judges (elaborated_object_call object.now name.now (elaborated_arguments types (arguments_of arguments.now)) (Some calls)) result }
+{
+    match &known.calls {
+        KnownCalls::Methods(methods) => {
+            instance_call(alloc, scope, &known.name, methods, object, name, arguments)
+        }
+        KnownCalls::Hash => hash_call(alloc, &known.name, object, name),
+        KnownCalls::Iterator => iterator_call(alloc, &known.name, object, name),
+        KnownCalls::Parameters(parameters) => {
+            setting(alloc, scope, parameters.as_slice(), name, arguments)
+        }
+    }
+}
+
+/// A call on an object.
+#[cycle(judge)]
+fn object_call(
+    alloc: Global,
+    scope: &Scope<'_>,
+    object: &Token,
+    name: &Token,
+    arguments: &[Argument],
+) -> Result<Judgement, OutOfMemory>
+    ensures { (types : TypeScope) → IsScopeOf types scope.now
+        → Judges (elaborated_object_call object.now name.now (elaborated_arguments types (arguments_of arguments.now)) (object_in_scope types (spelled_name object.now))) result }
+{
+    let spelled = spelled_name(alloc, object)?;
+    match scope.object(&spelled) {
+        None => Ok(nameless(object.place)),
+        Some(known) => known_call(alloc, scope, known, object, name, arguments),
     }
 }
 
@@ -197,7 +287,9 @@ fn call(
             let judged = judged_arguments(alloc, scope, arguments)?;
             null_call(alloc, keyword.place, judged)
         }
-        Callee::Method { object, .. } => Ok(nameless(object.place)),
+        Callee::Method { object, method, .. } => {
+            object_call(alloc, scope, object, method, arguments)
+        }
     }
 }
 
@@ -210,7 +302,7 @@ pub fn judge(alloc: Global, scope: &Scope<'_>, e: &Expression) -> Result<Judgeme
         Expression::Constant(token) => constant_value(alloc, token),
         Expression::Null(keyword) => null_value(alloc, keyword.place),
         Expression::Variable(name) => variable(alloc, scope, name),
-        Expression::Member { object, member, .. } => flag(alloc, scope, object, member),
+        Expression::Member { object, member, .. } => member_value(alloc, scope, object, member),
         Expression::Call {
             callee,
             arguments,

@@ -26,7 +26,7 @@ use Rattle.ds2_scope.specs.Earliest.{earlier_of, earliest}
 use Rattle.ds2_scope.specs.NameSets.{HasNames}
 use Rattle.ds2_given_names.specs.OutputParts.{is_given, AreLists, passes_lists, AreStatementLists, AreOptionLists, new_name_of, HasNewNames, columns_by, earlier_new, first_new, new_if_named, first_new_of, is_new_behind, clashes, is_null_output, clashing_in}
 use Rattle.ds2_given_names.specs.OutputRules.{earlier_of_both, BreaksRealOutput, BreaksOutput, BreaksOutputs}
-use Rattle.ds2_scope.specs.ProgramNames.{NamesAre}
+use Rattle.ds2_scope.specs.UnitNames.{NamesAre}
 use Rattle.ds2_scope.specs.NamedPlaces.{stands_behind}
 use Rattle.ds2_scope.proofs.EarliestLemmas as places
 use Rattle.ds2_scope.proofs.EarliestLemmas.{must_not, earlier_of_assoc}
@@ -105,6 +105,20 @@ passes_is s o u options a b name =
     (λ i. ((not (a.has_keep i) || a.kept name i) && not (a.dropped name i)) && ((not (b.has_keep i) || b.kept name i) && not (b.dropped name i)))
     ∙ (λ i. (keep_test ks name i && not (is_listed ds name)) && (keep_test ko name i && not (is_listed do' name)))
     ∙ four_tests (passes_keep ks name) (passes_keep ko name) (is_listed ds name) (is_listed do' name)
+
+two_tests : (a c : Bool) → (a && not c) ≡ (a && true && not c && not false)
+two_tests true true = refl
+two_tests true false = refl
+two_tests false c = refl
+
+-- without options the statements alone tell
+pub passes_left : (s : KeepDrop) (u : UnitSource) → AreStatementLists s u.globals → (name : List ℕ) → passes_lists s name ≡ is_output_column u [] name
+passes_left s u a name =
+    let ks = listed_in_statements (codes "keep") u.globals in
+    let ds = listed_in_statements (codes "drop") u.globals in
+    (λ i. (not (a.has_keep i) || a.kept name i) && not (a.dropped name i))
+    ∙ (λ i. keep_test ks name i && not (is_listed ds name))
+    ∙ two_tests (passes_keep ks name) (is_listed ds name)
 
 -- ---- renamings
 

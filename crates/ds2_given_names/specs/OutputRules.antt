@@ -1,5 +1,8 @@
 -- The earliest places at which outputs break the rules on their columns.
-use Rattle.std.specs.Prelude.{◌≡◌, List}
+use Rattle.std.specs.Prelude.{◌≡◌, List, [], ◌∷◌, Option}
+use Rattle.std.specs.Option.{option_map_or}
+use Rattle.ds2_base.specs.declared.place.Place.{Place}
+use Rattle.ds2_token.specs.declared.token.Token.{Token}
 use Rattle.ds2_tree.specs.declared.units.OutputTable as source_output
 use Rattle.ds2_names.specs.NameRules.{from_each, options_of, clashing_columns}
 use Rattle.ds2_names.specs.SourceUnit.{SourceNames}
@@ -7,6 +10,10 @@ use Rattle.ds2_names.specs.UnitRules.{without_columns, output_without_columns}
 use Rattle.ds2_given_names.specs.declared.output_rules.BrokenOutputs.{BrokenOutputs}
 use Rattle.ds2_scope.specs.Earliest.{earlier_of, earliest}
 use Rattle.ds2_given_names.specs.OutputParts.{clashing_in}
+
+-- the place of a name, where there is one
+abbrev pub name_place : Option Token → List Place
+name_place name = option_map_or (λ (t : Token). t.place ∷ []) name []
 
 -- the earlier places of two
 abbrev pub earlier_of_both : BrokenOutputs → BrokenOutputs → BrokenOutputs

@@ -1,7 +1,8 @@
-//! Names that data programs without instances give: names that are given twice, outputs without a column, and names beyond a limit, each at
-//! the earliest place.
+//! Names that units give: names that are given twice, outputs and thread programs without a column, names beyond a limit, and numbers outside
+//! their bounds, each at the earliest place.
 #![tactic(auto)]
 
+mod left_columns;
 mod limits;
 mod listed;
 mod lists;
@@ -13,6 +14,7 @@ mod renamed;
 mod repetitions;
 mod too_many;
 
+pub use left_columns::columns_left;
 pub use listed::{option_lists, passes_lists, statement_lists};
 pub use lists::KeepDrop;
 pub use renamed::{NewNames, new_names};

@@ -1,21 +1,22 @@
 //! BadNumber, at the number: numbers of types and of threads outside their bounds.
 ghost use Rattle.std.specs.Prelude.{◌≡◌, map};
-ghost use Rattle.ds2_tree.specs.UnitViews.{method_tree, global_tree, data_tree};
+ghost use Rattle.ds2_tree.specs.UnitViews.{method_tree, global_tree};
 ghost use Rattle.ds2_names.specs.NameRules.{from_each, place_unless, spelled_number};
 ghost use Rattle.ds2_names.specs.SourceUnit.{variable_declarations, source_methods};
 ghost use Rattle.ds2_names.specs.UnitRules.{is_between, bad_scale, bad_type_numbers, declared_types, returned_types, bad_threads, bad_reading_number};
 ghost use Rattle.ds2_given_names.specs.NumberOrder.{spelled_behind};
 ghost use Rattle.ds2_given_names.specs.TypeNumbers.{types_in, bad_in_types, bad_in_method, bad_in_reading, bad_numbers_by};
+ghost use Rattle.ds2_scope.specs.CodeUnits.{unit_source};
 ghost use Rattle.ds2_scope.specs.Collected.{methods_in};
 ghost use Rattle.ds2_scope.specs.Earliest.{earliest};
 
 use crate::number_order::is_at_most;
 use ds2_base::Place;
-use ds2_scope::{earlier_of, place_unless};
+use ds2_scope::{Unit, earlier_of, place_unless};
 use ds2_token::Token;
 use ds2_tree::{
-    DataProgram, Declaration, GlobalItem, Method, Parameter, Reading, Returns, Scale, Threads,
-    TypeName, VariableDeclaration,
+    Declaration, GlobalItem, Method, Parameter, Reading, Returns, Scale, Threads, TypeName,
+    VariableDeclaration,
 };
 
 // Whether the number that a token spells is at least and at most so much.
@@ -206,12 +207,16 @@ fn in_all_readings(globals: &[GlobalItem]) -> Option<Place>
     found
 }
 
-/// The earliest number of a program outside its bounds.
-pub(crate) fn bad_number(program: &DataProgram) -> Option<Place>
-    ensures { result ≡ earliest (bad_numbers_by (data_tree program.now)) }
+/// The earliest number of a unit outside its bounds.
+pub(crate) fn bad_number(unit: Unit<'_>) -> Option<Place>
+    ensures { result ≡ earliest (bad_numbers_by (unit_source unit.entry)) }
 {
-    let variables = in_all_variables(program.globals.as_slice());
-    let methods = in_all_methods(program.globals.as_slice());
-    let readings = in_all_readings(program.globals.as_slice());
-    earlier_of(earlier_of(variables, methods), readings)
+    let variables = in_all_variables(unit.globals);
+    let parameters = in_parameters(unit.parameters);
+    let methods = in_all_methods(unit.globals);
+    let readings = in_all_readings(unit.globals);
+    earlier_of(
+        earlier_of(earlier_of(variables, parameters), methods),
+        readings,
+    )
 }

@@ -1,11 +1,14 @@
-//! What the outputs of a data program break: two columns of one name, and an output without a column.
-ghost use Rattle.std.specs.Prelude.{◌≡◌, ◌||◌, IfOk, not, nat_eq, length};
-ghost use Rattle.ds2_names.specs.NameRules.{place_unless, options_of};
+//! What the outputs of a unit break: two columns of one name, and an output, or a thread program, without a column.
+ghost use Rattle.std.specs.Prelude.{◌≡◌, ◌||◌, [], IfOk, not, nat_eq, length, option_copied};
+ghost use Rattle.ds2_names.specs.NameRules.{from_each, place_unless, options_of};
 ghost use Rattle.ds2_names.specs.SourceUnit.{SourceNames};
+ghost use Rattle.ds2_names.specs.UnitRules.{without_columns, thread_name_place};
+ghost use Rattle.ds2_tree.specs.declared.units.OutputTable as source_output;
+ghost use Rattle.ds2_scope.specs.CodeUnits.{unit_source};
 ghost use Rattle.ds2_given_names.specs.OutputParts.{AreStatementLists, is_null_output};
 ghost use Rattle.ds2_scope.specs.Earliest.{earliest};
-ghost use Rattle.ds2_given_names.specs.OutputRules.{earlier_of_both, BreaksRealOutput, BreaksOutput, BreaksOutputs};
-ghost use Rattle.ds2_scope.specs.ProgramNames.{NamesAre};
+ghost use Rattle.ds2_given_names.specs.OutputRules.{name_place, earlier_of_both, BreaksRealOutput, BreaksOutput, BreaksOutputs};
+ghost use Rattle.ds2_scope.specs.UnitNames.{NamesAre};
 
 use crate::listed::option_lists;
 use crate::lists::KeepDrop;
@@ -13,7 +16,8 @@ use crate::output_columns::{columns_by, earliest_clash};
 use crate::renamed::new_names;
 use ds2_base::{OutOfMemory, Place};
 use ds2_names::OutputName;
-use ds2_scope::{ProgramNames, earlier_of, place_unless, spelled_name};
+use ds2_scope::{Unit, UnitKind, UnitNames, earlier_of, place_unless, spelled_name};
+use ds2_token::Token;
 use ds2_tree::{OutputOption, OutputOptions, OutputTable};
 use std::alloc::Global;
 
@@ -51,28 +55,28 @@ fn is_null_output(alloc: Global, o: &OutputTable) -> Result<bool, OutOfMemory>
     Ok(name.as_slice() == b"_null_".as_slice())
 }
 
-// What an output breaks that is not `_null_`.
+// What an output with these options at this place breaks that is not `_null_`.
 fn in_real_output(
     alloc: Global,
-    names: &ProgramNames,
+    names: &UnitNames,
     statements: &KeepDrop,
-    o: &OutputTable,
+    options: &[OutputOption],
+    place: Place,
 ) -> Result<BrokenOutputs, OutOfMemory>
-    ensures { IfOk result (λ b. (all : SourceNames) → NamesAre names.now all → AreStatementLists statements.now all.unit.globals → BreaksRealOutput all o.now b) }
+    ensures { IfOk result (λ b. (all : SourceNames) (o : source_output.OutputTable) → NamesAre names.now all → AreStatementLists statements.now all.unit.globals → options.now ≡ options_of o.options → place ≡ o.table.place → BreaksRealOutput all o b) }
 {
-    let options = options_of(&o.options);
     let lists = option_lists(alloc, options)?;
     let news = new_names(alloc, options)?;
     let columns = columns_by(alloc, statements, &lists, &news, names.variables.as_slice())?;
     let clash = earliest_clash(alloc, columns.as_slice())?;
-    let empty = unless_empty(names.is_open, columns.as_slice(), o.table.place);
+    let empty = unless_empty(names.is_open, columns.as_slice(), place);
     Ok(BrokenOutputs { clash, empty })
 }
 
 // What an output breaks.
 fn in_output(
     alloc: Global,
-    names: &ProgramNames,
+    names: &UnitNames,
     statements: &KeepDrop,
     o: &OutputTable,
 ) -> Result<BrokenOutputs, OutOfMemory>
@@ -84,7 +88,13 @@ fn in_output(
             empty: None,
         })
     } else {
-        in_real_output(alloc, names, statements, o)
+        in_real_output(
+            alloc,
+            names,
+            statements,
+            options_of(&o.options),
+            o.table.place,
+        )
     }
 }
 
@@ -101,7 +111,7 @@ fn earlier_of_both(a: BrokenOutputs, b: BrokenOutputs) -> BrokenOutputs
 /// What outputs break.
 pub(crate) fn in_outputs(
     alloc: Global,
-    names: &ProgramNames,
+    names: &UnitNames,
     statements: &KeepDrop,
     outputs: &[OutputTable],
 ) -> Result<BrokenOutputs, OutOfMemory>
@@ -115,4 +125,41 @@ pub(crate) fn in_outputs(
         found = earlier_of_both(found, in_output(alloc, names, statements, o)?);
     }
     Ok(found)
+}
+
+// The place of the name of a thread program without a column.
+fn thread_without_columns(
+    alloc: Global,
+    names: &UnitNames,
+    statements: &KeepDrop,
+    name: Option<&Token>,
+) -> Result<Option<Place>, OutOfMemory>
+    ensures { IfOk result (λ place. (all : SourceNames) → NamesAre names.now all → AreStatementLists statements.now all.unit.globals → place ≡ earliest (from_each (without_columns all []) (name_place (option_copied name.entry)))) }
+{
+    match name {
+        None => Ok(None),
+        Some(name) => {
+            let broken = in_real_output(alloc, names, statements, &[], name.place)?;
+            Ok(broken.empty)
+        }
+    }
+}
+
+/// The place of the name of a unit that is a thread program without a column.
+pub(crate) fn in_thread(
+    alloc: Global,
+    names: &UnitNames,
+    statements: &KeepDrop,
+    unit: Unit<'_>,
+) -> Result<Option<Place>, OutOfMemory>
+    ensures { IfOk result (λ place. (all : SourceNames) → NamesAre names.now all → AreStatementLists statements.now all.unit.globals → all.unit ≡ unit_source unit.entry → place ≡ earliest (from_each (without_columns all []) (thread_name_place all))) }
+{
+    match unit.kind {
+        UnitKind::Package => Ok(None),
+        UnitKind::Thread => {
+            let place = thread_without_columns(alloc, names, statements, unit.name)?;
+            Ok(place)
+        }
+        UnitKind::Data => Ok(None),
+    }
 }

@@ -29,12 +29,11 @@ use Rattle.ds2_tree.specs.StatementViews.{selector_tree, control_tree, if_else, 
 use Rattle.ds2_names.specs.NameRules.{from_each}
 use Rattle.ds2_names.specs.SourceUnit.{spelled_name}
 use Rattle.ds2_names.specs.Uses.{NameUse, Sets, WritesTo, uses, operand_uses, argument_uses, item_uses, selector_uses, control_uses, statement_uses, statements_uses, when_uses, otherwise_uses}
-use Rattle.ds2_name_uses.specs.UseParts.{InOutFlags, else_if_uses}
-use Rattle.ds2_name_uses.proofs.UseLemmas.{call_is, chain_is}
+use Rattle.ds2_use_walk.specs.UseParts.{InOutFlags, else_if_uses}
+use Rattle.ds2_use_walk.proofs.UseLemmas.{call_is, chain_is}
 use Rattle.ds2_scope.proofs.StatementRows.{if_tree_is, select_tree, do_tree}
-use Rattle.ds2_mentions.specs.declared.mentions.Mention.{Mention}
 use Rattle.ds2_mentions.specs.declared.mentions.Mention.TheVariants as mention
-use Rattle.ds2_mentions.specs.MentionParts.{mentions_in_call, mentions_in_item, mentions_in_use, mentions_in_uses}
+use Rattle.ds2_mentions.specs.MentionParts.{mentions_in_call, mentions_in_member, mentions_in_item, mentions_in_use, mentions_in_uses}
 
 -- four lists that were added one behind the other
 pub four_added : {A : Type 0} (start w x y z first second third fourth : List A) → first ≡ start ++ w → second ≡ first ++ x → third ≡ second ++ y → fourth ≡ third ++ z
@@ -60,7 +59,7 @@ module _ (flags : InOutFlags) where
   items_mention [] = refl
   items_mention (item.Text t ∷ items) = items_mention items
   items_mention (item.Variable name sign ∷ items) = ap (λ r. mention.Name (spelled_name name) ∷ r) (items_mention items)
-  items_mention (item.Member object dot member ∷ items) = items_mention items
+  items_mention (item.Member object dot member ∷ items) = ap (λ r. mentions_in_member object ++ r) (items_mention items)
 
   -- ---- arguments
 

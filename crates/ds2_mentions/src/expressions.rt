@@ -3,15 +3,16 @@ ghost use Rattle.std.specs.Prelude.{◌≡◌, ◌∷◌, ◌++◌, [], OnOk};
 ghost use Rattle.ds2_tree.specs.ExpressionViews.{expression_tree, operands_of, arguments_of};
 ghost use Rattle.ds2_names.specs.SourceUnit.{spelled_name};
 ghost use Rattle.ds2_names.specs.Uses.{CallsOn, uses, operand_uses, argument_uses};
-ghost use Rattle.ds2_mentions.specs.MentionParts.{flags_in_table, mentions_in_call, mentions_in_uses};
+ghost use Rattle.ds2_mentions.specs.MentionParts.{flags_by_calls, mentions_in_call, mentions_in_member, mentions_in_uses};
 
 use crate::handed::handed_names;
 use crate::mentions::Mention;
 use ds2_base::{List, OutOfMemory};
-use ds2_name_uses::{MethodFlags, flags_of};
+use ds2_calls::Calls;
 use ds2_scope::spelled_name;
 use ds2_token::Token;
 use ds2_tree::{Argument, Callee, Expression, Operand};
+use ds2_use_walk::is_flag_word;
 use std::alloc::Global;
 
 /// Adds a plain name.
@@ -25,7 +26,24 @@ pub(crate) fn push_name(
     found.push(Mention::Name(spelled_name(alloc, name)?))
 }
 
-// Adds a call, where it is one of a method or a function.
+/// Adds what stands before a point without an argument list, where it is no flag's word.
+pub(crate) fn push_member(
+    alloc: Global,
+    found: &mut List<Mention>,
+    object: &Token,
+) -> Result<(), OutOfMemory>
+    ensures { OnOk result (found.new ≡ found.old ++ mentions_in_member object.now) }
+{
+    if is_flag_word(object) {
+        Ok(())
+    } else {
+        let handed = List::new(alloc);
+        let name = spelled_name(alloc, object)?;
+        found.push(Mention::Object { name, handed })
+    }
+}
+
+// Adds a call of a method, a function or an instance.
 fn push_callee(
     alloc: Global,
     found: &mut List<Mention>,
@@ -42,7 +60,11 @@ fn push_callee(
             found.push(Mention::Call { name, handed })
         }
         Callee::Null(_) => Ok(()),
-        Callee::Method { .. } => Ok(()),
+        Callee::Method { object, .. } => {
+            let handed = handed_names(alloc, flags, arguments)?;
+            let name = spelled_name(alloc, object)?;
+            found.push(Mention::Object { name, handed })
+        }
     }
 }
 
@@ -50,33 +72,33 @@ fn push_callee(
 #[cycle(mention_expressions)]
 pub(crate) fn push_expression(
     alloc: Global,
-    methods: &MethodFlags,
+    calls: &Calls<'_, '_>,
     found: &mut List<Mention>,
     e: &Expression,
 ) -> Result<(), OutOfMemory>
-    ensures { OnOk result (found.new ≡ found.old ++ mentions_in_uses (flags_in_table methods.now) (uses (flags_in_table methods.now) (expression_tree e.now))) }
+    ensures { OnOk result (found.new ≡ found.old ++ mentions_in_uses (flags_by_calls calls.now) (uses (flags_by_calls calls.now) (expression_tree e.now))) }
 {
     match e {
         Expression::Constant(_) => Ok(()),
         Expression::Null(_) => Ok(()),
         Expression::Variable(name) => push_name(alloc, found, name),
-        Expression::Member { .. } => Ok(()),
+        Expression::Member { object, .. } => push_member(alloc, found, object),
         Expression::Call {
             callee,
             arguments,
             ..
-        } => push_call(alloc, methods, found, callee, arguments.as_slice()),
-        Expression::Parenthesis { inner, .. } => push_expression(alloc, methods, found, inner),
-        Expression::Sign { operand, .. } => push_expression(alloc, methods, found, operand),
+        } => push_call(alloc, calls, found, callee, arguments.as_slice()),
+        Expression::Parenthesis { inner, .. } => push_expression(alloc, calls, found, inner),
+        Expression::Sign { operand, .. } => push_expression(alloc, calls, found, operand),
         Expression::Chain { first, rest, .. } => {
-            push_expression(alloc, methods, found, first)?;
-            push_operands(alloc, methods, found, rest.as_slice())
+            push_expression(alloc, calls, found, first)?;
+            push_operands(alloc, calls, found, rest.as_slice())
         }
         Expression::Comparison { left, right, .. } => {
-            push_expression(alloc, methods, found, left)?;
-            push_expression(alloc, methods, found, right)
+            push_expression(alloc, calls, found, left)?;
+            push_expression(alloc, calls, found, right)
         }
-        Expression::Not { operand, .. } => push_expression(alloc, methods, found, operand),
+        Expression::Not { operand, .. } => push_expression(alloc, calls, found, operand),
     }
 }
 
@@ -84,30 +106,30 @@ pub(crate) fn push_expression(
 #[cycle(mention_expressions)]
 pub(crate) fn push_call(
     alloc: Global,
-    methods: &MethodFlags,
+    calls: &Calls<'_, '_>,
     found: &mut List<Mention>,
     callee: &Callee,
     arguments: &[Argument],
 ) -> Result<(), OutOfMemory>
-    ensures { OnOk result (found.new ≡ found.old ++ mentions_in_uses (flags_in_table methods.now) (CallsOn callee.now (arguments_of arguments.now) ∷ argument_uses (flags_in_table methods.now) (flags_in_table methods.now callee.now) (arguments_of arguments.now))) }
+    ensures { OnOk result (found.new ≡ found.old ++ mentions_in_uses (flags_by_calls calls.now) (CallsOn callee.now (arguments_of arguments.now) ∷ argument_uses (flags_by_calls calls.now) (flags_by_calls calls.now callee.now) (arguments_of arguments.now))) }
 {
-    let flags = flags_of(alloc, methods, callee)?;
+    let flags = calls.flags_of(alloc, callee)?;
     push_callee(alloc, found, callee, flags, arguments)?;
-    push_arguments(alloc, methods, found, arguments)
+    push_arguments(alloc, calls, found, arguments)
 }
 
 // Adds what the further operands of a chain mention.
 #[cycle(mention_expressions)]
 fn push_operands(
     alloc: Global,
-    methods: &MethodFlags,
+    calls: &Calls<'_, '_>,
     found: &mut List<Mention>,
     operands: &[Operand],
 ) -> Result<(), OutOfMemory>
-    ensures { OnOk result (found.new ≡ found.old ++ mentions_in_uses (flags_in_table methods.now) (operand_uses (flags_in_table methods.now) (operands_of operands.now))) }
+    ensures { OnOk result (found.new ≡ found.old ++ mentions_in_uses (flags_by_calls calls.now) (operand_uses (flags_by_calls calls.now) (operands_of operands.now))) }
 {
     'operands: for operand in operands {
-        push_expression(alloc, methods, found, &operand.value)?;
+        push_expression(alloc, calls, found, &operand.value)?;
     }
     Ok(())
 }
@@ -116,14 +138,14 @@ fn push_operands(
 #[cycle(mention_expressions)]
 pub(crate) fn push_arguments(
     alloc: Global,
-    methods: &MethodFlags,
+    calls: &Calls<'_, '_>,
     found: &mut List<Mention>,
     arguments: &[Argument],
 ) -> Result<(), OutOfMemory>
-    ensures { OnOk result (found.new ≡ found.old ++ mentions_in_uses (flags_in_table methods.now) (argument_uses (flags_in_table methods.now) [] (arguments_of arguments.now))) }
+    ensures { OnOk result (found.new ≡ found.old ++ mentions_in_uses (flags_by_calls calls.now) (argument_uses (flags_by_calls calls.now) [] (arguments_of arguments.now))) }
 {
     'arguments: for argument in arguments {
-        push_expression(alloc, methods, found, &argument.value)?;
+        push_expression(alloc, calls, found, &argument.value)?;
     }
     Ok(())
 }

@@ -1,30 +1,25 @@
--- Which names that a program lists are not there, and what it breaks of the rules on uses.
-use Rattle.std.proofs.Common.{◌≡◌, ◌<◌, ℕ, Bool, true, false, ◌&&◌, List, [], ◌∷◌, ◌++◌, Option, Some, None, refl, sym, ap, ◌∙◌, append_assoc, append-nil, arith}
-use Rattle.std.specs.Prelude.{if◌then◌else◌, map}
+-- Which names that a unit lists are not there, and what it breaks of the rules on uses.
+use Rattle.std.proofs.Common.{◌≡◌, ℕ, Bool, true, false, ◌&&◌, List, [], ◌∷◌, ◌++◌, Option, Some, None, refl, sym, ap, ◌∙◌, append_assoc}
+use Rattle.std.specs.Prelude.{if◌then◌else◌}
+use Rattle.std.specs.Option.{option_map_or}
 use Rattle.ds2_base.specs.declared.place.Place.{Place}
 use Rattle.ds2_token.specs.declared.token.Token.{Token}
-use Rattle.ds2_tree.specs.Globals.{Method, GlobalItem, Declared, Listed, Defined}
-use Rattle.ds2_tree.specs.Units.{DataProgram}
+use Rattle.ds2_tree.specs.Globals.{GlobalItem, Declared, Listed, Defined}
 use Rattle.ds2_tree.specs.declared.readings.Input as source_input
 use Rattle.ds2_tree.specs.declared.readings.Reading.{Reading}
-use Rattle.ds2_tree.specs.declared.readings.Reading.TheVariants as reading
-use Rattle.ds2_tree.specs.declared.units.OutputOption.{OutputOption}
 use Rattle.ds2_tree.specs.declared.units.OutputTable as source_output
-use Rattle.ds2_names.specs.NameRules.{from_each, place_unless, options_of, option_tokens, all_listed_tokens, is_in_all_tables, may_be_global, unknown_in_instance, unknown_in_use, unknown_stage, is_stage_name, from_uses, unknown_names, not_variables, not_variable_in_instance, not_variable_in_use, unknown_methods, unknown_method_in_use, wrong_counts, wrong_count_in_use, wrong_constructor}
-use Rattle.ds2_names.specs.SourceUnit.{TableColumns, is_earlier, PlacedName, SourceInstance, KnownUnit, SourceNames, spelled_name, listed_tokens, source_methods, source_instances, tables_of_reading, reading_of_run, stage_token, names_of_unit, unit_of_data}
-use Rattle.ds2_name_uses.specs.BrokenUses.{broken_in_method, unknown_beside_uses, BreaksFirst}
-use Rattle.ds2_name_uses.specs.declared.scope.Scope.{Scope}
+use Rattle.ds2_calls.specs.InstanceSorts.{sort_of, sort_if_any, sort_named}
+use Rattle.ds2_names.specs.NameRules.{from_each, place_unless, options_of, option_tokens, all_listed_tokens, is_in_all_tables, may_be_global, unknown_stage, is_thread_instance}
+use Rattle.ds2_names.specs.SourceUnit.{TableColumns, is_earlier, PlacedName, UnitKind, OfPackage, OfThread, OfData, is_package, UnitSource, InstanceOf, AnyPackage, HashObject, HashIterator, AnyThread, SourceInstance, KnownUnit, SourceNames, spelled_name, listed_tokens, source_methods, instance_named, tables_of_reading, reading_of_run, stage_token, names_of_unit}
+use Rattle.ds2_name_uses.specs.BrokenUses.{broken_in_method, unknown_beside_uses, unknown_names_used, BreaksFirst}
 use Rattle.ds2_name_uses.specs.declared.scope.UsageRule.TheVariants as usage
-use Rattle.ds2_name_uses.specs.declared.used_names.BrokenUses.{BrokenUses}
 use Rattle.ds2_scope.specs.Earliest.{earlier_of, earliest}
-use Rattle.ds2_name_uses.specs.ListedParts.{unknown_global, unknown_globals, tokens_in, unknown_in_lists, unknown_in_option, unknown_in_output, lacking_column, lacking_by, unknown_instance}
-use Rattle.ds2_scope.specs.NameSets.{HasNames}
-use Rattle.ds2_scope.specs.ProgramNames.{NamesAre}
-use Rattle.ds2_name_uses.specs.ScopeTables.{AreTablesOf, tests_by}
-use Rattle.ds2_name_uses.specs.UseRules.{IsPlainProgram, NameTests, is_global_there, broken_in_use}
+use Rattle.ds2_scope.specs.UnitNames.{reading_by_kind, reading_in_unit}
+use Rattle.ds2_name_uses.specs.ListedParts.{unknown_global, unknown_globals, unknown_in_lists, unknown_in_output, lacking_column, lacking_by, is_stage_sort, unknown_stage_by}
+use Rattle.ds2_name_uses.specs.UseRules.{NameTests, is_global_there}
 use Rattle.ds2_value.specs.Schema.{has_column}
 use Rattle.ds2_scope.proofs.EachLemmas.{each_append, each_of_each, each_is}
-use Rattle.ds2_scope.proofs.EarliestLemmas.{none_right, earlier_of_assoc, earlier_of_comm, earliest_append}
+use Rattle.ds2_scope.proofs.EarliestLemmas.{earlier_of_assoc, earlier_of_comm, earliest_append}
 
 -- ---- BY variables
 
@@ -90,82 +85,88 @@ option_parts t os =
     ∙ each_is (λ (o : source_output.OutputTable). unknown_globals t (from_each option_tokens (options_of o.options))) (unknown_in_output t)
     (λ o. sym (each_of_each (unknown_global t) option_tokens (options_of o.options))) os
 
-all_listed : (t : NameTests) (u : DataProgram)
-    → unknown_globals t (all_listed_tokens (unit_of_data u)) ≡ from_each (unknown_in_lists t) u.globals ++ from_each (unknown_in_output t) u.outputs
+all_listed : (t : NameTests) (u : UnitSource)
+    → unknown_globals t (all_listed_tokens u) ≡ from_each (unknown_in_lists t) u.globals ++ from_each (unknown_in_output t) u.outputs
 all_listed t u =
     each_append (unknown_global t) (listed_tokens u.globals) (from_each (λ (o : source_output.OutputTable). from_each option_tokens (options_of o.options)) u.outputs)
     ∙ (λ i. listed_parts t u.globals i ++ option_parts t u.outputs i)
 
-pub beside_parts : (tables : TableColumns) (bys : List PlacedName) (t : NameTests) (u : DataProgram)
+pub beside_parts : (tables : TableColumns) (bys : List PlacedName) (t : NameTests) (u : UnitSource)
     → earliest (unknown_beside_uses tables bys t u)
     ≡ earlier_of (earlier_of (earliest (from_each (unknown_in_lists t) u.globals)) (earliest (from_each (unknown_in_output t) u.outputs)))
-    (earlier_of (earliest (from_each (lacking_by tables (tables_of_reading (reading_of_run (source_methods u.globals)))) bys)) (earliest (unknown_instance (reading_of_run (source_methods u.globals)))))
+    (earlier_of (earliest (from_each (lacking_by tables (tables_of_reading (reading_in_unit u))) bys)) (earliest (unknown_stage_by t (stage_token (reading_in_unit u)))))
 beside_parts tables bys t u =
     let lists = from_each (unknown_in_lists t) u.globals in
     let options = from_each (unknown_in_output t) u.outputs in
-    let lacking = from_each (lacking_by tables (tables_of_reading (reading_of_run (source_methods u.globals)))) bys in
-    let stage = unknown_instance (reading_of_run (source_methods u.globals)) in
+    let lacking = from_each (lacking_by tables (tables_of_reading (reading_in_unit u))) bys in
+    let stage = unknown_stage_by t (stage_token (reading_in_unit u)) in
     earliest_append ((lists ++ options) ++ lacking) stage
     ∙ ap (λ x. earlier_of x (earliest stage)) (earliest_append (lists ++ options) lacking ∙ ap (λ x. earlier_of x (earliest lacking)) (earliest_append lists options))
     ∙ earlier_of_assoc (earlier_of (earliest lists) (earliest options)) (earliest lacking) (earliest stage)
 
--- ---- a program
+-- ---- the instance of `set from`
 
-stage_unknown : (names : SourceNames) (r : Option Reading) → names.instances ≡ [] → unknown_stage names (stage_token r) ≡ unknown_instance r
-stage_unknown names None none = refl
-stage_unknown names (Some (reading.Set keyword inputs end by)) none = refl
-stage_unknown names (Some (reading.SetFrom keyword from instance threads end)) none =
-    ap (λ is. place_unless (is_stage_name (record names { instances = is }) (spelled_name instance)) instance.place) none
-stage_unknown names (Some (reading.Merge keyword inputs retain end by)) none = refl
+stage_sort : (s : InstanceOf) → is_thread_instance s ≡ is_stage_sort (Some (sort_of s))
+stage_sort (AnyPackage package' arguments) = refl
+stage_sort (HashObject keys items table) = refl
+stage_sort (HashIterator hash) = refl
+stage_sort (AnyThread thread) = refl
 
-module _ (tables : TableColumns) (known : List KnownUnit) (u : DataProgram) (none : source_instances u.globals ≡ []) where
-  pub is_plain : IsPlainProgram (names_of_unit tables known (unit_of_data u))
-  is_plain = record { kind = refl; instances = none; parameters = refl }
+stage_if_any : (o : Option SourceInstance) → option_map_or (λ (i : SourceInstance). is_thread_instance i.sort) o false ≡ is_stage_sort (sort_if_any o)
+stage_if_any None = refl
+stage_if_any (Some i) = stage_sort i.sort
 
-  no_more : (f : SourceInstance → List Place) → from_each f (source_instances u.globals) ≡ []
-  no_more f = ap (from_each f) none
+stage_is : (names : SourceNames) (t : NameTests) (stage : Option Token) → ((name : List ℕ) → t.calls.sort_of_instance name ≡ sort_named names.instances name)
+    → unknown_stage names stage ≡ unknown_stage_by t stage
+stage_is names t None sorts = refl
+stage_is names t (Some n) sorts =
+    ap (λ b. place_unless b n.place) (stage_if_any (instance_named names.instances (spelled_name n)) ∙ ap is_stage_sort (sym (sorts (spelled_name n))))
+
+-- ---- a unit
+
+by_kind : (k : UnitKind) (reading : Option Reading) → (if is_package k then None else reading) ≡ reading_by_kind k reading
+by_kind OfPackage reading = refl
+by_kind OfThread reading = refl
+by_kind OfData reading = refl
+
+module _ (tables : TableColumns) (known : List KnownUnit) (u : UnitSource) where
+  reading_is : (names_of_unit tables known u).reading ≡ reading_in_unit u
+  reading_is = by_kind u.kind (reading_of_run (source_methods u.globals))
 
   -- the names that are not there: those in uses, and the others
-  pub unknown_parts : (t : NameTests) → ((name : List ℕ) → may_be_global (names_of_unit tables known (unit_of_data u)) name ≡ is_global_there t name)
-      → unknown_names tables (names_of_unit tables known (unit_of_data u)) ≡ from_each (broken_in_method usage.UnknownName (names_of_unit tables known (unit_of_data u))) (source_methods u.globals) ++ unknown_beside_uses tables (names_of_unit tables known (unit_of_data u)).bys t u
-  unknown_parts t global =
-      let used = from_each (broken_in_method usage.UnknownName (names_of_unit tables known (unit_of_data u))) (source_methods u.globals) in
-      let inputs = tables_of_reading (reading_of_run (source_methods u.globals)) in
-      let lacking = from_each (lacking_by tables inputs) (names_of_unit tables known (unit_of_data u)).bys in
+  unknown_parts : (t : NameTests) → ((name : List ℕ) → may_be_global (names_of_unit tables known u) name ≡ is_global_there t name)
+      → ((name : List ℕ) → t.calls.sort_of_instance name ≡ sort_named (names_of_unit tables known u).instances name)
+      → unknown_names_used tables (names_of_unit tables known u) ≡ from_each (broken_in_method usage.UnknownName (names_of_unit tables known u)) (source_methods u.globals) ++ unknown_beside_uses tables (names_of_unit tables known u).bys t u
+  unknown_parts t global sorts =
+      let names = names_of_unit tables known u in
+      let used = from_each (broken_in_method usage.UnknownName names) (source_methods u.globals) in
       let lists = from_each (unknown_in_lists t) u.globals in
       let options = from_each (unknown_in_output t) u.outputs in
-      let stage = unknown_instance (reading_of_run (source_methods u.globals)) in
-      (λ i. (((used ++ from_each (λ (n : Token). place_unless (global (spelled_name n) i) n.place) (all_listed_tokens (unit_of_data u))) ++ lacking)
-      ++ no_more (λ (x : SourceInstance). unknown_in_instance tables (names_of_unit tables known (unit_of_data u)) x.sort) i) ++ stage_unknown (names_of_unit tables known (unit_of_data u)) (reading_of_run (source_methods u.globals)) none i)
-      ∙ (λ i. (append-nil ((used ++ all_listed t u i) ++ lacking) i) ++ stage)
+      let lacking = from_each (lacking_by tables (tables_of_reading (reading_in_unit u))) names.bys in
+      let stage = unknown_stage_by t (stage_token (reading_in_unit u)) in
+      (λ i. ((used ++ from_each (λ (n : Token). place_unless (global (spelled_name n) i) n.place) (all_listed_tokens u))
+      ++ from_each (λ (b : PlacedName). place_unless (is_in_all_tables tables (tables_of_reading (reading_is i)) b.name) b.place) names.bys) ++ stage_is names t (stage_token (reading_is i)) sorts i)
+      ∙ (λ i. ((used ++ all_listed t u i) ++ lacking) ++ stage)
       ∙ ap (λ r. r ++ stage) (append_assoc used (lists ++ options) lacking)
       ∙ append_assoc used ((lists ++ options) ++ lacking) stage
 
-  -- what uses alone break
-
-  pub not_variable_parts : not_variables (names_of_unit tables known (unit_of_data u)) ≡ from_each (broken_in_method usage.NotVariable (names_of_unit tables known (unit_of_data u))) (source_methods u.globals)
-  not_variable_parts =
-      ap (λ r. from_uses (names_of_unit tables known (unit_of_data u)) (not_variable_in_use (names_of_unit tables known (unit_of_data u))) ++ r) (no_more (λ (x : SourceInstance). not_variable_in_instance (names_of_unit tables known (unit_of_data u)) x.sort))
-      ∙ append-nil (from_uses (names_of_unit tables known (unit_of_data u)) (not_variable_in_use (names_of_unit tables known (unit_of_data u))))
-
-  pub wrong_count_parts : wrong_counts (names_of_unit tables known (unit_of_data u)) ≡ from_each (broken_in_method usage.WrongCount (names_of_unit tables known (unit_of_data u))) (source_methods u.globals)
-  wrong_count_parts =
-      ap (λ r. from_uses (names_of_unit tables known (unit_of_data u)) (wrong_count_in_use (names_of_unit tables known (unit_of_data u))) ++ r) (no_more (λ (x : SourceInstance). wrong_constructor (names_of_unit tables known (unit_of_data u)).known x x.sort))
-      ∙ append-nil (from_uses (names_of_unit tables known (unit_of_data u)) (wrong_count_in_use (names_of_unit tables known (unit_of_data u))))
-
-  -- all that a program breaks of the rules on uses
-  pub uses_broken : (t : NameTests) (bys : List PlacedName) (used beside unknown_method wrong_count not_variable : Option Place)
-      → ((name : List ℕ) → may_be_global (names_of_unit tables known (unit_of_data u)) name ≡ is_global_there t name) → bys ≡ (names_of_unit tables known (unit_of_data u)).bys
-      → used ≡ earliest (from_each (broken_in_method usage.UnknownName (names_of_unit tables known (unit_of_data u))) (source_methods u.globals)) → beside ≡ earliest (unknown_beside_uses tables bys t u)
-      → unknown_method ≡ earliest (from_each (broken_in_method usage.UnknownMethod (names_of_unit tables known (unit_of_data u))) (source_methods u.globals))
-      → wrong_count ≡ earliest (from_each (broken_in_method usage.WrongCount (names_of_unit tables known (unit_of_data u))) (source_methods u.globals))
-      → not_variable ≡ earliest (from_each (broken_in_method usage.NotVariable (names_of_unit tables known (unit_of_data u))) (source_methods u.globals))
-      → BreaksFirst tables (names_of_unit tables known (unit_of_data u)) (record { unknown_name = earlier_of used beside; unknown_method = unknown_method; wrong_count = wrong_count; not_variable = not_variable })
-  uses_broken t bys used beside unknown_method wrong_count not_variable global b us bs um wc nv = record {
+  -- all that a unit breaks of the rules on uses
+  pub uses_broken : (t : NameTests) (bys : List PlacedName) (used beside unknown_method wrong_count not_variable misplaced_setting : Option Place)
+      → ((name : List ℕ) → may_be_global (names_of_unit tables known u) name ≡ is_global_there t name)
+      → ((name : List ℕ) → t.calls.sort_of_instance name ≡ sort_named (names_of_unit tables known u).instances name) → bys ≡ (names_of_unit tables known u).bys
+      → used ≡ earliest (from_each (broken_in_method usage.UnknownName (names_of_unit tables known u)) (source_methods u.globals)) → beside ≡ earliest (unknown_beside_uses tables bys t u)
+      → unknown_method ≡ earliest (from_each (broken_in_method usage.UnknownMethod (names_of_unit tables known u)) (source_methods u.globals))
+      → wrong_count ≡ earliest (from_each (broken_in_method usage.WrongCount (names_of_unit tables known u)) (source_methods u.globals))
+      → not_variable ≡ earliest (from_each (broken_in_method usage.NotVariable (names_of_unit tables known u)) (source_methods u.globals))
+      → misplaced_setting ≡ earliest (from_each (broken_in_method usage.MisplacedSetting (names_of_unit tables known u)) (source_methods u.globals))
+      → BreaksFirst tables (names_of_unit tables known u)
+      (record { unknown_name = earlier_of used beside; unknown_method = unknown_method; wrong_count = wrong_count; not_variable = not_variable; misplaced_setting = misplaced_setting })
+  uses_broken t bys used beside unknown_method wrong_count not_variable misplaced_setting global sorts b us bs um wc nv ms = record {
     unknown_name = (λ i. earlier_of (us i) ((bs ∙ ap (λ ns. earliest (unknown_beside_uses tables ns t u)) b) i))
-        ∙ sym (earliest_append (from_each (broken_in_method usage.UnknownName (names_of_unit tables known (unit_of_data u))) (source_methods u.globals)) (unknown_beside_uses tables (names_of_unit tables known (unit_of_data u)).bys t u))
-        ∙ sym (ap earliest (unknown_parts t global));
+        ∙ sym (earliest_append (from_each (broken_in_method usage.UnknownName (names_of_unit tables known u)) (source_methods u.globals)) (unknown_beside_uses tables (names_of_unit tables known u).bys t u))
+        ∙ sym (ap earliest (unknown_parts t global sorts));
     unknown_method = um;
-    wrong_count = wc ∙ sym (ap earliest wrong_count_parts);
-    not_variable = nv ∙ sym (ap earliest not_variable_parts);
+    wrong_count = wc;
+    not_variable = nv;
+    misplaced_setting = ms;
   }

@@ -1,4 +1,2 @@
-pub mod UseLemmas
-pub mod MethodLemmas
-pub mod UsageLemmas
-pub mod BrokenLemmas
+mod UsageLemmas
+mod BrokenLemmas

@@ -1,10 +1,9 @@
--- What a use of a name breaks in a method of a program that declares no instances, by tests on names.
-use Rattle.std.proofs.Common.{◌≡◌, ℕ, ◌+◌, Bool, true, false, not, ◌||◌, ◌&&◌, List, [], ◌∷◌, ◌++◌, length, bytes_eq, nat_eq, Option, Some, None, refl, sym, ap, ◌∙◌, append-nil, add-one}
-use Rattle.std.specs.Prelude.{if◌then◌else◌, map, is_some, unwrap_or, codes}
+-- What a use of a name breaks in a method of a unit, by tests on names.
+use Rattle.std.proofs.Common.{◌≡◌, ℕ, ◌+◌, Bool, true, false, not, ◌||◌, ◌&&◌, List, [], ◌∷◌, ◌++◌, length, bytes_eq, Option, Some, None, refl, sym, ap, ◌∙◌, add-one}
+use Rattle.std.specs.Prelude.{if◌then◌else◌, map, is_some, codes}
 use Rattle.std.specs.Option.{option_map_or}
 use Rattle.std.specs.declared.boxed.Box.{Box}
 use Rattle.std.specs.declared.alloc.Global.{Global}
-use Rattle.std.proofs.lemmas.List.{length-map}
 use Rattle.ds2_base.specs.declared.place.Place.{Place}
 use Rattle.ds2_token.specs.declared.token.Token.{Token}
 use Rattle.ds2_tree.specs.Expressions.{Expression, Constant, Null, Variable, Member, Call, Parenthesis, Sign, Chain, Comparison, Not, Arguments, NoArgument, Argument}
@@ -17,10 +16,15 @@ use Rattle.ds2_tree.specs.declared.expressions.ChainKind.{ChainKind}
 use Rattle.ds2_tree.specs.declared.expressions.Expression as code_expression
 use Rattle.ds2_tree.specs.declared.expressions.Expression.TheVariants as expression
 use Rattle.ds2_tree.specs.declared.expressions.Operand as code_operand
-use Rattle.ds2_tree.specs.declared.globals.Parameter as source_parameter
-use Rattle.ds2_names.specs.NameRules.{from_each, place_unless, visible_instance, in_out_parameters, methods_of_sort, uses_in, columns_are_known, is_flag_word, is_flag_member, is_object, is_in_scope, is_known_name, may_be_global, is_settable, unknown_in_use, not_variable_in_use, counts_of, argument_count, is_system, takes_count, unknown_method_on, unknown_member_on, unknown_method_in_use, wrong_count_on, wrong_count_in_use, no_names}
-use Rattle.ds2_names.specs.SourceUnit.{UnitKind, is_package, PlacedName, placed_name, names_alone, SourceInstance, instance_named, SourceNames, spelled_name, is_system_name, local_names, vector_names, plain_globals, instance_names, all_globals, is_named}
-use Rattle.ds2_names.specs.Uses.{NameUse, Values, Members, HandsOver, CallsOn, Sets, WritesTo, callee_place, first_place, method_named, in_out_of, statements_uses}
+use Rattle.ds2_calls.specs.InstanceSorts.{sort_of, sort_if_any, sort_named}
+use Rattle.ds2_calls.specs.KnownUnits.{units_known}
+use Rattle.ds2_calls.specs.SortCalls.{is_known_stage}
+use Rattle.ds2_calls.specs.UnitsCalls.{HasCalls}
+use Rattle.ds2_calls.proofs.CallLemmas.{counts_of_call, known_sort, known_stage, counts_on, flags_are, calls_tell}
+use Rattle.ds2_names.specs.NameRules.{from_each, place_unless, visible_instance, columns_are_known, is_flag_word, is_object, is_in_scope, is_known_name, may_be_global, is_settable, unknown_in_use, not_variable_in_use, is_known_thread, is_hash, argument_count, takes_count, unknown_method_on, unknown_member_on, unknown_method_in_use, wrong_count_on, wrong_count_in_use, no_names}
+use Rattle.ds2_names.specs.SourceUnit.{is_package, PlacedName, placed_name, names_alone, InstanceOf, AnyPackage, HashObject, HashIterator, AnyThread, SourceInstance, instance_named, SourceNames, spelled_name, is_system_name, local_names, vector_names, plain_globals, instance_names, all_globals, is_named}
+use Rattle.ds2_names.specs.UnitRules.{is_system_method, is_setting, misplaced_setting}
+use Rattle.ds2_names.specs.Uses.{NameUse, Values, Members, HandsOver, CallsOn, Sets, WritesTo, callee_place, first_place, method_named, statements_uses}
 use Rattle.ds2_name_uses.specs.BrokenUses.{broken_in_method}
 use Rattle.ds2_name_uses.specs.declared.scope.Scope.{Scope}
 use Rattle.ds2_name_uses.specs.declared.scope.UsageRule.{UsageRule}
@@ -28,11 +32,10 @@ use Rattle.ds2_name_uses.specs.declared.scope.UsageRule.TheVariants as usage
 use Rattle.ds2_scope.specs.Earliest.{earlier_of, earliest}
 use Rattle.ds2_scope.specs.NameSets.{HasNames}
 use Rattle.ds2_name_uses.specs.ScopeTables.{AreTablesOf, tests_by}
-use Rattle.ds2_name_uses.specs.UseParts.{UsePlaces, earliest_use, next_flag, further_flags}
-use Rattle.ds2_name_uses.specs.UseRules.{IsPlainProgram, NameTests, flags_of_method, tests_of, flags_by_methods, flags_by, is_there, is_global_there, may_be_set, unknown_by, not_variable_by, counts_by, unknown_method_by, wrong_count_by, broken_by, broken_in_use, no_name_in, no_name_if}
+use Rattle.ds2_use_walk.specs.UseParts.{earliest_use, next_flag, further_flags}
+use Rattle.ds2_name_uses.specs.UseRules.{settable_names, tests_of, flags_by, visible_sort, is_global_there, is_value_there, is_there, may_be_set, is_object_there, unknown_by, not_variable_by, unknown_call_on, is_hash_sort, unknown_member_by, unknown_method_by, wrong_count_by_sort, wrong_count_by, is_setting_by, misplaced_by, broken_by, broken_in_use, no_name_in, no_name_if}
 use Rattle.ds2_scope.proofs.EarliestLemmas.{earlier_of_assoc, earliest_append}
-use Rattle.ds2_scope.proofs.MisplacedLemmas.{no_instance}
-use Rattle.ds2_name_uses.proofs.UseLemmas.{call_is, chain_is}
+use Rattle.ds2_use_walk.proofs.UseLemmas.{call_is, chain_is}
 
 -- ---- arguments for in_out parameters
 
@@ -93,100 +96,136 @@ or_assoc : (a b c : Bool) → (a || (b || c)) ≡ ((a || b) || c)
 or_assoc true b c = refl
 or_assoc false b c = refl
 
-scope_test : (l v f o : Bool) → (l || (v || f) || (o && not (v || f))) ≡ (l || (v || (f || o)))
-scope_test true v f o = refl
-scope_test false true f true = refl
-scope_test false true f false = refl
-scope_test false false true true = refl
-scope_test false false true false = refl
-scope_test false false false true = refl
-scope_test false false false false = refl
+value_test : (l s f n o : Bool) → (l || (s || f) || (o && not ((s || f) || n))) ≡ (l || (s || (f || (o && not n))))
+value_test true s f n o = refl
+value_test false true f n true = refl
+value_test false true f n false = refl
+value_test false false true n true = refl
+value_test false false true n false = refl
+value_test false false false n o = refl
 
-known_test : (l v f o : Bool) → (l || ((v || f) || (o && not (v || f)))) ≡ (l || (v || (f || o)))
-known_test true v f o = refl
-known_test false v f o = scope_test false v f o
+known_test : (l s f n o : Bool) → (l || (((s || f) || n) || (o && not ((s || f) || n)))) ≡ (l || (s || (f || (n || o))))
+known_test true s f n o = refl
+known_test false true f n o = refl
+known_test false false true n o = refl
+known_test false false false true o = refl
+known_test false false false false true = refl
+known_test false false false false false = refl
 
-set_test : (l v f o : Bool) → (l || (v || false || (o && not (v || f)))) ≡ (l || (v || (o && not f)))
-set_test true v f o = refl
-set_test false true f true = refl
-set_test false true f false = refl
-set_test false false f true = refl
-set_test false false f false = refl
+set_test : (l v p f n o : Bool) → (l || (v || p || (o && not (((v || p) || f) || n)))) ≡ (l || ((v || p) || (o && not (f || n))))
+set_test true v p f n o = refl
+set_test false true p f n true = refl
+set_test false true p f n false = refl
+set_test false false true f n true = refl
+set_test false false true f n false = refl
+set_test false false false f n o = refl
 
-named_append : (xs ys : List PlacedName) (name : List ℕ) → is_named (xs ++ ys) name ≡ (is_named xs name || is_named ys name)
+pub named_append : (xs ys : List PlacedName) (name : List ℕ) → is_named (xs ++ ys) name ≡ (is_named xs name || is_named ys name)
 named_append [] ys name = refl
 named_append (x ∷ xs) ys name = ap (λ t. bytes_eq x.name name || t) (named_append xs ys name) ∙ or_assoc (bytes_eq x.name name) (is_named xs name) (is_named ys name)
 
-parameters_count : (o : Option Method) (name : List ℕ) → counts_of o name ≡ counts_by (flags_of_method o) name
-parameters_count None name = refl
-parameters_count (Some m) name =
-    let h = sym (length-map m.parameters.list (λ (p : source_parameter.Parameter). is_some p.in_out)) in λ i. Some (h i, h i)
+named_instance : (instances : List SourceInstance) (name : List ℕ)
+    → is_named (map (λ (i : SourceInstance). placed_name i.name) instances) name ≡ is_some (sort_named instances name)
+named_instance [] name = refl
+named_instance (i ∷ instances) name = by (bytes_eq (spelled_name i.name) name) (named_instance instances name)
+  where
+    by : (t : Bool) → is_named (map (λ (x : SourceInstance). placed_name x.name) instances) name ≡ is_some (sort_named instances name)
+        → (t || is_named (map (λ (x : SourceInstance). placed_name x.name) instances) name) ≡ is_some (sort_if_any (if t then Some i else instance_named instances name))
+    by true rest = refl
+    by false rest = rest
 
-flags_of_first : (o : Option Method) → in_out_of o ≡ unwrap_or (flags_of_method o) []
-flags_of_first None = refl
-flags_of_first (Some m) = refl
+-- ---- instances
 
-module _ (names : SourceNames) (plain : IsPlainProgram names) where
-  named_plain : (name : List ℕ) → is_named (plain_globals names) name ≡ (is_named (vector_names names) name || is_named names.flags name)
-  named_plain name =
-      ap (λ ps. is_named (vector_names names ++ ps ++ names.flags) name) plain.parameters
-      ∙ ap (λ ns. is_named (ns ++ names.flags) name) (append-nil (vector_names names))
-      ∙ named_append (vector_names names) names.flags name
+some_sort : (o : Option SourceInstance) → is_some o ≡ is_some (sort_if_any o)
+some_sort None = refl
+some_sort (Some i) = refl
 
-  named_global : (name : List ℕ) → is_named (all_globals names) name ≡ (is_named (vector_names names) name || is_named names.flags name)
+hash_is : (s : InstanceOf) → is_hash s ≡ is_hash_sort (sort_of s)
+hash_is (AnyPackage package' arguments) = refl
+hash_is (HashObject keys items table) = refl
+hash_is (HashIterator hash) = refl
+hash_is (AnyThread thread) = refl
+
+module _ (names : SourceNames) where
+  named_global : (name : List ℕ) → is_named (all_globals names) name ≡ ((is_named (settable_names names) name || is_named names.flags name) || is_some (sort_named names.instances name))
   named_global name =
-      ap (λ is. is_named (plain_globals names ++ map (λ (i : SourceInstance). placed_name i.name) is) name) plain.instances
-      ∙ ap (λ ns. is_named ns name) (append-nil (plain_globals names))
-      ∙ named_plain name
+      named_append (plain_globals names) (instance_names names) name
+      ∙ (λ i. named_append (settable_names names) names.flags name i || named_instance names.instances name i)
 
-  pub global_is : (name : List ℕ) → may_be_global names name ≡ (is_named (vector_names names) name || (is_named names.flags name || not (columns_are_known names)))
+  pub global_is : (name : List ℕ)
+      → may_be_global names name ≡ (is_named (settable_names names) name || (is_named names.flags name || (is_some (sort_named names.instances name) || not (columns_are_known names))))
   global_is name =
       (λ i. named_global name i || (not (columns_are_known names) && not (named_global name i)))
-      ∙ known_test false (is_named (vector_names names) name) (is_named names.flags name) (not (columns_are_known names))
+      ∙ known_test false (is_named (settable_names names) name) (is_named names.flags name) (is_some (sort_named names.instances name)) (not (columns_are_known names))
 
-  -- which parameters are in_out is what the methods of the unit tell
-  pub flags_known : (f : Callee) → in_out_parameters names f ≡ flags_by_methods (λ name. flags_of_method (method_named names.methods name)) f
-  flags_known (callee.Function n) = flags_of_first (method_named names.methods (spelled_name n))
-  flags_known (callee.Null keyword) = refl
-  flags_known (callee.Method object dot method) =
-      ap (λ is. in_out_of (method_named (option_map_or (λ (i : SourceInstance). methods_of_sort names.known i.sort) (instance_named is (spelled_name object)) []) (spelled_name method))) plain.instances
+  method_there : (o : Option SourceInstance) (method : Token) → unknown_method_on names method o ≡ unknown_call_on (units_known names.known) method (sort_if_any o)
+  method_there None method = refl
+  method_there (Some x) method =
+      (λ i. place_unless (not (known_sort names.known x.sort i) || is_some (counts_on names.known x.sort (spelled_name method) i)) method.place)
 
-  -- hashed tables tell which globals are there
-  pub global_by_tables : (s : Scope) → AreTablesOf s.unit names → (name : List ℕ) → may_be_global names name ≡ is_global_there (tests_by s) name
-  global_by_tables s t name = global_is name ∙ sym (λ i. t.variables name i || (t.flags name i || t.is_open i))
+  count_taken : (o : Option SourceInstance) (method : Token) (n : ℕ) → wrong_count_on names method n o ≡ wrong_count_by_sort (units_known names.known) method n (sort_if_any o)
+  count_taken None method n = refl
+  count_taken (Some x) method n = ap (λ counts. place_unless (takes_count counts n) method.place) (counts_on names.known x.sort (spelled_name method))
 
-module _ (names : SourceNames) (m : Method) (plain : IsPlainProgram names) where
-  scope_is : (name : List ℕ) → is_in_scope names m name ≡ is_there (tests_of names m) name
-  scope_is name =
-      (λ i. is_named (local_names m) name || named_plain names plain name i || (not (columns_are_known names) && not (named_global names plain name i)))
-      ∙ scope_test (is_named (local_names m) name) (is_named (vector_names names) name) (is_named names.flags name) (not (columns_are_known names))
+  stage_there : (o : Option SourceInstance)
+      → option_map_or (λ (x : SourceInstance). is_known_thread names.known x.sort) o false ≡ option_map_or (is_known_stage (units_known names.known)) (sort_if_any o) false
+  stage_there None = refl
+  stage_there (Some x) = known_stage names.known x.sort
 
-  known_is : (name : List ℕ) → is_known_name names m name ≡ is_there (tests_of names m) name
-  known_is name = ap (λ t. is_named (local_names m) name || t) (global_is names plain name)
+member_there : (o : Option SourceInstance) (member : Token) → unknown_member_on member o ≡ unknown_member_by member (sort_if_any o)
+member_there None member = refl
+member_there (Some x) member = ap (λ t. place_unless (t && bytes_eq (spelled_name member) (codes "num_items")) member.place) (hash_is x.sort)
 
-  settable_is : (name : List ℕ) → is_settable names m name ≡ may_be_set (tests_of names m) name
-  settable_is name =
-      (λ i. is_named (local_names m) name || (is_named (vector_names names) name || is_named (plain.parameters i) name || (not (columns_are_known names) && not (named_global names plain name i))))
-      ∙ set_test (is_named (local_names m) name) (is_named (vector_names names) name) (is_named names.flags name) (not (columns_are_known names))
+-- hashed tables tell which globals are there
+pub global_by_tables : (names : SourceNames) (s : Scope) → AreTablesOf s.unit.now names → HasCalls s.calls names → (name : List ℕ) → may_be_global names name ≡ is_global_there (tests_by s) name
+global_by_tables names s t has name =
+    global_is names name ∙ sym (λ i. t.settable name i || (t.flags name i || (is_some ((calls_tell s.calls names has i).sort_of_instance name) || t.is_open i)))
 
-  object_is : (object member : Token) → is_object names m object member ≡ (is_flag_word object && is_named names.bys (spelled_name member))
-  object_is object member =
-      ap (λ o. if is_flag_word object then is_flag_member names object member else is_some o) (no_instance names m (spelled_name object) plain.instances)
-      ∙ by (is_flag_word object)
+-- ---- rules
+
+module _ (names : SourceNames) (m : Method) where
+  seen : (name : List ℕ) → sort_if_any (visible_instance names m name) ≡ visible_sort (tests_of names m) name
+  seen name = by (is_named (local_names m) name)
     where
-      by : (t : Bool) → (if t then (t && is_named names.bys (spelled_name member)) else false) ≡ (t && is_named names.bys (spelled_name member))
+      by : (t : Bool) → sort_if_any (if t then None else instance_named names.instances name) ≡ (if t then None else sort_named names.instances name)
       by true = refl
       by false = refl
 
-  flags_are : (f : Callee) → in_out_parameters names f ≡ flags_by (tests_of names m) f
-  flags_are f = flags_known names plain f
+  value_is : (name : List ℕ) → is_in_scope names m name ≡ is_value_there (tests_of names m) name
+  value_is name =
+      (λ i. is_named (local_names m) name || named_append (settable_names names) names.flags name i || (not (columns_are_known names) && not (named_global names name i)))
+      ∙ value_test (is_named (local_names m) name) (is_named (settable_names names) name) (is_named names.flags name) (is_some (sort_named names.instances name)) (not (columns_are_known names))
+
+  known_is : (name : List ℕ) → is_known_name names m name ≡ is_there (tests_of names m) name
+  known_is name = ap (λ t. is_named (local_names m) name || t) (global_is names name)
+
+  settable_is : (name : List ℕ) → is_settable names m name ≡ may_be_set (tests_of names m) name
+  settable_is name =
+      let both = named_append (vector_names names) names.parameters name in
+      let flag = is_named names.flags name in
+      let inst = is_some (sort_named names.instances name) in
+      let unknown = not (columns_are_known names) in
+      (λ i. is_named (local_names m) name || (is_named (vector_names names) name || is_named names.parameters name || (unknown && not (named_global names name i))))
+      ∙ (λ i. is_named (local_names m) name || (is_named (vector_names names) name || is_named names.parameters name || (unknown && not ((both i || flag) || inst))))
+      ∙ set_test (is_named (local_names m) name) (is_named (vector_names names) name) (is_named names.parameters name) flag inst unknown
+      ∙ sym (λ i. is_named (local_names m) name || (both i || (unknown && not (flag || inst))))
+
+  object_is : (object member : Token) → is_object names m object member ≡ is_object_there (tests_of names m) object member
+  object_is object member = by (is_flag_word object)
+    where
+      by : (t : Bool)
+          → (if t then (t && is_named names.bys (spelled_name member)) else is_some (visible_instance names m (spelled_name object)))
+          ≡ (if t then is_named names.bys (spelled_name member) else is_some (visible_sort (tests_of names m) (spelled_name object)))
+      by true = refl
+      by false = some_sort (visible_instance names m (spelled_name object)) ∙ ap is_some (seen (spelled_name object))
 
   unknown_is : (u : NameUse) → unknown_in_use names m u ≡ unknown_by (tests_of names m) u
-  unknown_is (Values n) = ap (λ t. place_unless t n.place) (scope_is (spelled_name n))
+  unknown_is (Values n) = ap (λ t. place_unless t n.place) (value_is (spelled_name n))
   unknown_is (HandsOver n) = ap (λ t. place_unless t n.place) (known_is (spelled_name n))
   unknown_is (Sets n) = ap (λ t. place_unless t n.place) (known_is (spelled_name n))
   unknown_is (Members object member) = ap (λ t. place_unless t object.place) (object_is object member)
-  unknown_is (CallsOn (callee.Method object dot method) arguments) = ap (λ o. place_unless (is_some o) object.place) (no_instance names m (spelled_name object) plain.instances)
+  unknown_is (CallsOn (callee.Method object dot method) arguments) =
+      ap (λ t. place_unless t object.place) (some_sort (visible_instance names m (spelled_name object)) ∙ ap is_some (seen (spelled_name object)))
   unknown_is (CallsOn (callee.Function t) arguments) = refl
   unknown_is (CallsOn (callee.Null keyword) arguments) = refl
   unknown_is (WritesTo n) = refl
@@ -194,7 +233,7 @@ module _ (names : SourceNames) (m : Method) (plain : IsPlainProgram names) where
   not_variable_is : (u : NameUse) → not_variable_in_use names m u ≡ not_variable_by (tests_of names m) u
   not_variable_is (Sets n) = ap (λ t. place_unless t n.place) (settable_is (spelled_name n))
   not_variable_is (HandsOver n) = ap (λ t. place_unless t n.place) (settable_is (spelled_name n))
-  not_variable_is (CallsOn f arguments) = ap (λ flags. no_names flags arguments) (flags_are f)
+  not_variable_is (CallsOn f arguments) = ap (λ flags. no_names flags arguments) (flags_are names f)
   not_variable_is (Values n) = refl
   not_variable_is (Members object member) = refl
   not_variable_is (WritesTo n) = refl
@@ -202,16 +241,13 @@ module _ (names : SourceNames) (m : Method) (plain : IsPlainProgram names) where
   unknown_method_is : (u : NameUse) → unknown_method_in_use names m u ≡ unknown_method_by (tests_of names m) u
   unknown_method_is (CallsOn (callee.Function t) arguments) =
       let name = spelled_name t in
-      ap (λ kind. place_unless (not (not (is_package kind) && is_system_name name) && is_some (counts_of (method_named names.methods name) name)) t.place) plain.kind
-      ∙ ap (λ counts. place_unless (not (is_system_name name) && is_some counts) t.place) (parameters_count (method_named names.methods name) name)
+      ap (λ counts. place_unless (not (not (is_package names.unit.kind) && is_system_name name) && is_some counts) t.place) (counts_of_call (method_named names.methods name) name)
   unknown_method_is (CallsOn (callee.Null keyword) arguments) = refl
-  unknown_method_is (CallsOn (callee.Method object dot method) arguments) = ap (unknown_method_on names method) (no_instance names m (spelled_name object) plain.instances)
+  unknown_method_is (CallsOn (callee.Method object dot method) arguments) =
+      method_there names (visible_instance names m (spelled_name object)) method ∙ ap (unknown_call_on (units_known names.known) method) (seen (spelled_name object))
   unknown_method_is (Members object member) =
-      ap (λ o. if is_flag_word object then [] else unknown_member_on member o) (no_instance names m (spelled_name object) plain.instances) ∙ by (is_flag_word object)
-    where
-      by : (t : Bool) → (if t then [] else unknown_member_on member None) ≡ []
-      by true = refl
-      by false = refl
+      ap (λ places. if is_flag_word object then [] else places)
+      (member_there (visible_instance names m (spelled_name object)) member ∙ ap (unknown_member_by member) (seen (spelled_name object)))
   unknown_method_is (Values n) = refl
   unknown_method_is (HandsOver n) = refl
   unknown_method_is (Sets n) = refl
@@ -220,37 +256,58 @@ module _ (names : SourceNames) (m : Method) (plain : IsPlainProgram names) where
   wrong_count_is : (u : NameUse) → wrong_count_in_use names m u ≡ wrong_count_by (tests_of names m) u
   wrong_count_is (CallsOn (callee.Function t) arguments) =
       let name = spelled_name t in
-      ap (λ counts. place_unless (takes_count counts (argument_count arguments)) t.place) (parameters_count (method_named names.methods name) name)
+      ap (λ counts. place_unless (takes_count counts (argument_count arguments)) t.place) (counts_of_call (method_named names.methods name) name)
   wrong_count_is (CallsOn (callee.Null keyword) arguments) = refl
   wrong_count_is (CallsOn (callee.Method object dot method) arguments) =
-      ap (wrong_count_on names method (argument_count arguments)) (no_instance names m (spelled_name object) plain.instances)
+      count_taken names (visible_instance names m (spelled_name object)) method (argument_count arguments)
+      ∙ ap (wrong_count_by_sort (units_known names.known) method (argument_count arguments)) (seen (spelled_name object))
   wrong_count_is (Values n) = refl
   wrong_count_is (Members object member) = refl
   wrong_count_is (HandsOver n) = refl
   wrong_count_is (Sets n) = refl
   wrong_count_is (WritesTo n) = refl
 
+  setting_is : (object method : Token) → is_setting names m object method ≡ is_setting_by (tests_of names m) object method
+  setting_is object method =
+      ap (λ t. bytes_eq (spelled_name method) (codes "setparms") && t)
+      (stage_there names (visible_instance names m (spelled_name object)) ∙ ap (λ o. option_map_or (is_known_stage (units_known names.known)) o false) (seen (spelled_name object)))
+
+  misplaced_is : (u : NameUse) → misplaced_setting names m u ≡ misplaced_by (tests_of names m) u
+  misplaced_is (CallsOn (callee.Method object dot method) arguments) =
+      ap (λ t. place_unless (not t || is_system_method (codes "init") names m) object.place) (setting_is object method)
+  misplaced_is (CallsOn (callee.Function t) arguments) = refl
+  misplaced_is (CallsOn (callee.Null keyword) arguments) = refl
+  misplaced_is (Values n) = refl
+  misplaced_is (Members object member) = refl
+  misplaced_is (HandsOver n) = refl
+  misplaced_is (Sets n) = refl
+  misplaced_is (WritesTo n) = refl
+
   broken_is : (rule : UsageRule) (u : NameUse) → broken_in_use rule names m u ≡ broken_by rule (tests_of names m) u
   broken_is usage.UnknownName u = unknown_is u
   broken_is usage.NotVariable u = not_variable_is u
   broken_is usage.UnknownMethod u = unknown_method_is u
   broken_is usage.WrongCount u = wrong_count_is u
+  broken_is usage.MisplacedSetting u = misplaced_is u
 
   -- the tests that hashed tables make are those on names
-  tests_are : (s : Scope) → AreTablesOf s.unit names → HasNames s.locals (names_alone (local_names m)) → tests_by s ≡ tests_of names m
-  tests_are s t l = λ i. record {
+  tests_are : (s : Scope) → AreTablesOf s.unit.now names → HasCalls s.calls names → HasNames s.locals (names_alone (local_names m)) → s.is_init ≡ is_system_method (codes "init") names m
+      → tests_by s ≡ tests_of names m
+  tests_are s t has l init = λ i. record {
     is_local = λ name. l name i;
-    is_variable = λ name. t.variables name i;
+    is_settable = λ name. t.settable name i;
     is_flag = λ name. t.flags name i;
     is_by = λ name. t.bys name i;
     is_output = λ name. t.outputs name i && not (bytes_eq name (codes "_null_"));
-    method = λ name. t.methods name i;
+    calls = calls_tell s.calls names has i;
     is_open = t.is_open i;
+    is_program = t.is_program i;
+    is_init = init i;
   }
 
   -- what the uses of a method break of a rule
-  pub method_is : (s : Scope) (rule : UsageRule) → s.rule ≡ rule → AreTablesOf s.unit names → HasNames s.locals (names_alone (local_names m))
-      → earliest_use (broken_by s.rule (tests_by s)) (statements_uses (flags_by (tests_by s)) m.body) ≡ earliest (broken_in_method rule names m)
-  method_is s rule r t l =
-      (λ i. earliest_use (broken_by (r i) (tests_are s t l i)) (statements_uses (flags_by (tests_are s t l i)) m.body))
-      ∙ sym (λ i. earliest (from_each (λ u. broken_is rule u i) (statements_uses (λ f. flags_are f i) m.body)))
+  pub method_is : (s : Scope) → AreTablesOf s.unit.now names → HasCalls s.calls names → HasNames s.locals (names_alone (local_names m)) → s.is_init ≡ is_system_method (codes "init") names m
+      → earliest_use (broken_by s.rule (tests_by s)) (statements_uses (flags_by (tests_by s)) m.body) ≡ earliest (broken_in_method s.rule names m)
+  method_is s t has l init =
+      (λ i. earliest_use (broken_by s.rule (tests_are s t has l init i)) (statements_uses (flags_by (tests_are s t has l init i)) m.body))
+      ∙ sym (λ i. earliest (from_each (λ u. broken_is s.rule u i) (statements_uses (λ f. flags_are names f i) m.body)))

@@ -1,13 +1,13 @@
--- Which names that a data program lists are not there, part by part.
-use Rattle.std.specs.Prelude.{ℕ, Bool, List, [], ◌∷◌, map, Option, Some, None}
+-- Which names that a unit lists are not there, part by part.
+use Rattle.std.specs.Prelude.{Bool, true, false, List, [], Option, Some, None}
 use Rattle.ds2_base.specs.declared.place.Place.{Place}
 use Rattle.ds2_token.specs.declared.token.Token.{Token}
 use Rattle.ds2_tree.specs.Globals.{GlobalItem, Listed}
 use Rattle.ds2_tree.specs.declared.readings.Input as source_input
-use Rattle.ds2_tree.specs.declared.readings.Reading.{Reading}
-use Rattle.ds2_tree.specs.declared.readings.Reading.TheVariants as reading
 use Rattle.ds2_tree.specs.declared.units.OutputOption.{OutputOption}
 use Rattle.ds2_tree.specs.declared.units.OutputTable as source_output
+use Rattle.ds2_calls.specs.declared.instances.Sort.{Sort}
+use Rattle.ds2_calls.specs.declared.instances.Sort.TheVariants as sort
 use Rattle.ds2_names.specs.NameRules.{from_each, place_unless, options_of, option_tokens, is_in_all_tables}
 use Rattle.ds2_names.specs.SourceUnit.{TableColumns, PlacedName, spelled_name}
 use Rattle.ds2_value.specs.Row.{Columns}
@@ -47,7 +47,15 @@ lacking_column columns b = place_unless (has_column b.name columns) b.place
 abbrev pub lacking_by : TableColumns → List source_input.Input → PlacedName → List Place
 lacking_by tables inputs b = place_unless (is_in_all_tables tables inputs b.name) b.place
 
--- the instance behind `set from`, which is never there
-abbrev pub unknown_instance : Option Reading → List Place
-unknown_instance (Some (reading.SetFrom keyword from instance threads end)) = instance.place ∷ []
-unknown_instance _ = []
+-- an instance, where there is one, is one of a thread program
+abbrev pub is_stage_sort : Option Sort → Bool
+is_stage_sort None = false
+is_stage_sort (Some (sort.Package name)) = false
+is_stage_sort (Some (sort.Hash variables)) = false
+is_stage_sort (Some (sort.Iterator hash)) = false
+is_stage_sort (Some (sort.Thread name)) = true
+
+-- a name behind `set from` that is no instance of a thread program
+abbrev pub unknown_stage_by : NameTests → Option Token → List Place
+unknown_stage_by t None = []
+unknown_stage_by t (Some n) = place_unless (is_stage_sort (t.calls.sort_of_instance (spelled_name n))) n.place

@@ -1,24 +1,29 @@
-//! Names that a data program lists, its BY variables, and the instance behind `set from`: those that are not there.
+//! Names that a unit lists, its BY variables, and the instance behind `set from`: those that are not there.
 ghost use Rattle.std.specs.Prelude.{◌≡◌, IfOk, map, option_copied};
 ghost use Rattle.ds2_tree.specs.UnitViews.{global_tree};
-ghost use Rattle.ds2_names.specs.NameRules.{from_each, options_of, option_tokens};
+ghost use Rattle.ds2_names.specs.NameRules.{from_each, options_of};
 ghost use Rattle.ds2_names.specs.SourceUnit.{columns_stored};
 ghost use Rattle.ds2_scope.specs.Earliest.{earliest};
-ghost use Rattle.ds2_name_uses.specs.ListedParts.{unknown_global, unknown_globals, unknown_in_lists, unknown_in_option, unknown_in_output, lacking_column, lacking_by, unknown_instance};
+ghost use Rattle.ds2_name_uses.specs.ListedParts.{unknown_global, unknown_globals, unknown_in_lists, unknown_in_option, unknown_in_output, lacking_column, lacking_by, is_stage_sort, unknown_stage_by};
 ghost use Rattle.ds2_scope.specs.NameSets.{HasNames, column_names};
 ghost use Rattle.ds2_name_uses.specs.ScopeTables.{tests_by};
 
 use crate::scope::Scope;
-use ds2_base::{OutOfMemory, Place};
+use ds2_base::{Bytes, OutOfMemory, Place};
+use ds2_calls::Sort;
 use ds2_names::{NamedSchema, PlacedName};
 use ds2_scope::{NameSet, column_set, columns_of, earlier_of, place_unless, spelled_name};
 use ds2_token::Token;
-use ds2_tree::{GlobalItem, Input, OutputOption, OutputOptions, OutputTable, Reading, Renaming};
+use ds2_tree::{GlobalItem, Input, OutputOption, OutputOptions, OutputTable, Renaming};
 use ds2_value::Column;
 use std::alloc::Global;
 
 // The place of a name that is no global.
-fn unless_global(alloc: Global, scope: &Scope, name: &Token) -> Result<Option<Place>, OutOfMemory>
+fn unless_global(
+    alloc: Global,
+    scope: &Scope<'_, '_, '_>,
+    name: &Token,
+) -> Result<Option<Place>, OutOfMemory>
     ensures { IfOk result (λ place. place ≡ earliest (unknown_global (tests_by scope.now) name.now)) }
 {
     let spelled = spelled_name(alloc, name)?;
@@ -26,7 +31,11 @@ fn unless_global(alloc: Global, scope: &Scope, name: &Token) -> Result<Option<Pl
 }
 
 // The earliest of names that is no global.
-fn in_tokens(alloc: Global, scope: &Scope, names: &[Token]) -> Result<Option<Place>, OutOfMemory>
+fn in_tokens(
+    alloc: Global,
+    scope: &Scope<'_, '_, '_>,
+    names: &[Token],
+) -> Result<Option<Place>, OutOfMemory>
     ensures { IfOk result (λ place. place ≡ earliest (unknown_globals (tests_by scope.now) names.now)) }
 {
     let mut found: Option<Place> = None;
@@ -39,7 +48,7 @@ fn in_tokens(alloc: Global, scope: &Scope, names: &[Token]) -> Result<Option<Pla
 // The earliest old name that is no global.
 fn in_renamings(
     alloc: Global,
-    scope: &Scope,
+    scope: &Scope<'_, '_, '_>,
     renamings: &[Renaming],
 ) -> Result<Option<Place>, OutOfMemory>
     ensures { IfOk result (λ place. place ≡ earliest (unknown_globals (tests_by scope.now) (map (λ r. r.old) renamings.now))) }
@@ -54,7 +63,7 @@ fn in_renamings(
 // The earliest name that a part of a unit lists and that is no global.
 fn in_global(
     alloc: Global,
-    scope: &Scope,
+    scope: &Scope<'_, '_, '_>,
     global: &GlobalItem,
 ) -> Result<Option<Place>, OutOfMemory>
     ensures { IfOk result (λ place. place ≡ earliest (unknown_in_lists (tests_by scope.now) (global_tree global.now))) }
@@ -69,7 +78,7 @@ fn in_global(
 /// The earliest name that a statement of a unit lists and that is no global.
 pub(crate) fn in_statements_of(
     alloc: Global,
-    scope: &Scope,
+    scope: &Scope<'_, '_, '_>,
     globals: &[GlobalItem],
 ) -> Result<Option<Place>, OutOfMemory>
     ensures { IfOk result (λ place. place ≡ earliest (from_each (unknown_in_lists (tests_by scope.now)) (map global_tree globals.now))) }
@@ -84,7 +93,7 @@ pub(crate) fn in_statements_of(
 // The earliest name in an option that is no global.
 fn in_option(
     alloc: Global,
-    scope: &Scope,
+    scope: &Scope<'_, '_, '_>,
     option: &OutputOption,
 ) -> Result<Option<Place>, OutOfMemory>
     ensures { IfOk result (λ place. place ≡ earliest (unknown_in_option (tests_by scope.now) option.now)) }
@@ -101,7 +110,7 @@ fn in_option(
 // The earliest one in several options.
 fn in_options(
     alloc: Global,
-    scope: &Scope,
+    scope: &Scope<'_, '_, '_>,
     options: &[OutputOption],
 ) -> Result<Option<Place>, OutOfMemory>
     ensures { IfOk result (λ place. place ≡ earliest (from_each (unknown_in_option (tests_by scope.now)) options.now)) }
@@ -116,7 +125,7 @@ fn in_options(
 // The earliest one in the options of an output, where it has some.
 fn in_output(
     alloc: Global,
-    scope: &Scope,
+    scope: &Scope<'_, '_, '_>,
     options: &Option<OutputOptions>,
 ) -> Result<Option<Place>, OutOfMemory>
     ensures { IfOk result (λ place. place ≡ earliest (from_each (unknown_in_option (tests_by scope.now)) (options_of options.now))) }
@@ -130,7 +139,7 @@ fn in_output(
 /// The earliest name in the options of outputs that is no global.
 pub(crate) fn in_outputs(
     alloc: Global,
-    scope: &Scope,
+    scope: &Scope<'_, '_, '_>,
     outputs: &[OutputTable],
 ) -> Result<Option<Place>, OutOfMemory>
     ensures { IfOk result (λ place. place ≡ earliest (from_each (unknown_in_output (tests_by scope.now)) outputs.now)) }
@@ -173,16 +182,34 @@ pub(crate) fn lacking_by(
     Ok(found)
 }
 
-/// The place of the instance behind `set from`.
-pub(crate) fn unknown_instance(reading: Option<&Reading>) -> Option<Place>
-    ensures { result ≡ earliest (unknown_instance (option_copied reading.entry)) }
+// Whether a name is that of an instance of a thread program.
+fn is_stage(scope: &Scope<'_, '_, '_>, name: &Bytes) -> bool
+    ensures { result ≡ is_stage_sort ((tests_by scope.now).calls.sort_of_instance name.now) }
 {
-    match reading {
-        None => None,
-        Some(reading) => match reading {
-            Reading::Set { .. } => None,
-            Reading::SetFrom { instance, .. } => Some(instance.place),
-            Reading::Merge { .. } => None,
+    match scope.calls.sort_of(name) {
+        None => false,
+        Some(sort) => match sort {
+            Sort::Package(_) => false,
+            Sort::Hash(_) => false,
+            Sort::Iterator(_) => false,
+            Sort::Thread(_) => true,
         },
+    }
+}
+
+/// The place of a name behind `set from` that is no instance of a thread program.
+pub(crate) fn unknown_stage(
+    alloc: Global,
+    scope: &Scope<'_, '_, '_>,
+    stage: Option<&Token>,
+) -> Result<Option<Place>, OutOfMemory>
+    ensures { IfOk result (λ place. place ≡ earliest (unknown_stage_by (tests_by scope.now) (option_copied stage.entry))) }
+{
+    match stage {
+        None => Ok(None),
+        Some(stage) => {
+            let spelled = spelled_name(alloc, stage)?;
+            Ok(place_unless(is_stage(scope, &spelled), stage.place))
+        }
     }
 }

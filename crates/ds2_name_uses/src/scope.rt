@@ -1,8 +1,8 @@
-//! What a method of a data program sees: hashed tables of names.
+//! What a method of a unit sees: hashed tables of names.
+ghost use Rattle.std.specs.Prelude.{◌≡◌};
 
-use ds2_base::{Bytes, List};
+use ds2_calls::Calls;
 use ds2_scope::NameSet;
-use std::collections::HashMap;
 
 /// The rules on uses of names that tests on names decide.
 #[derive(Clone, Copy, Debug)]
@@ -11,32 +11,60 @@ pub(crate) enum UsageRule {
     NotVariable,
     UnknownMethod,
     WrongCount,
+    /// `setparms` outside of `init`.
+    MisplacedSetting,
 }
 
-/// For each name of a method its parameters: whether each is in_out.
-pub type MethodFlags = HashMap<Bytes, List<bool>>;
-
-/// Hashed tables of what a data program gives names to.
+/// Hashed tables of what a unit gives names to, beside its methods and instances.
 #[derive(Drop)]
 pub(crate) struct UnitTables {
-    /// Declared variables and columns.
-    pub variables: NameSet,
+    /// What may be set: declared variables, columns, and the parameters of a thread program.
+    pub settable: NameSet,
     /// The `in=` flags.
     pub flags: NameSet,
     /// The BY variables.
     pub bys: NameSet,
     /// The outputs, `_null_` among them.
     pub outputs: NameSet,
-    pub methods: MethodFlags,
     /// Whether a name that is not there may be a column.
     pub is_open: bool,
+    /// Whether the unit is a program, of which `init`, `run` and `term` are system methods.
+    pub is_program: bool,
 }
 
 /// What a method sees, and the rule that is looked at.
 #[derive(Drop)]
-pub(crate) struct Scope {
+pub(crate) struct Scope<'t, 'u, 'k> {
     pub rule: UsageRule,
-    pub unit: UnitTables,
+    pub unit: &'t UnitTables,
+    pub calls: Calls<'u, 'k>,
     /// The parameters and locals of the method.
     pub locals: NameSet,
+    /// Whether the method is the system method `init`.
+    pub is_init: bool,
+}
+
+impl<'t, 'u, 'k> Scope<'t, 'u, 'k> {
+    /// What is seen where these names are parameters and locals.
+    pub(crate) fn over(
+        rule: UsageRule,
+        unit: &'t UnitTables,
+        calls: &Calls<'u, 'k>,
+        locals: NameSet,
+        is_init: bool,
+    ) -> Scope<'t, 'u, 'k>
+        ensures rule { result.rule ≡ rule }
+        ensures unit { result.unit.now ≡ unit.now }
+        ensures calls { result.calls ≡ calls.now }
+        ensures locals { result.locals ≡ locals }
+        ensures is_init { result.is_init ≡ is_init }
+    {
+        Scope {
+            rule,
+            unit,
+            calls: *calls,
+            locals,
+            is_init,
+        }
+    }
 }

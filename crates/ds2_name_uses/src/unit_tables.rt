@@ -1,122 +1,74 @@
-//! Hashed tables of what a data program gives names to.
-ghost use Rattle.std.specs.Prelude.{◌≡◌, ℕ, List as Items, IfOk, OnOk, nat_eq, map, option_copied};
+//! Hashed tables of what a unit gives names to.
+ghost use Rattle.std.specs.Prelude.{◌≡◌, ◌++◌, ℕ, List as Items, IfOk, OnOk, nat_eq, not, ◌||◌};
 ghost use Rattle.std.specs.Cmp.Lexicographic.{pointwise};
-ghost use Rattle.std.specs.HashMap.{get};
-ghost use Rattle.std.specs.Option.{option_or};
-ghost use Rattle.ds2_tree.specs.UnitViews.{method_tree, global_tree};
-ghost use Rattle.ds2_names.specs.SourceUnit.{SourceNames, source_methods};
-ghost use Rattle.ds2_names.specs.Uses.{method_named, in_out_of};
-ghost use Rattle.ds2_scope.specs.Collected.{methods_in};
-ghost use Rattle.ds2_scope.specs.ProgramNames.{NamesAre};
-ghost use Rattle.ds2_name_uses.specs.ScopeTables.{HasMethods, AreTablesOf, flags_if_named};
-ghost use Rattle.ds2_name_uses.specs.UseRules.{flags_of_method, are_in_out, flags_by_methods};
+ghost use Rattle.std.specs.HashSet.{contains};
+ghost use Rattle.ds2_names.specs.SourceUnit.{SourceNames, is_named, is_package};
+ghost use Rattle.ds2_scope.specs.CodeUnits.{unit_kind};
+ghost use Rattle.ds2_scope.specs.UnitNames.{NamesAre};
+ghost use Rattle.ds2_name_uses.specs.ScopeTables.{AreTablesOf};
 
-use crate::scope::{MethodFlags, UnitTables};
-use ds2_base::{Bytes, List, OutOfMemory};
-use ds2_scope::{ProgramNames, name_set, spelled_name};
-use ds2_tree::{Callee, DataProgram, GlobalItem, Method, Parameter};
+use crate::scope::UnitTables;
+use ds2_base::OutOfMemory;
+use ds2_names::PlacedName;
+use ds2_scope::{NameSet, UnitKind, UnitNames, add_name, name_set};
 use std::alloc::Global;
-use std::collections::HashMap;
 
-// For each parameter whether it is in_out.
-fn in_out_flags(alloc: Global, parameters: &[Parameter]) -> Result<List<bool>, OutOfMemory>
-    ensures { IfOk result (λ flags. flags ≡ are_in_out parameters.now) }
+/// Whether a unit of a kind is a program.
+pub(crate) fn is_program(kind: UnitKind) -> bool
+    ensures { result ≡ not (is_package (unit_kind kind)) }
 {
-    let mut flags: List<bool> = List::new(alloc);
-    'parameters: for p in parameters {
-        flags.push(p.in_out.is_some())?;
+    match kind {
+        UnitKind::Package => false,
+        UnitKind::Thread => true,
+        UnitKind::Data => true,
     }
-    Ok(flags)
 }
 
-// Adds a method, unless its name is there.
-fn note_method(alloc: Global, methods: &mut MethodFlags, m: &Method) -> Result<(), OutOfMemory>
-    ensures { OnOk result ((name : Items ℕ) → get (pointwise nat_eq) methods.new name ≡ option_or (get (pointwise nat_eq) methods.old name) (flags_if_named name (method_tree m.now))) }
+// Adds names to a set.
+fn add_names(alloc: Global, set: &mut NameSet, names: &[PlacedName]) -> Result<(), OutOfMemory>
+    ensures { OnOk result ((name : Items ℕ) → contains (pointwise nat_eq) set.new name ≡ (contains (pointwise nat_eq) set.old name || is_named names.now name)) }
 {
-    let name = spelled_name(alloc, &m.name)?;
-    if methods.get(&name).is_none() {
-        let flags = in_out_flags(alloc, m.parameters.list.as_slice())?;
-        methods.insert(name, flags)?;
+    'names: for n in names {
+        add_name(alloc, set, n.name.as_slice())?;
     }
     Ok(())
 }
 
-// Adds a part of a unit, where it is a method.
-fn note_global(
+// The set of the names of two lists.
+fn set_of_both(
     alloc: Global,
-    methods: &mut MethodFlags,
-    global: &GlobalItem,
-) -> Result<(), OutOfMemory>
-    ensures { OnOk result ((name : Items ℕ) → get (pointwise nat_eq) methods.new name ≡ option_or (get (pointwise nat_eq) methods.old name) (flags_of_method (method_named (methods_in (global_tree global.now)) name))) }
+    first: &[PlacedName],
+    second: &[PlacedName],
+) -> Result<NameSet, OutOfMemory>
+    ensures { IfOk result (λ set. (name : Items ℕ) → contains (pointwise nat_eq) set name ≡ is_named (first.now ++ second.now) name) }
 {
-    match global {
-        GlobalItem::Method(m) => note_method(alloc, methods, m),
-        GlobalItem::Listed { .. } => Ok(()),
-        GlobalItem::Declaration(_) => Ok(()),
-    }
+    let mut set = name_set(alloc, first)?;
+    add_names(alloc, &mut set, second)?;
+    Ok(set)
 }
 
-/// For each method of a unit, by its name, whether each of its parameters is in_out; the first method of a name counts.
-pub fn method_flags(alloc: Global, globals: &[GlobalItem]) -> Result<MethodFlags, OutOfMemory>
-    ensures { IfOk result (λ table. HasMethods table (source_methods (map global_tree globals.now))) }
-{
-    let mut methods: MethodFlags = HashMap::new(alloc);
-    'globals: for global in globals {
-        note_global(alloc, &mut methods, global)?;
-    }
-    Ok(methods)
-}
-
-/// For each parameter of the method of a name whether it is in_out, where there is one.
-pub fn parameters_of<'m>(methods: &'m MethodFlags, name: &Bytes) -> Option<&'m [bool]>
-    ensures { option_copied result ≡ get (pointwise nat_eq) methods.now name.now }
-{
-    match methods.get(name) {
-        None => None,
-        Some(flags) => Some(flags.as_slice()),
-    }
-}
-
-/// For each parameter of what is called whether it is in_out; none where it is no method of the unit.
-pub fn flags_of<'m>(
+/// The tables of a unit's names.
+pub(crate) fn tables_of_unit(
     alloc: Global,
-    methods: &'m MethodFlags,
-    callee: &Callee,
-) -> Result<&'m [bool], OutOfMemory>
-    ensures { IfOk result (λ flags. flags.now ≡ flags_by_methods (get (pointwise nat_eq) methods.now) callee.now) }
-{
-    match callee {
-        Callee::Function(name) => {
-            let name = spelled_name(alloc, name)?;
-            match parameters_of(methods, &name) {
-                None => Ok(&[]),
-                Some(flags) => Ok(flags),
-            }
-        }
-        Callee::Null(_) => Ok(&[]),
-        Callee::Method { .. } => Ok(&[]),
-    }
-}
-
-/// The tables of a program's names.
-pub(crate) fn tables_of_program(
-    alloc: Global,
-    names: &ProgramNames,
-    program: &DataProgram,
+    names: &UnitNames,
+    kind: UnitKind,
 ) -> Result<UnitTables, OutOfMemory>
-    ensures { IfOk result (λ t. (all : SourceNames) → NamesAre names.now all → all.methods ≡ source_methods (map global_tree program.now.globals) → AreTablesOf t all) }
+    ensures { IfOk result (λ t. (all : SourceNames) → NamesAre names.now all → all.unit.kind ≡ unit_kind kind → AreTablesOf t all) }
 {
-    let variables = name_set(alloc, names.variables.as_slice())?;
+    let settable = set_of_both(
+        alloc,
+        names.variables.as_slice(),
+        names.parameters.as_slice(),
+    )?;
     let flags = name_set(alloc, names.flags.as_slice())?;
     let bys = name_set(alloc, names.bys.as_slice())?;
     let outputs = name_set(alloc, names.outputs.as_slice())?;
-    let methods = method_flags(alloc, program.globals.as_slice())?;
     Ok(UnitTables {
-        variables,
+        settable,
         flags,
         bys,
         outputs,
-        methods,
         is_open: names.is_open,
+        is_program: is_program(kind),
     })
 }

@@ -21,6 +21,7 @@ mod written_table;
 pub use ds2_reading::Tables;
 pub use ds2_table::Table;
 pub use ds2_value::{Ending, Fault};
+pub use output_tables::table_without_rows;
 pub use program_text::ProgramText;
 pub use run::run_program;
 pub use written_table::WrittenTable;

@@ -52,8 +52,8 @@ fn columns_of_output(
     Ok(columns)
 }
 
-// The table of an output.
-fn table_without_rows(
+/// The table of an output, without rows.
+pub fn table_without_rows(
     alloc: Global,
     slots: &[Slot],
     output: &OutputPart,

@@ -1,5 +1,6 @@
 -- What columns break, as lists of places and of rules.
 use Rattle.std.proofs.Common.{◌≡◌, List, [], ◌∷◌, ◌++◌, Option, refl, sym, ap, ◌∙◌}
+use Rattle.ds2_elaboration.specs.UnitsBefore.{UnitsBefore}
 use Rattle.ds2_base.specs.declared.place.Place.{Place}
 use Rattle.ds2_base.specs.declared.place.Refusal.{Refusal}
 use Rattle.ds2_elaboration.specs.Typings.{TypeRefusals}
@@ -7,16 +8,16 @@ use Rattle.ds2_meaning.specs.declared.refusals.TypeKind.{TypeKind}
 use Rattle.ds2_meaning.specs.declared.refusals.TypeKind.TheVariants.{TypeClash}
 use Rattle.ds2_names.specs.NameRules.{from_each}
 use Rattle.ds2_names.specs.Refusals.{broken_at}
-use Rattle.ds2_names.specs.SourceUnit.{TableColumns, PlacedName, names_of_source}
-use Rattle.ds2_tree.specs.Units.{DataProgram}
+use Rattle.ds2_names.specs.SourceUnit.{TableColumns, PlacedName, UnitSource}
 use Rattle.ds2_tree.specs.declared.readings.Input.{Input}
 use Rattle.ds2_meaning.specs.IsTyped.{type_in}
 use Rattle.ds2_meaning.specs.declared.globals.Variable.{Variable}
-use Rattle.ds2_elaboration.specs.SourceTypes.{Absent, clashing_table, clashing_tables, program_inputs, program_variables}
+use Rattle.ds2_elaboration.specs.SourceTypes.{Absent, clashing_table, clashing_tables, program_inputs, program_variables, unit_names}
 use Rattle.ds2_types.specs.Judgements.{first_type_refusal, lesser_refusal}
 use Rattle.ds2_types.proofs.RefusalOrder.{least_append}
 use Rattle.ds2_program_types.specs.MethodRules.{column_rules}
 use Rattle.ds2_program_types.proofs.RuleLists.{given_of}
+use Rattle.ds2_program_types.proofs.PlainUnits.{clashes_told}
 
 broken_append : (xs ys : List Place) → broken_at TypeClash (xs ++ ys) ≡ broken_at TypeClash xs ++ broken_at TypeClash ys
 broken_append [] ys = refl
@@ -37,7 +38,7 @@ broken_both {S} {T} of_declared of_others xs ys =
     ∙ ap (λ (l : TypeRefusals). l ++ broken_at TypeClash (from_each of_others ys)) (broken_each of_declared xs)
     ∙ ap (λ (l : TypeRefusals). from_each (λ (x : S). broken_at TypeClash (of_declared x)) xs ++ l) (broken_each of_others ys)
 
-module _ (tables : TableColumns) (u : DataProgram) where
+module _ (tables : TableColumns) (before : UnitsBefore) (u : UnitSource) (e : (unit_names tables before u).instances ≡ []) where
   -- the places at which columns break rules
   abbrev pub clashes_of : List Variable → List PlacedName → List Input → List Place
   clashes_of declared columns inputs =
@@ -46,11 +47,11 @@ module _ (tables : TableColumns) (u : DataProgram) where
 
   -- the broken rule that is given of columns
   pub columns_ruled : (declared : List Variable) (columns : List PlacedName) (inputs : List Input) (first second result : Option (Refusal TypeKind)) → declared ≡ program_variables u
-      → columns ≡ (names_of_source tables u).columns → inputs ≡ program_inputs u → first ≡ given_of (λ (v : Variable). column_rules tables inputs declared v.name) declared
+      → columns ≡ (unit_names tables before u).columns → inputs ≡ program_inputs tables before u → first ≡ given_of (λ (v : Variable). column_rules tables inputs declared v.name) declared
       → second ≡ given_of (λ (n : PlacedName). column_rules tables inputs declared n.name) columns → result ≡ lesser_refusal first second
-      → result ≡ first_type_refusal (broken_at TypeClash (clashing_tables tables u))
-  columns_ruled declared columns inputs first second result d k i f s e =
-      e ∙ ap (λ (o : Option (Refusal TypeKind)). lesser_refusal o second) f ∙ ap (lesser_refusal (given_of (λ (v : Variable). column_rules tables inputs declared v.name) declared)) s
+      → result ≡ first_type_refusal (broken_at TypeClash (clashing_tables tables before u))
+  columns_ruled declared columns inputs first second result d k i f s r =
+      r ∙ ap (λ (o : Option (Refusal TypeKind)). lesser_refusal o second) f ∙ ap (lesser_refusal (given_of (λ (v : Variable). column_rules tables inputs declared v.name) declared)) s
       ∙ sym
       (least_append (from_each (λ (v : Variable). column_rules tables inputs declared v.name) declared) (from_each (λ (n : PlacedName). column_rules tables inputs declared n.name) columns))
       ∙ sym
@@ -59,4 +60,5 @@ module _ (tables : TableColumns) (u : DataProgram) where
       (λ (n : PlacedName). clashing_table tables (type_in declared n.name) n.name Absent inputs) declared columns))
       ∙ ap (λ (vs : List Variable). first_type_refusal (broken_at TypeClash (clashes_of vs columns inputs))) d
       ∙ ap (λ (ns : List PlacedName). first_type_refusal (broken_at TypeClash (clashes_of (program_variables u) ns inputs))) k
-      ∙ ap (λ (is : List Input). first_type_refusal (broken_at TypeClash (clashes_of (program_variables u) (names_of_source tables u).columns is))) i
+      ∙ ap (λ (is : List Input). first_type_refusal (broken_at TypeClash (clashes_of (program_variables u) (unit_names tables before u).columns is))) i
+      ∙ ap (λ (l : List Place). first_type_refusal (broken_at TypeClash l)) (sym (clashes_told tables before u e))

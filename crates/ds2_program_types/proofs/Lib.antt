@@ -7,6 +7,8 @@ pub mod RetainedForms
 pub mod SystemForms
 pub mod RuleLists
 pub mod NameColumns
+pub mod NamesBehind
+pub mod PlainUnits
 pub mod UnitForms
 pub mod BodyForms
 pub mod PartForms

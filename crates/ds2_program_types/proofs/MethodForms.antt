@@ -1,8 +1,8 @@
 -- A typed method of its parts.
 use Rattle.std.proofs.Common.{◌≡◌, ℕ, List, Option, Some, ap, ◌∙◌}
+use Rattle.ds2_elaboration.specs.UnitsBefore.{UnitsBefore}
 use Rattle.ds2_value.specs.declared.ty.Ty.{Ty}
 use Rattle.ds2_tree.specs.Globals.{Method}
-use Rattle.ds2_tree.specs.Units.{DataProgram}
 use Rattle.ds2_meaning.specs.Method.{MethodTree}
 use Rattle.ds2_meaning.specs.ProgramTree.{BodyTree}
 use Rattle.ds2_meaning.specs.TypedStatement.{TypedStatements}
@@ -10,7 +10,7 @@ use Rattle.ds2_meaning.specs.View.{typed_statements}
 use Rattle.ds2_meaning.specs.declared.globals.Variable.{Variable}
 use Rattle.ds2_meaning.specs.declared.methods.Parameter.{Parameter}
 use Rattle.ds2_meaning.specs.declared.statements.Statement.{Statement}
-use Rattle.ds2_names.specs.SourceUnit.{TableColumns, spelled_name}
+use Rattle.ds2_names.specs.SourceUnit.{TableColumns, spelled_name, UnitSource}
 use Rattle.ds2_elaboration.specs.ProgramTypes.{method_tree_of, body_of_method, scope_of_method}
 use Rattle.ds2_elaboration.specs.SourceTypes.{declared_variables, elaborated_parameters, returned_type}
 use Rattle.ds2_elaboration.specs.StatementTypes.{statements_node}
@@ -21,11 +21,11 @@ method_of name parameters locals returns body = record { name = name; parameters
 abbrev pub body_of : List Variable → TypedStatements → BodyTree
 body_of locals body = record { locals = locals; statements = body }
 
-module _ (tables : TableColumns) (u : DataProgram) (m : Method) where
+module _ (tables : TableColumns) (before : UnitsBefore) (u : UnitSource) (m : Method) where
   -- a method that can be called
   pub same_method : (name : List ℕ) (parameters : List Parameter) (locals : List Variable) (returns : Option Ty) (body : List Statement) → name ≡ spelled_name m.name
       → parameters ≡ elaborated_parameters m → locals ≡ declared_variables m.locals → returns ≡ returned_type m.returns
-      → typed_statements body ≡ statements_node (scope_of_method tables u m) m.body → method_of name parameters locals returns (typed_statements body) ≡ method_tree_of tables u m
+      → typed_statements body ≡ statements_node (scope_of_method tables before u m) m.body → method_of name parameters locals returns (typed_statements body) ≡ method_tree_of tables before u m
   same_method name parameters locals returns body a b c d e =
       ap (λ (x : List ℕ). method_of x parameters locals returns (typed_statements body)) a
       ∙ ap (λ (x : List Parameter). method_of (spelled_name m.name) x locals returns (typed_statements body)) b
@@ -34,7 +34,7 @@ module _ (tables : TableColumns) (u : DataProgram) (m : Method) where
       ∙ ap (λ (x : TypedStatements). method_of (spelled_name m.name) (elaborated_parameters m) (declared_variables m.locals) (returned_type m.returns) x) e
 
   -- a system method
-  pub same_body : (locals : List Variable) (body : List Statement) → locals ≡ declared_variables m.locals → typed_statements body ≡ statements_node (scope_of_method tables u m) m.body
-      → body_of locals (typed_statements body) ≡ body_of_method tables u (Some m)
+  pub same_body : (locals : List Variable) (body : List Statement) → locals ≡ declared_variables m.locals → typed_statements body ≡ statements_node (scope_of_method tables before u m) m.body
+      → body_of locals (typed_statements body) ≡ body_of_method tables before u (Some m)
   same_body locals body c e =
       ap (λ (x : List Variable). body_of x (typed_statements body)) c ∙ ap (λ (x : TypedStatements). body_of (declared_variables m.locals) x) e

@@ -1,14 +1,14 @@
 -- The columns among the names of a program.
 use Rattle.std.proofs.Common.{◌≡◌, ℕ, ◌+◌, List, [], ◌∷◌, ◌++◌, length, drop, map, refl, sym, ◌∙◌, length-append}
 use Rattle.std.proofs.lemmas.List.{length-map}
+use Rattle.ds2_elaboration.specs.UnitsBefore.{UnitsBefore}
 use Rattle.ds2_token.specs.declared.token.Token.{Token}
-use Rattle.ds2_tree.specs.Units.{DataProgram}
 use Rattle.ds2_tree.specs.declared.globals.VariableDeclaration.{VariableDeclaration}
 use Rattle.ds2_meaning.specs.declared.globals.Variable.{Variable}
-use Rattle.ds2_names.specs.SourceUnit.{TableColumns, PlacedName, placed_name, spelled_name, declared_names, variable_declarations, names_of_source}
-use Rattle.ds2_scope.specs.ProgramNames.{NamesAre}
-use Rattle.ds2_scope.specs.declared.program_names.ProgramNames.{ProgramNames}
-use Rattle.ds2_elaboration.specs.SourceTypes.{spelled_type, declared_variables, program_variables}
+use Rattle.ds2_names.specs.SourceUnit.{TableColumns, PlacedName, placed_name, spelled_name, declared_names, variable_declarations, UnitSource}
+use Rattle.ds2_scope.specs.UnitNames.{NamesAre}
+use Rattle.ds2_scope.specs.declared.unit_names.UnitNames.{UnitNames}
+use Rattle.ds2_elaboration.specs.SourceTypes.{spelled_type, declared_variables, program_variables, unit_names}
 
 -- a variable of a declaration
 abbrev variable_of : VariableDeclaration → Token → Variable
@@ -27,9 +27,9 @@ behind [] ys = refl
 behind (x ∷ xs) ys = behind xs ys
 
 -- what stands behind the names of declared variables
-pub columns_told : (tables : TableColumns) (u : DataProgram) (n : ProgramNames) (k : ℕ) (columns : List PlacedName) → NamesAre n (names_of_source tables u) → k ≡ length (program_variables u)
-    → columns ≡ drop k n.variables → columns ≡ (names_of_source tables u).columns
-columns_told tables u n k columns h l e =
+pub columns_told : (tables : TableColumns) (before : UnitsBefore) (u : UnitSource) (n : UnitNames) (k : ℕ) (columns : List PlacedName) → NamesAre n (unit_names tables before u) → k ≡ length (program_variables u)
+    → columns ≡ drop k n.variables → columns ≡ (unit_names tables before u).columns
+columns_told tables before u n k columns h l e =
     e
     ∙ (λ i. drop ((l ∙ as_many (variable_declarations u.globals)) i) (h.variables i))
-    ∙ behind (declared_names (variable_declarations u.globals)) (names_of_source tables u).columns
+    ∙ behind (declared_names (variable_declarations u.globals)) (unit_names tables before u).columns

@@ -4,7 +4,7 @@ use Rattle.std.proofs.lemmas.List.{append-nil}
 use Rattle.ds2_tree.specs.declared.units.OutputTable.{OutputTable}
 use Rattle.ds2_meaning.specs.declared.globals.OutputColumn.{OutputColumn}
 use Rattle.ds2_meaning.specs.declared.globals.Variable.{Variable}
-use Rattle.ds2_names.specs.NameRules.{is_output_column, options_of}
+use Rattle.ds2_names.specs.NameRules.{is_output_column, options_of, renamings_of}
 use Rattle.ds2_names.specs.SourceUnit.{UnitSource}
 use Rattle.ds2_elaboration.specs.ProgramTypes.{made_column}
 use Rattle.ds2_given_names.specs.OutputParts.{AreStatementLists, AreOptionLists, passes_lists}
@@ -16,14 +16,14 @@ use Rattle.ds2_program_types.specs.declared.outputs.OutputParts.{OutputParts}
 module _ (parts : OutputParts) (variables : List Variable) (o : OutputTable) where
   -- the column of a variable, where it is one
   abbrev pub column_if : Bool → List ℕ → List OutputColumn
-  column_if passes name = if passes then made_column variables o name ∷ [] else []
+  column_if passes name = if passes then made_column variables (renamings_of o) name ∷ [] else []
 
-  column_told : (name : List ℕ) (b : Bool) → column_if b name ≡ map (made_column variables o) (if b then name ∷ [] else [])
+  column_told : (name : List ℕ) (b : Bool) → column_if b name ≡ map (made_column variables (renamings_of o)) (if b then name ∷ [] else [])
   column_told name true = refl
   column_told name false = refl
 
   -- a variable that is let through is one column more
-  pub passed_column : (name : List ℕ) (b : Bool) (old new : List OutputColumn) (own : OutputColumn) → b ≡ passes_both parts name → b ≡ true → own ≡ made_column variables o name
+  pub passed_column : (name : List ℕ) (b : Bool) (old new : List OutputColumn) (own : OutputColumn) → b ≡ passes_both parts name → b ≡ true → own ≡ made_column variables (renamings_of o) name
       → new ≡ old ++ own ∷ [] → new ≡ old ++ columns_made_of parts variables o (name ∷ [])
   passed_column name b old new own p t e n =
       n ∙ ap (λ (c : OutputColumn). old ++ c ∷ []) e ∙ ap (λ (x : Bool). old ++ column_if x name) (sym t ∙ p)
@@ -39,8 +39,8 @@ module _ (parts : OutputParts) (variables : List Variable) (o : OutputTable) whe
   column_more name names = by (passes_both parts name)
     where
       by : (b : Bool)
-          → map (made_column variables o) (if b then name ∷ filter (passes_both parts) names else filter (passes_both parts) names)
-          ≡ map (made_column variables o) (if b then name ∷ [] else []) ++ map (made_column variables o) (filter (passes_both parts) names)
+          → map (made_column variables (renamings_of o)) (if b then name ∷ filter (passes_both parts) names else filter (passes_both parts) names)
+          ≡ map (made_column variables (renamings_of o)) (if b then name ∷ [] else []) ++ map (made_column variables (renamings_of o)) (filter (passes_both parts) names)
       by true = refl
       by false = refl
 
@@ -50,9 +50,9 @@ filter_alike {A} p q h (x ∷ xs) = λ i. if h x i then x ∷ filter_alike p q h
 
 -- the columns of an output, by the tables of names and by the lists
 pub columns_whole : (s k : KeepDrop) (variables : List Variable) (o : OutputTable) (u : UnitSource) → AreStatementLists s u.globals → AreOptionLists k (options_of o.options)
-    → (names : List (List ℕ)) → map (made_column variables o) (filter (λ (name : List ℕ). passes_lists s name && passes_lists k name) names)
-    ≡ map (made_column variables o) (filter (is_output_column u (options_of o.options)) names)
+    → (names : List (List ℕ)) → map (made_column variables (renamings_of o)) (filter (λ (name : List ℕ). passes_lists s name && passes_lists k name) names)
+    ≡ map (made_column variables (renamings_of o)) (filter (is_output_column u (options_of o.options)) names)
 columns_whole s k variables o u a b names =
-    ap (map (made_column variables o))
+    ap (map (made_column variables (renamings_of o)))
     (filter_alike (λ (name : List ℕ). passes_lists s name && passes_lists k name) (is_output_column u (options_of o.options))
     (λ name. passes_is s k u (options_of o.options) a b name) names)

@@ -1,13 +1,13 @@
 -- The broken rule that is given of parts, one by one.
 use Rattle.std.proofs.Common.{◌≡◌, ℕ, ◌+◌, ◌<◌, ◌≤◌, List, [], ◌∷◌, ◌++◌, length, get_or, take, map, Option, Result, Ok, Err, Some, None, refl, sym, ap, ◌∙◌, subst}
 use Rattle.std.proofs.lemmas.List.{take_more, take_all}
+use Rattle.ds2_elaboration.specs.UnitsBefore.{UnitsBefore}
 use Rattle.ds2_base.specs.declared.place.Refusal.{Refusal}
 use Rattle.ds2_elaboration.specs.Typings.{TypeRefusals}
 use Rattle.ds2_meaning.specs.declared.refusals.TypeKind.{TypeKind}
 use Rattle.ds2_names.specs.NameRules.{from_each}
 use Rattle.ds2_tree.specs.Globals.{GlobalItem, Declared, Listed, Defined}
-use Rattle.ds2_tree.specs.Units.{DataProgram}
-use Rattle.ds2_names.specs.SourceUnit.{TableColumns, source_methods}
+use Rattle.ds2_names.specs.SourceUnit.{TableColumns, source_methods, UnitSource}
 use Rattle.ds2_elaboration.specs.ProgramTypes.{method_refusals}
 use Rattle.ds2_types.specs.Judgements.{first_type_refusal, lesser_refusal, IsOutcome}
 use Rattle.ds2_types.proofs.Outcomes.{given_before, given_of_both}
@@ -32,13 +32,13 @@ module _ {S : Type 0} (rules : S → TypeRefusals) where
   all_ruled xs i found l h = h ∙ ap given_of (take_all i xs l)
 
 -- the rules of the methods among the parts of a unit
-pub rules_of_methods : {S : Type 0} (tree : S → GlobalItem) (tables : TableColumns) (u : DataProgram) (globals : List S)
-    → from_each (λ (g : S). part_rules tables u (tree g)) globals ≡ from_each (method_refusals tables u) (source_methods (map tree globals))
-rules_of_methods tree tables u [] = refl
-rules_of_methods tree tables u (g ∷ gs) = ap (λ (r : TypeRefusals). part_rules tables u (tree g) ++ r) (rules_of_methods tree tables u gs) ∙ by (tree g)
+pub rules_of_methods : {S : Type 0} (tree : S → GlobalItem) (tables : TableColumns) (before : UnitsBefore) (u : UnitSource) (globals : List S)
+    → from_each (λ (g : S). part_rules tables before u (tree g)) globals ≡ from_each (method_refusals tables before u) (source_methods (map tree globals))
+rules_of_methods tree tables before u [] = refl
+rules_of_methods tree tables before u (g ∷ gs) = ap (λ (r : TypeRefusals). part_rules tables before u (tree g) ++ r) (rules_of_methods tree tables before u gs) ∙ by (tree g)
   where
     by : (x : GlobalItem)
-        → part_rules tables u x ++ from_each (method_refusals tables u) (source_methods (map tree gs)) ≡ from_each (method_refusals tables u) (source_methods (x ∷ map tree gs))
+        → part_rules tables before u x ++ from_each (method_refusals tables before u) (source_methods (map tree gs)) ≡ from_each (method_refusals tables before u) (source_methods (x ∷ map tree gs))
     by (Declared d) = refl
     by (Listed keyword names end) = refl
     by (Defined m) = refl

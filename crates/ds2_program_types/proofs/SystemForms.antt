@@ -4,13 +4,13 @@ use Rattle.std.specs.Prelude.{find, not}
 use Rattle.std.specs.Option.{option_or}
 use Rattle.std.proofs.lemmas.List.{append-nil}
 use Rattle.std.proofs.lemmas.Slice.Eq.{bytes_eq-Decides}
+use Rattle.ds2_elaboration.specs.UnitsBefore.{UnitsBefore}
 use Rattle.ds2_tree.specs.Globals.{Method}
-use Rattle.ds2_tree.specs.Units.{DataProgram}
 use Rattle.ds2_meaning.specs.Method.{MethodTree}
 use Rattle.ds2_meaning.specs.View.{typed_method, system_tree}
 use Rattle.ds2_meaning.specs.declared.methods.Method as typed
 use Rattle.ds2_meaning.specs.declared.methods.SystemMethod.{SystemMethod}
-use Rattle.ds2_names.specs.SourceUnit.{TableColumns, is_system_name, spelled_name}
+use Rattle.ds2_names.specs.SourceUnit.{TableColumns, is_system_name, spelled_name, UnitSource}
 use Rattle.ds2_names.specs.Uses.{method_named}
 use Rattle.ds2_scope.proofs.TableLemmas.{or_none}
 use Rattle.ds2_elaboration.specs.ExpressionTypes.{callable_methods}
@@ -54,82 +54,82 @@ last_of_three false false c s e f = s
 last_of_three true b c s e f = cc
 last_of_three false true c s e f = cc
 
-module _ (tables : TableColumns) (u : DataProgram) (methods : List Method) (own : Method) where
+module _ (tables : TableColumns) (before : UnitsBefore) (u : UnitSource) (methods : List Method) (own : Method) where
   -- a method of another name
-  pub other_system : (name : List ℕ) (m : Option SystemMethod) → bytes_eq (spelled_name own.name) name ≡ false → IsSystem tables u methods name m
-      → IsSystem tables u (methods ++ own ∷ []) name m
+  pub other_system : (name : List ℕ) (m : Option SystemMethod) → bytes_eq (spelled_name own.name) name ≡ false → IsSystem tables before u methods name m
+      → IsSystem tables before u (methods ++ own ∷ []) name m
   other_system name m e h =
       let same : method_named (methods ++ own ∷ []) name ≡ method_named methods name =
       find_push (λ (x : Method). bytes_eq (spelled_name x.name) name) methods own
       ∙ ap (λ (b : Bool). option_or (method_named methods name) (cond b (Some own) None)) e ∙ or_none (method_named methods name) in
       record {
         place = h.place ∙ sym (ap place_of_name same);
-        body = h.body ∙ sym (ap (body_of_method tables u) same);
+        body = h.body ∙ sym (ap (body_of_method tables before u) same);
       }
 
-  first_of : (x : Option Method) (m : Option SystemMethod) (more : SystemMethod) → kept_place m ≡ place_of_name x → system_tree m ≡ body_of_method tables u x
-      → IsSystemOf tables u own more
-      → (kept_place (option_or m (Some more)) ≡ place_of_name (option_or x (Some own))) × (system_tree (option_or m (Some more)) ≡ body_of_method tables u (option_or x (Some own)))
+  first_of : (x : Option Method) (m : Option SystemMethod) (more : SystemMethod) → kept_place m ≡ place_of_name x → system_tree m ≡ body_of_method tables before u x
+      → IsSystemOf tables before u own more
+      → (kept_place (option_or m (Some more)) ≡ place_of_name (option_or x (Some own))) × (system_tree (option_or m (Some more)) ≡ body_of_method tables before u (option_or x (Some own)))
   first_of None None more e f g = (ap (λ p. Some p) g.0, g.1)
   first_of (Some x) (Some m) more e f g = (e, f)
   first_of None (Some m) more e f g = cc
   first_of (Some x) None more e f g = cc
 
   -- a method of this name: of two the first counts
-  pub this_system : (name : List ℕ) (m next : Option SystemMethod) (more : SystemMethod) → bytes_eq (spelled_name own.name) name ≡ true → IsSystem tables u methods name m
-      → IsSystemOf tables u own more → next ≡ option_or m (Some more) → IsSystem tables u (methods ++ own ∷ []) name next
+  pub this_system : (name : List ℕ) (m next : Option SystemMethod) (more : SystemMethod) → bytes_eq (spelled_name own.name) name ≡ true → IsSystem tables before u methods name m
+      → IsSystemOf tables before u own more → next ≡ option_or m (Some more) → IsSystem tables before u (methods ++ own ∷ []) name next
   this_system name m next more e h g n =
       let same : method_named (methods ++ own ∷ []) name ≡ option_or (method_named methods name) (Some own) =
       find_push (λ (x : Method). bytes_eq (spelled_name x.name) name) methods own
       ∙ ap (λ (b : Bool). option_or (method_named methods name) (cond b (Some own) None)) e in
       let first = first_of (method_named methods name) m more h.place h.body g in
-      subst (λ (o : Option SystemMethod). IsSystem tables u (methods ++ own ∷ []) name o) (sym n)
+      subst (λ (o : Option SystemMethod). IsSystem tables before u (methods ++ own ∷ []) name o) (sym n)
       (record {
         place = first.0 ∙ sym (ap place_of_name same);
-        body = first.1 ∙ sym (ap (body_of_method tables u) same);
+        body = first.1 ∙ sym (ap (body_of_method tables before u) same);
       })
 
   -- the methods that can be called, with one more
-  pub callable_more : (all : List typed.Method) (m : typed.Method) → map typed_method all ≡ map (method_tree_of tables u) (callable_methods methods)
-      → is_system_name (spelled_name own.name) ≡ false → typed_method m ≡ method_tree_of tables u own
-      → map typed_method (all ++ m ∷ []) ≡ map (method_tree_of tables u) (callable_methods (methods ++ own ∷ []))
+  pub callable_more : (all : List typed.Method) (m : typed.Method) → map typed_method all ≡ map (method_tree_of tables before u) (callable_methods methods)
+      → is_system_name (spelled_name own.name) ≡ false → typed_method m ≡ method_tree_of tables before u own
+      → map typed_method (all ++ m ∷ []) ≡ map (method_tree_of tables before u) (callable_methods (methods ++ own ∷ []))
   callable_more all m h s e =
       map-push typed_method all m ∙ ap (λ (l : List MethodTree). l ++ typed_method m ∷ []) h
-      ∙ ap (λ (t : MethodTree). map (method_tree_of tables u) (callable_methods methods) ++ t ∷ []) e
+      ∙ ap (λ (t : MethodTree). map (method_tree_of tables before u) (callable_methods methods) ++ t ∷ []) e
       ∙ sym
-      (ap (map (method_tree_of tables u))
+      (ap (map (method_tree_of tables before u))
       (filter_push (λ (x : Method). not (is_system_name (spelled_name x.name))) methods own
       ∙ ap (λ (b : Bool). callable_methods methods ++ cond (not b) (own ∷ []) []) s)
-      ∙ map-push (method_tree_of tables u) (callable_methods methods) own)
+      ∙ map-push (method_tree_of tables before u) (callable_methods methods) own)
 
   -- a system method is none of them
   pub callable_same : is_system_name (spelled_name own.name) ≡ true → callable_methods (methods ++ own ∷ []) ≡ callable_methods methods ++ []
   callable_same s =
       filter_push (λ (x : Method). not (is_system_name (spelled_name x.name))) methods own ∙ ap (λ (b : Bool). callable_methods methods ++ cond (not b) (own ∷ []) []) s
 
-  callable_kept : (all : List typed.Method) → map typed_method all ≡ map (method_tree_of tables u) (callable_methods methods) → is_system_name (spelled_name own.name) ≡ true
-      → map typed_method all ≡ map (method_tree_of tables u) (callable_methods (methods ++ own ∷ []))
-  callable_kept all h s = h ∙ ap (map (method_tree_of tables u)) (sym (callable_same s ∙ append-nil (callable_methods methods)))
+  callable_kept : (all : List typed.Method) → map typed_method all ≡ map (method_tree_of tables before u) (callable_methods methods) → is_system_name (spelled_name own.name) ≡ true
+      → map typed_method all ≡ map (method_tree_of tables before u) (callable_methods (methods ++ own ∷ []))
+  callable_kept all h s = h ∙ ap (map (method_tree_of tables before u)) (sym (callable_same s ∙ append-nil (callable_methods methods)))
 
   -- one more that can be called, behind the others
-  pub callable_added : (t next : TypedMethods) (m : typed.Method) → AreMethodsOf tables u methods t → is_system_name (spelled_name own.name) ≡ false → typed_method m ≡ method_tree_of tables u own
-      → next.methods ≡ t.methods ++ m ∷ [] → next.init ≡ t.init → next.run ≡ t.run → next.term ≡ t.term → AreMethodsOf tables u (methods ++ own ∷ []) next
+  pub callable_added : (t next : TypedMethods) (m : typed.Method) → AreMethodsOf tables before u methods t → is_system_name (spelled_name own.name) ≡ false → typed_method m ≡ method_tree_of tables before u own
+      → next.methods ≡ t.methods ++ m ∷ [] → next.init ≡ t.init → next.run ≡ t.run → next.term ≡ t.term → AreMethodsOf tables before u (methods ++ own ∷ []) next
   callable_added t next m h s e l i r k =
       let none = none_of_three (bytes_eq (spelled_name own.name) (codes "init")) (bytes_eq (spelled_name own.name) (codes "run")) (bytes_eq (spelled_name own.name) (codes "term")) s in
       record {
         callable = ap (map typed_method) l ∙ callable_more t.methods m h.callable s e;
-        init = subst (λ (o : Option SystemMethod). IsSystem tables u (methods ++ own ∷ []) (codes "init") o) (sym i) (other_system (codes "init") t.init none.0 h.init);
-        run = subst (λ (o : Option SystemMethod). IsSystem tables u (methods ++ own ∷ []) (codes "run") o) (sym r) (other_system (codes "run") t.run none.1 h.run);
-        term = subst (λ (o : Option SystemMethod). IsSystem tables u (methods ++ own ∷ []) (codes "term") o) (sym k) (other_system (codes "term") t.term none.2 h.term);
+        init = subst (λ (o : Option SystemMethod). IsSystem tables before u (methods ++ own ∷ []) (codes "init") o) (sym i) (other_system (codes "init") t.init none.0 h.init);
+        run = subst (λ (o : Option SystemMethod). IsSystem tables before u (methods ++ own ∷ []) (codes "run") o) (sym r) (other_system (codes "run") t.run none.1 h.run);
+        term = subst (λ (o : Option SystemMethod). IsSystem tables before u (methods ++ own ∷ []) (codes "term") o) (sym k) (other_system (codes "term") t.term none.2 h.term);
       }
 
   other_named : (name other : List ℕ) → bytes_eq (spelled_name own.name) name ≡ true → bytes_eq name other ≡ false → bytes_eq (spelled_name own.name) other ≡ false
   other_named name other e f = ap (λ (n : List ℕ). bytes_eq n other) ((bytes_eq-Decides (spelled_name own.name) name).0 e) ∙ f
 
   -- one more `init`
-  pub init_added : (t : TypedMethods) (next : Option SystemMethod) (m : SystemMethod) → AreMethodsOf tables u methods t → is_system_name (spelled_name own.name) ≡ true
-      → bytes_eq (spelled_name own.name) (codes "init") ≡ true → IsSystemOf tables u own m → next ≡ option_or t.init (Some m)
-      → AreMethodsOf tables u (methods ++ own ∷ []) (record { methods = t.methods; init = next; run = t.run; term = t.term })
+  pub init_added : (t : TypedMethods) (next : Option SystemMethod) (m : SystemMethod) → AreMethodsOf tables before u methods t → is_system_name (spelled_name own.name) ≡ true
+      → bytes_eq (spelled_name own.name) (codes "init") ≡ true → IsSystemOf tables before u own m → next ≡ option_or t.init (Some m)
+      → AreMethodsOf tables before u (methods ++ own ∷ []) (record { methods = t.methods; init = next; run = t.run; term = t.term })
   init_added t next m h s e g n = record {
     callable = callable_kept t.methods h.callable s;
     init = this_system (codes "init") t.init next m e h.init g n;
@@ -138,9 +138,9 @@ module _ (tables : TableColumns) (u : DataProgram) (methods : List Method) (own 
   }
 
   -- one more `run`
-  pub run_added : (t : TypedMethods) (next : Option SystemMethod) (m : SystemMethod) → AreMethodsOf tables u methods t → is_system_name (spelled_name own.name) ≡ true
-      → bytes_eq (spelled_name own.name) (codes "run") ≡ true → IsSystemOf tables u own m → next ≡ option_or t.run (Some m)
-      → AreMethodsOf tables u (methods ++ own ∷ []) (record { methods = t.methods; init = t.init; run = next; term = t.term })
+  pub run_added : (t : TypedMethods) (next : Option SystemMethod) (m : SystemMethod) → AreMethodsOf tables before u methods t → is_system_name (spelled_name own.name) ≡ true
+      → bytes_eq (spelled_name own.name) (codes "run") ≡ true → IsSystemOf tables before u own m → next ≡ option_or t.run (Some m)
+      → AreMethodsOf tables before u (methods ++ own ∷ []) (record { methods = t.methods; init = t.init; run = next; term = t.term })
   run_added t next m h s e g n = record {
     callable = callable_kept t.methods h.callable s;
     init = other_system (codes "init") t.init (other_named (codes "run") (codes "init") e refl) h.init;
@@ -149,9 +149,9 @@ module _ (tables : TableColumns) (u : DataProgram) (methods : List Method) (own 
   }
 
   -- one more `term`: a system method that is neither of the others
-  pub term_added : (t : TypedMethods) (next : Option SystemMethod) (m : SystemMethod) → AreMethodsOf tables u methods t → is_system_name (spelled_name own.name) ≡ true
-      → bytes_eq (spelled_name own.name) (codes "init") ≡ false → bytes_eq (spelled_name own.name) (codes "run") ≡ false → IsSystemOf tables u own m
-      → next ≡ option_or t.term (Some m) → AreMethodsOf tables u (methods ++ own ∷ []) (record { methods = t.methods; init = t.init; run = t.run; term = next })
+  pub term_added : (t : TypedMethods) (next : Option SystemMethod) (m : SystemMethod) → AreMethodsOf tables before u methods t → is_system_name (spelled_name own.name) ≡ true
+      → bytes_eq (spelled_name own.name) (codes "init") ≡ false → bytes_eq (spelled_name own.name) (codes "run") ≡ false → IsSystemOf tables before u own m
+      → next ≡ option_or t.term (Some m) → AreMethodsOf tables before u (methods ++ own ∷ []) (record { methods = t.methods; init = t.init; run = t.run; term = next })
   term_added t next m h s e f g n =
       let third = last_of_three (bytes_eq (spelled_name own.name) (codes "init")) (bytes_eq (spelled_name own.name) (codes "run")) (bytes_eq (spelled_name own.name) (codes "term")) s e f in
       record {

@@ -1,23 +1,23 @@
 -- The rules of types that the methods and columns of a program break, one by one.
 use Rattle.std.specs.Prelude.{ℕ, List, [], Option, Some, None, Result, Ok, Err}
+use Rattle.ds2_elaboration.specs.UnitsBefore.{UnitsBefore}
 use Rattle.ds2_base.specs.declared.place.Refusal.{Refusal}
 use Rattle.ds2_tree.specs.Globals.{GlobalItem, Defined}
-use Rattle.ds2_tree.specs.Units.{DataProgram}
 use Rattle.ds2_tree.specs.declared.readings.Input as source_input
 use Rattle.ds2_meaning.specs.IsTyped.{type_in}
 use Rattle.ds2_meaning.specs.declared.globals.Variable.{Variable}
 use Rattle.ds2_meaning.specs.declared.refusals.TypeKind.{TypeKind}
 use Rattle.ds2_meaning.specs.declared.refusals.TypeKind.TheVariants.{TypeClash}
 use Rattle.ds2_names.specs.Refusals.{broken_at, first_of_both, type_rank}
-use Rattle.ds2_names.specs.SourceUnit.{TableColumns}
+use Rattle.ds2_names.specs.SourceUnit.{TableColumns, UnitSource}
 use Rattle.ds2_elaboration.specs.ProgramTypes.{method_refusals}
 use Rattle.ds2_elaboration.specs.SourceTypes.{Absent, clashing_table}
 use Rattle.ds2_elaboration.specs.Typings.{TypeRefusals}
 
 -- what a part of a unit breaks, where it is a method
-abbrev pub part_rules : TableColumns → DataProgram → GlobalItem → TypeRefusals
-part_rules tables u (Defined m) = method_refusals tables u m
-part_rules tables u _ = []
+abbrev pub part_rules : TableColumns → UnitsBefore → UnitSource → GlobalItem → TypeRefusals
+part_rules tables before u (Defined m) = method_refusals tables before u m
+part_rules tables before u _ = []
 
 -- what the tables of a column of this name break, beside the variables that a program declares
 abbrev pub column_rules : TableColumns → List source_input.Input → List Variable → List ℕ → TypeRefusals

@@ -1,22 +1,21 @@
 -- A typed program, and the parts that it is made of.
 use Rattle.std.specs.Prelude.{◌≡◌, codes, List, [], map}
-use Rattle.ds2_tree.specs.Units.{DataProgram}
-use Rattle.ds2_meaning.specs.declared.readings.MentionedTable.{MentionedTable}
+use Rattle.ds2_elaboration.specs.UnitsBefore.{UnitsBefore, typed_stage_columns}
 use Rattle.ds2_meaning.specs.declared.units.Program.{Program}
 use Rattle.ds2_names.specs.NameRules.{listed_in_statements}
-use Rattle.ds2_names.specs.SourceUnit.{TableColumns, reading_of_run, source_methods}
+use Rattle.ds2_names.specs.SourceUnit.{TableColumns, reading_of_run, source_methods, UnitSource}
 use Rattle.ds2_elaboration.specs.ProgramTypes.{made_output, made_outputs, read_statement}
-use Rattle.ds2_elaboration.specs.SourceTypes.{column_variables, program_variables}
+use Rattle.ds2_elaboration.specs.SourceTypes.{column_variables, program_variables, unit_stage}
 use Rattle.ds2_program_types.specs.declared.methods.TypedMethods.{TypedMethods}
 use Rattle.ds2_program_types.specs.declared.parts.ProgramParts.{ProgramParts}
 
--- the parts of a program, behind data programs that make these tables
-pub record ArePartsOf (tables : TableColumns) (made : List MentionedTable) (u : DataProgram) (p : ProgramParts) : Type 0 where
+-- the parts of a program behind these units
+pub record ArePartsOf (tables : TableColumns) (before : UnitsBefore) (u : UnitSource) (p : ProgramParts) : Type 0 where
   pub declared : p.declared ≡ program_variables u
-  pub columns : p.columns ≡ column_variables tables u
+  pub columns : p.columns ≡ column_variables tables before u
   pub retained : p.retained ≡ listed_in_statements (codes "retain") u.globals
-  pub reading : p.reading ≡ read_statement tables made (reading_of_run (source_methods u.globals))
-  pub outputs : p.outputs ≡ map (made_output tables u) (made_outputs u)
+  pub reading : p.reading ≡ read_statement tables before.names.made (typed_stage_columns (unit_stage tables before u)) (reading_of_run (source_methods u.globals))
+  pub outputs : p.outputs ≡ map (made_output tables before u) (made_outputs u)
 
 -- a typed program of these parts and methods, without instances
 pub record IsMadeOf (program : Program) (p : ProgramParts) (m : TypedMethods) : Type 0 where

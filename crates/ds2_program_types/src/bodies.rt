@@ -1,11 +1,11 @@
 //! The statements of a method of a program.
 ghost use Rattle.std.specs.Prelude.{◌≡◌, IfOk};
+ghost use Rattle.ds2_elaboration.specs.UnitsBefore.{UnitsBefore};
 ghost use Rattle.ds2_elaboration.specs.ProgramTypes.{scope_of_method, return_rule};
 ghost use Rattle.ds2_elaboration.specs.StatementTypes.{statements_refusals, statements_node};
 ghost use Rattle.ds2_meaning.specs.View.{typed_statements};
-ghost use Rattle.ds2_names.specs.SourceUnit.{TableColumns};
+ghost use Rattle.ds2_names.specs.SourceUnit.{TableColumns, UnitSource};
 ghost use Rattle.ds2_tree.specs.UnitViews.{method_tree};
-ghost use Rattle.ds2_tree.specs.Units.{DataProgram};
 ghost use Rattle.ds2_types.specs.Judgements.{first_type_refusal, IsOutcome};
 ghost use Rattle.ds2_program_types.specs.UnitScopes.{AreUnitTables};
 
@@ -26,9 +26,9 @@ use std::alloc::Global;
 
 /// What becomes of the statements of a method, or the first of the rules that are broken in them.
 pub fn body(alloc: Global, unit: &UnitTables, m: &Method) -> Result<BodyOutcome, OutOfMemory>
-    ensures { (tables : TableColumns) (u : DataProgram) → AreUnitTables tables u unit.now
-        → IfOk result (IsOutcome (λ l. typed_statements l ≡ statements_node (scope_of_method tables u (method_tree m.now)) (method_tree m.now).body)
-        (statements_refusals (scope_of_method tables u (method_tree m.now)) (method_tree m.now).body)) }
+    ensures { (tables : TableColumns) (before : UnitsBefore) (u : UnitSource) → AreUnitTables tables before u unit.now
+        → IfOk result (IsOutcome (λ l. typed_statements l ≡ statements_node (scope_of_method tables before u (method_tree m.now)) (method_tree m.now).body)
+        (statements_refusals (scope_of_method tables before u (method_tree m.now)) (method_tree m.now).body)) }
 {
     let variables = variables_in_method(alloc, m)?;
     let locals = locals(alloc, variables.as_slice())?;
@@ -39,6 +39,7 @@ pub fn body(alloc: Global, unit: &UnitTables, m: &Method) -> Result<BodyOutcome,
             globals: &unit.globals,
             bys: &unit.bys,
             methods: &unit.methods,
+            objects: &unit.objects,
         },
         outputs: &unit.outputs,
         output_count: unit.output_count,

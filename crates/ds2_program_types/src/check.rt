@@ -1,11 +1,12 @@
 //! What a data program becomes: a typed program, or the refusal of its types.
 ghost use Rattle.std.specs.Prelude.{◌≡◌, [], IfOk, map};
 ghost use Rattle.ds2_elaboration.specs.ProgramTypes.{broken_type_rules};
-ghost use Rattle.ds2_elaboration.specs.SourceTypes.{program_variables};
-ghost use Rattle.ds2_names.specs.SourceUnit.{columns_stored, names_of_source, source_instances, source_methods};
+ghost use Rattle.ds2_elaboration.specs.SourceTypes.{program_variables, unit_names};
+ghost use Rattle.ds2_elaboration.specs.UnitsBefore.{UnitsBefore};
+ghost use Rattle.ds2_names.specs.SourceUnit.{columns_stored, source_instances, source_methods, unit_of_data};
 ghost use Rattle.ds2_program_types.specs.TypedMethodLists.{AreMethodsOf};
 ghost use Rattle.ds2_program_types.specs.TypedPrograms.{IsTypedData};
-ghost use Rattle.ds2_scope.specs.ProgramNames.{NamesAre};
+ghost use Rattle.ds2_scope.specs.UnitNames.{NamesAre};
 ghost use Rattle.ds2_tree.specs.UnitViews.{data_tree, global_tree};
 ghost use Rattle.ds2_types.specs.Judgements.{IsOutcome};
 
@@ -17,7 +18,7 @@ use ds2_base::{OutOfMemory, Refusal};
 use ds2_declared_types::variables::program_variables;
 use ds2_meaning::{MentionedTable, TypeKind, TypedData, Variable};
 use ds2_names::{NamedSchema, PlacedName};
-use ds2_scope::{ProgramNames, names_of_program};
+use ds2_scope::{UnitNames, names_of_program};
 use ds2_tree::DataProgram;
 use std::alloc::Global;
 
@@ -29,15 +30,12 @@ fn ruled_methods(
     alloc: Global,
     tables: &[NamedSchema],
     program: &DataProgram,
-    names: &ProgramNames,
+    names: &UnitNames,
     declared: &[Variable],
     columns: &[PlacedName],
 ) -> Result<MethodsOutcome, OutOfMemory>
-    requires names { NamesAre names.now (names_of_source (columns_stored tables.now) (data_tree program.now)) }
-    requires declared { declared.now ≡ program_variables (data_tree program.now) }
-    requires columns { columns.now ≡ (names_of_source (columns_stored tables.now) (data_tree program.now)).columns }
-    ensures { IfOk result (IsOutcome (AreMethodsOf (columns_stored tables.now) (data_tree program.now) (source_methods (data_tree program.now).globals))
-        (broken_type_rules (columns_stored tables.now) (data_tree program.now))) }
+    ensures { (before : UnitsBefore) → NamesAre names.now (unit_names (columns_stored tables.now) before (unit_of_data (data_tree program.now))) → declared.now ≡ program_variables (unit_of_data (data_tree program.now)) → columns.now ≡ (unit_names (columns_stored tables.now) before (unit_of_data (data_tree program.now))).columns → (unit_names (columns_stored tables.now) before (unit_of_data (data_tree program.now))).instances ≡ []
+        → IfOk result (IsOutcome (AreMethodsOf (columns_stored tables.now) before (unit_of_data (data_tree program.now)) (source_methods (data_tree program.now).globals)) (broken_type_rules (columns_stored tables.now) before (unit_of_data (data_tree program.now)))) }
 {
     let clashes = of_columns(alloc, tables, program, declared, columns)?;
     let unit = unit_tables(alloc, tables, program, names, columns)?;
@@ -51,15 +49,15 @@ fn typed_data(
     tables: &[NamedSchema],
     made: &[MentionedTable],
     program: &DataProgram,
-    names: &ProgramNames,
+    names: &UnitNames,
 ) -> Result<CheckOutcome, OutOfMemory>
-    requires { NamesAre names.now (names_of_source (columns_stored tables.now) (data_tree program.now)) }
-    ensures { IfOk result (IsOutcome (IsTypedData (columns_stored tables.now) made.now (data_tree program.now))
-        (broken_type_rules (columns_stored tables.now) (data_tree program.now))) }
+    ensures { (before : UnitsBefore) → before.names.made ≡ made.now → NamesAre names.now (unit_names (columns_stored tables.now) before (unit_of_data (data_tree program.now))) → (unit_names (columns_stored tables.now) before (unit_of_data (data_tree program.now))).instances ≡ []
+        → IfOk result (IsOutcome (IsTypedData (columns_stored tables.now) before (unit_of_data (data_tree program.now))) (broken_type_rules (columns_stored tables.now) before (unit_of_data (data_tree program.now)))) }
 {
     let declared = program_variables(alloc, program.globals.as_slice())?;
+    let variables = declared.as_slice();
     let columns = columns_among(names, declared.len());
-    let typed = ruled_methods(alloc, tables, program, names, declared.as_slice(), columns)?;
+    let typed = ruled_methods(alloc, tables, program, names, variables, columns)?;
     match typed {
         Err(refusal) => Ok(Err(refusal)),
         Ok(methods) => {
@@ -79,8 +77,7 @@ pub fn check(
     program: &DataProgram,
 ) -> Result<CheckOutcome, OutOfMemory>
     requires { source_instances (map global_tree program.now.globals) ≡ [] }
-    ensures { IfOk result (IsOutcome (IsTypedData (columns_stored tables.now) made.now (data_tree program.now))
-        (broken_type_rules (columns_stored tables.now) (data_tree program.now))) }
+    ensures { (before : UnitsBefore) → before.names.made ≡ made.now → IfOk result (IsOutcome (IsTypedData (columns_stored tables.now) before (unit_of_data (data_tree program.now))) (broken_type_rules (columns_stored tables.now) before (unit_of_data (data_tree program.now)))) }
 {
     let names = names_of_program(alloc, tables, program)?;
     typed_data(alloc, tables, made, program, &names)

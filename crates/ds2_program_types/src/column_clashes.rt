@@ -1,12 +1,13 @@
 //! TypeClash of columns: for each column of the reading statement the first table at which its types do not fit.
-ghost use Rattle.std.specs.Prelude.{◌≡◌, List as Items, IfOk};
-ghost use Rattle.ds2_elaboration.specs.SourceTypes.{program_variables, clashing_tables};
+ghost use Rattle.std.specs.Prelude.{◌≡◌, [], List as Items, IfOk};
+ghost use Rattle.ds2_elaboration.specs.SourceTypes.{program_variables, clashing_tables, unit_names};
+ghost use Rattle.ds2_elaboration.specs.UnitsBefore.{UnitsBefore};
 ghost use Rattle.ds2_meaning.specs.IsTyped.{type_in};
 ghost use Rattle.ds2_meaning.specs.declared.globals.Variable.{Variable as VariableOf};
 ghost use Rattle.ds2_meaning.specs.declared.refusals.TypeKind.TheVariants.{TypeClash as ClashKind};
 ghost use Rattle.ds2_names.specs.NameRules.{from_each};
 ghost use Rattle.ds2_names.specs.Refusals.{broken_at};
-ghost use Rattle.ds2_names.specs.SourceUnit.{columns_stored, names_of_source, PlacedName as PlacedOf};
+ghost use Rattle.ds2_names.specs.SourceUnit.{columns_stored, PlacedName as PlacedOf, unit_of_data};
 ghost use Rattle.ds2_tree.specs.UnitViews.{data_tree};
 ghost use Rattle.ds2_types.specs.Judgements.{first_type_refusal};
 ghost use Rattle.ds2_program_types.specs.MethodRules.{column_rules};
@@ -100,9 +101,8 @@ pub fn of_columns(
     declared: &[Variable],
     columns: &[PlacedName],
 ) -> Result<Option<Refusal<TypeKind>>, OutOfMemory>
-    requires declared { declared.now ≡ program_variables (data_tree program.now) }
-    requires columns { columns.now ≡ (names_of_source (columns_stored tables.now) (data_tree program.now)).columns }
-    ensures { IfOk result (λ r. r ≡ first_type_refusal (broken_at ClashKind (clashing_tables (columns_stored tables.now) (data_tree program.now)))) }
+    ensures { (before : UnitsBefore) → declared.now ≡ program_variables (unit_of_data (data_tree program.now)) → columns.now ≡ (unit_names (columns_stored tables.now) before (unit_of_data (data_tree program.now))).columns → (unit_names (columns_stored tables.now) before (unit_of_data (data_tree program.now))).instances ≡ []
+        → IfOk result (λ r. r ≡ first_type_refusal (broken_at ClashKind (clashing_tables (columns_stored tables.now) before (unit_of_data (data_tree program.now))))) }
 {
     let known = locals(alloc, declared)?;
     let reading = reading_of_run(alloc, program.globals.as_slice())?;

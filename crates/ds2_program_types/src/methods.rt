@@ -1,14 +1,14 @@
 //! The methods of a program, typed.
 ghost use Rattle.std.specs.Prelude.{◌≡◌, ◌++◌, ◌∷◌, [], true, false, List as Items, Some, IfOk, map};
 ghost use Rattle.std.specs.Option.{option_or};
+ghost use Rattle.ds2_elaboration.specs.UnitsBefore.{UnitsBefore};
 ghost use Rattle.ds2_elaboration.specs.ProgramTypes.{method_tree_of, method_refusals};
 ghost use Rattle.ds2_elaboration.specs.Typings.{TypeRefusals};
 ghost use Rattle.ds2_meaning.specs.View.{typed_method};
 ghost use Rattle.ds2_names.specs.NameRules.{from_each};
-ghost use Rattle.ds2_names.specs.SourceUnit.{TableColumns, is_system_name, source_methods, spelled_name};
+ghost use Rattle.ds2_names.specs.SourceUnit.{TableColumns, is_system_name, source_methods, spelled_name, UnitSource};
 ghost use Rattle.ds2_tree.specs.Globals.{Method};
 ghost use Rattle.ds2_tree.specs.UnitViews.{method_tree, global_tree};
-ghost use Rattle.ds2_tree.specs.Units.{DataProgram};
 ghost use Rattle.ds2_types.specs.Judgements.{first_type_refusal, IsOutcome};
 ghost use Rattle.ds2_program_types.specs.MethodRules.{part_rules, under_rule};
 ghost use Rattle.ds2_program_types.specs.TypedMethodLists.{AreMethodsOf, IsSystemOf};
@@ -59,8 +59,8 @@ pub fn callable_method(
     unit: &UnitTables,
     m: &SourceMethod,
 ) -> Result<Result<TypedMethod, Refusal<TypeKind>>, OutOfMemory>
-    ensures { (tables : TableColumns) (u : DataProgram) → AreUnitTables tables u unit.now
-        → IfOk result (IsOutcome (λ t. typed_method t ≡ method_tree_of tables u (method_tree m.now)) (method_refusals tables u (method_tree m.now))) }
+    ensures { (tables : TableColumns) (before : UnitsBefore) (u : UnitSource) → AreUnitTables tables before u unit.now
+        → IfOk result (IsOutcome (λ t. typed_method t ≡ method_tree_of tables before u (method_tree m.now)) (method_refusals tables before u (method_tree m.now))) }
 {
     let outcome = body(alloc, unit, m)?;
     match under_rule(return_rule(m), outcome) {
@@ -89,8 +89,8 @@ pub fn system_method(
     unit: &UnitTables,
     m: &SourceMethod,
 ) -> Result<Result<SystemMethod, Refusal<TypeKind>>, OutOfMemory>
-    ensures { (tables : TableColumns) (u : DataProgram) → AreUnitTables tables u unit.now
-        → IfOk result (IsOutcome (IsSystemOf tables u (method_tree m.now)) (method_refusals tables u (method_tree m.now))) }
+    ensures { (tables : TableColumns) (before : UnitsBefore) (u : UnitSource) → AreUnitTables tables before u unit.now
+        → IfOk result (IsOutcome (IsSystemOf tables before u (method_tree m.now)) (method_refusals tables before u (method_tree m.now))) }
 {
     let outcome = body(alloc, unit, m)?;
     match under_rule(return_rule(m), outcome) {
@@ -111,7 +111,7 @@ pub type MethodsOutcome = Result<TypedMethods, Refusal<TypeKind>>;
 
 /// No methods.
 fn no_methods(alloc: Global) -> TypedMethods
-    ensures { (tables : TableColumns) (u : DataProgram) → AreMethodsOf tables u [] result }
+    ensures { (tables : TableColumns) (before : UnitsBefore) (u : UnitSource) → AreMethodsOf tables before u [] result }
 {
     TypedMethods {
         methods: List::new(alloc),
@@ -123,8 +123,8 @@ fn no_methods(alloc: Global) -> TypedMethods
 
 /// Methods with one more that can be called.
 fn with_callable(so_far: TypedMethods, m: TypedMethod) -> Result<TypedMethods, OutOfMemory>
-    ensures { (tables : TableColumns) (u : DataProgram) (methods : Items Method) (own : Method) → AreMethodsOf tables u methods so_far → is_system_name (spelled_name own.name) ≡ false
-        → typed_method m ≡ method_tree_of tables u own → IfOk result (AreMethodsOf tables u (methods ++ own ∷ [])) }
+    ensures { (tables : TableColumns) (before : UnitsBefore) (u : UnitSource) (methods : Items Method) (own : Method) → AreMethodsOf tables before u methods so_far → is_system_name (spelled_name own.name) ≡ false
+        → typed_method m ≡ method_tree_of tables before u own → IfOk result (AreMethodsOf tables before u (methods ++ own ∷ [])) }
 {
     let TypedMethods {
         mut methods,
@@ -153,8 +153,8 @@ fn first_system(so_far: Option<SystemMethod>, m: SystemMethod) -> Option<SystemM
 
 /// Methods with one more system method, of this name; of two of one name the first counts.
 fn with_system(so_far: TypedMethods, name: &[u8], m: SystemMethod) -> TypedMethods
-    ensures { (tables : TableColumns) (u : DataProgram) (methods : Items Method) (own : Method) → AreMethodsOf tables u methods so_far → is_system_name (spelled_name own.name) ≡ true
-        → name.now ≡ spelled_name own.name → IsSystemOf tables u own m → AreMethodsOf tables u (methods ++ own ∷ []) result }
+    ensures { (tables : TableColumns) (before : UnitsBefore) (u : UnitSource) (methods : Items Method) (own : Method) → AreMethodsOf tables before u methods so_far → is_system_name (spelled_name own.name) ≡ true
+        → name.now ≡ spelled_name own.name → IsSystemOf tables before u own m → AreMethodsOf tables before u (methods ++ own ∷ []) result }
 {
     let TypedMethods {
         methods,
@@ -196,9 +196,9 @@ fn further_callable(
     so_far: MethodsOutcome,
     m: Result<TypedMethod, Refusal<TypeKind>>,
 ) -> Result<MethodsOutcome, OutOfMemory>
-    ensures { (tables : TableColumns) (u : DataProgram) (methods : Items Method) (own : Method) (xs ys : TypeRefusals) → IsOutcome (AreMethodsOf tables u methods) xs so_far
-        → is_system_name (spelled_name own.name) ≡ false → IsOutcome (λ t. typed_method t ≡ method_tree_of tables u own) ys m
-        → IfOk result (IsOutcome (AreMethodsOf tables u (methods ++ own ∷ [])) (xs ++ ys)) }
+    ensures { (tables : TableColumns) (before : UnitsBefore) (u : UnitSource) (methods : Items Method) (own : Method) (xs ys : TypeRefusals) → IsOutcome (AreMethodsOf tables before u methods) xs so_far
+        → is_system_name (spelled_name own.name) ≡ false → IsOutcome (λ t. typed_method t ≡ method_tree_of tables before u own) ys m
+        → IfOk result (IsOutcome (AreMethodsOf tables before u (methods ++ own ∷ [])) (xs ++ ys)) }
 {
     match of_both(so_far, m) {
         Err(refusal) => Ok(Err(refusal)),
@@ -215,9 +215,9 @@ fn further_system(
     name: &[u8],
     m: Result<SystemMethod, Refusal<TypeKind>>,
 ) -> MethodsOutcome
-    ensures { (tables : TableColumns) (u : DataProgram) (methods : Items Method) (own : Method) (xs ys : TypeRefusals) → IsOutcome (AreMethodsOf tables u methods) xs so_far
-        → is_system_name (spelled_name own.name) ≡ true → name.now ≡ spelled_name own.name → IsOutcome (IsSystemOf tables u own) ys m
-        → IsOutcome (AreMethodsOf tables u (methods ++ own ∷ [])) (xs ++ ys) result }
+    ensures { (tables : TableColumns) (before : UnitsBefore) (u : UnitSource) (methods : Items Method) (own : Method) (xs ys : TypeRefusals) → IsOutcome (AreMethodsOf tables before u methods) xs so_far
+        → is_system_name (spelled_name own.name) ≡ true → name.now ≡ spelled_name own.name → IsOutcome (IsSystemOf tables before u own) ys m
+        → IsOutcome (AreMethodsOf tables before u (methods ++ own ∷ [])) (xs ++ ys) result }
 {
     match of_both(so_far, m) {
         Err(refusal) => Err(refusal),
@@ -232,8 +232,8 @@ fn further_method(
     so_far: MethodsOutcome,
     m: &SourceMethod,
 ) -> Result<MethodsOutcome, OutOfMemory>
-    ensures { (tables : TableColumns) (u : DataProgram) (methods : Items Method) (xs : TypeRefusals) → AreUnitTables tables u unit.now → IsOutcome (AreMethodsOf tables u methods) xs so_far
-        → IfOk result (IsOutcome (AreMethodsOf tables u (methods ++ method_tree m.now ∷ [])) (xs ++ method_refusals tables u (method_tree m.now))) }
+    ensures { (tables : TableColumns) (before : UnitsBefore) (u : UnitSource) (methods : Items Method) (xs : TypeRefusals) → AreUnitTables tables before u unit.now → IsOutcome (AreMethodsOf tables before u methods) xs so_far
+        → IfOk result (IsOutcome (AreMethodsOf tables before u (methods ++ method_tree m.now ∷ [])) (xs ++ method_refusals tables before u (method_tree m.now))) }
 {
     let own = spelled_name(alloc, &m.name)?;
     let spelled = own.as_slice();
@@ -254,8 +254,8 @@ fn further_global(
     so_far: MethodsOutcome,
     global: &GlobalItem,
 ) -> Result<MethodsOutcome, OutOfMemory>
-    ensures { (tables : TableColumns) (u : DataProgram) (methods : Items Method) (xs : TypeRefusals) → AreUnitTables tables u unit.now → IsOutcome (AreMethodsOf tables u methods) xs so_far
-        → IfOk result (IsOutcome (AreMethodsOf tables u (methods ++ source_methods (global_tree global.now ∷ []))) (xs ++ part_rules tables u (global_tree global.now))) }
+    ensures { (tables : TableColumns) (before : UnitsBefore) (u : UnitSource) (methods : Items Method) (xs : TypeRefusals) → AreUnitTables tables before u unit.now → IsOutcome (AreMethodsOf tables before u methods) xs so_far
+        → IfOk result (IsOutcome (AreMethodsOf tables before u (methods ++ source_methods (global_tree global.now ∷ []))) (xs ++ part_rules tables before u (global_tree global.now))) }
 {
     match global {
         GlobalItem::Method(m) => further_method(alloc, unit, so_far, m),
@@ -270,8 +270,8 @@ pub fn typed_methods(
     unit: &UnitTables,
     globals: &[GlobalItem],
 ) -> Result<MethodsOutcome, OutOfMemory>
-    ensures { (tables : TableColumns) (u : DataProgram) → AreUnitTables tables u unit.now
-        → IfOk result (IsOutcome (AreMethodsOf tables u (source_methods (map global_tree globals.now))) (from_each (method_refusals tables u) (source_methods (map global_tree globals.now)))) }
+    ensures { (tables : TableColumns) (before : UnitsBefore) (u : UnitSource) → AreUnitTables tables before u unit.now
+        → IfOk result (IsOutcome (AreMethodsOf tables before u (source_methods (map global_tree globals.now))) (from_each (method_refusals tables before u) (source_methods (map global_tree globals.now)))) }
 {
     let mut all: MethodsOutcome = Ok(no_methods(alloc));
     'globals: for global in globals {

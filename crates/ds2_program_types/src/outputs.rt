@@ -52,7 +52,7 @@ fn column_name(alloc: Global, news: &NewNames, source: &Bytes) -> Result<Name, O
 
 /// The type of a variable; BIGINT stands for none.
 fn column_type(types: &KnownNames, name: &Bytes) -> Ty
-    ensures { (variables : Items VariableOf) → HasLocals types.now variables → (o : source_output.OutputTable) → result ≡ (made_column variables o name.now).ty }
+    ensures { (variables : Items VariableOf) → HasLocals types.now variables → (o : source_output.OutputTable) → result ≡ (made_column variables (renamings_of o) name.now).ty }
 {
     match declared_type(types, name) {
         None => Ty::BigInt,
@@ -74,7 +74,7 @@ fn column(
     source: &Bytes,
 ) -> Result<OutputColumn, OutOfMemory>
     ensures { (variables : Items VariableOf) (o : source_output.OutputTable) → HasLocals parts.entry.types.now variables → HasNewNames parts.entry.news.now (renamings_of o)
-        → IfOk result (λ c. c ≡ made_column variables o source.now) }
+        → IfOk result (λ c. c ≡ made_column variables (renamings_of o) source.now) }
 {
     let name = column_name(alloc, parts.news, source)?;
     let own = name_of_bytes(alloc, source.as_slice())?;
@@ -213,7 +213,7 @@ pub fn outputs(
     vector: &[Variable],
     variables: &[PlacedName],
 ) -> Result<List<TypedOutput>, OutOfMemory>
-    ensures { IfOk result (λ all. all ≡ map (outputs_made_of vector.now (unit_of_data (data_tree program.now)) (names_alone variables.now)) (made_outputs (data_tree program.now))) }
+    ensures { IfOk result (λ all. all ≡ map (outputs_made_of vector.now (unit_of_data (data_tree program.now)) (names_alone variables.now)) (made_outputs (unit_of_data (data_tree program.now)))) }
 {
     let types = locals(alloc, vector)?;
     let statements = statement_lists(alloc, program.globals.as_slice())?;

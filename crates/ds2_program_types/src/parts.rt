@@ -1,9 +1,11 @@
 //! A typed program, out of its parts.
 ghost use Rattle.std.specs.Prelude.{◌≡◌, [], None as Nothing, IfOk, map};
 ghost use Rattle.ds2_elaboration.specs.ProgramTypes.{made_output, made_outputs};
+ghost use Rattle.ds2_elaboration.specs.SourceTypes.{unit_names};
+ghost use Rattle.ds2_elaboration.specs.UnitsBefore.{UnitsBefore};
 ghost use Rattle.ds2_meaning.specs.ProgramTree.{OverTables};
 ghost use Rattle.ds2_meaning.specs.View.{typed_data_program, unit_tree};
-ghost use Rattle.ds2_names.specs.SourceUnit.{columns_stored, names_of_source, source_methods, vector_names};
+ghost use Rattle.ds2_names.specs.SourceUnit.{columns_stored, source_methods, unit_of_data, vector_names};
 ghost use Rattle.ds2_program_types.specs.ProgramParts.{ArePartsOf, IsMadeOf};
 ghost use Rattle.ds2_program_types.specs.TypedMethodLists.{AreMethodsOf};
 ghost use Rattle.ds2_program_types.specs.TypedPrograms.{IsTypedData};
@@ -96,9 +98,8 @@ fn program_outputs(
     names: &[PlacedName],
     columns: &[PlacedName],
 ) -> Result<List<TypedOutput>, OutOfMemory>
-    requires names { names.now ≡ vector_names (names_of_source (columns_stored tables.now) (data_tree program.now)) }
-    requires columns { columns.now ≡ (names_of_source (columns_stored tables.now) (data_tree program.now)).columns }
-    ensures { IfOk result (λ all. all ≡ map (made_output (columns_stored tables.now) (data_tree program.now)) (made_outputs (data_tree program.now))) }
+    ensures { (before : UnitsBefore) → names.now ≡ vector_names (unit_names (columns_stored tables.now) before (unit_of_data (data_tree program.now))) → columns.now ≡ (unit_names (columns_stored tables.now) before (unit_of_data (data_tree program.now))).columns → (unit_names (columns_stored tables.now) before (unit_of_data (data_tree program.now))).instances ≡ []
+        → IfOk result (λ all. all ≡ map (made_output (columns_stored tables.now) before (unit_of_data (data_tree program.now))) (made_outputs (unit_of_data (data_tree program.now)))) }
 {
     let vector = vector_variables(alloc, tables, program, columns)?;
     outputs(alloc, program, vector.as_slice(), names)
@@ -113,15 +114,14 @@ fn program_parts(
     names: &[PlacedName],
     columns: &[PlacedName],
 ) -> Result<ProgramParts, OutOfMemory>
-    requires names { names.now ≡ vector_names (names_of_source (columns_stored tables.now) (data_tree program.now)) }
-    requires columns { columns.now ≡ (names_of_source (columns_stored tables.now) (data_tree program.now)).columns }
-    ensures { IfOk result (ArePartsOf (columns_stored tables.now) made.now (data_tree program.now)) }
+    ensures { (before : UnitsBefore) → before.names.made ≡ made.now → names.now ≡ vector_names (unit_names (columns_stored tables.now) before (unit_of_data (data_tree program.now))) → columns.now ≡ (unit_names (columns_stored tables.now) before (unit_of_data (data_tree program.now))).columns → (unit_names (columns_stored tables.now) before (unit_of_data (data_tree program.now))).instances ≡ []
+        → IfOk result (ArePartsOf (columns_stored tables.now) before (unit_of_data (data_tree program.now))) }
 {
     let globals = program.globals.as_slice();
     let outputs = program_outputs(alloc, tables, program, names, columns)?;
     let source = reading_of_run(alloc, globals)?;
     let read = columns_over(alloc, tables, tables_of(source), columns)?;
-    let reading = read_statement(alloc, tables, made, source)?;
+    let reading = read_statement(alloc, tables, made, &[], source)?;
     let declared = program_variables(alloc, globals)?;
     let kept = retained(alloc, globals)?;
     Ok(ProgramParts {
@@ -143,10 +143,8 @@ pub fn typed_unit(
     columns: &[PlacedName],
     methods: TypedMethods,
 ) -> Result<TypedData, OutOfMemory>
-    requires names { names.now ≡ vector_names (names_of_source (columns_stored tables.now) (data_tree program.now)) }
-    requires columns { columns.now ≡ (names_of_source (columns_stored tables.now) (data_tree program.now)).columns }
-    requires methods { AreMethodsOf (columns_stored tables.now) (data_tree program.now) (source_methods (data_tree program.now).globals) methods }
-    ensures { IfOk result (IsTypedData (columns_stored tables.now) made.now (data_tree program.now)) }
+    ensures { (before : UnitsBefore) → before.names.made ≡ made.now → names.now ≡ vector_names (unit_names (columns_stored tables.now) before (unit_of_data (data_tree program.now))) → columns.now ≡ (unit_names (columns_stored tables.now) before (unit_of_data (data_tree program.now))).columns → (unit_names (columns_stored tables.now) before (unit_of_data (data_tree program.now))).instances ≡ []
+        → AreMethodsOf (columns_stored tables.now) before (unit_of_data (data_tree program.now)) (source_methods (data_tree program.now).globals) methods → IfOk result (IsTypedData (columns_stored tables.now) before (unit_of_data (data_tree program.now))) }
 {
     let parts = program_parts(alloc, tables, made, program, names, columns)?;
     Ok(over_tables(program_of(alloc, parts, methods)))

@@ -1,21 +1,22 @@
 //! The reading statement of a program with `run`.
 ghost use Rattle.std.specs.Prelude.{◌≡◌, IfOk, map, option_copied};
 ghost use Rattle.std.specs.Option.{option_map};
-ghost use Rattle.ds2_elaboration.specs.ProgramTypes.{read_input, read_by, read_statement};
+ghost use Rattle.ds2_elaboration.specs.ProgramTypes.{read_input, read_by, asked_workers, read_statement};
 ghost use Rattle.ds2_names.specs.SourceLimits.{mentioned_table};
-ghost use Rattle.ds2_meaning.specs.declared.readings.Reading.TheVariants.{Set, Merge};
+ghost use Rattle.ds2_meaning.specs.declared.readings.Reading.TheVariants.{Set, Merge, From as FromStage};
 ghost use Rattle.ds2_names.specs.SourceUnit.{spelled_name, columns_stored, by_list};
 ghost use Rattle.ds2_tree.specs.declared.readings.InputFlag.{InputFlag as FlagOf};
 
 use ds2_base::{List, Name, OutOfMemory};
-use ds2_declared_types::names::name;
+use ds2_declared_types::names::{name, number};
 use ds2_meaning::{
     ByVariable as TypedBy, Input as TypedInput, MentionedTable, Reading as TypedReading,
 };
 use ds2_names::NamedSchema;
 use ds2_scope::columns_of;
-use ds2_tree::{By, ByVariable, Input, InputFlag, Reading};
-use ds2_value::copy_columns;
+use ds2_token::Token;
+use ds2_tree::{By, ByVariable, Input, InputFlag, Reading, Threads};
+use ds2_value::{Column, copy_columns};
 use std::alloc::Global;
 
 /// The table that data programs make, once more.
@@ -168,20 +169,55 @@ fn merge(
     })
 }
 
-/// The reading statement of a program with `run`: without one there is one load.
+/// How many workers `set from` asks for: one, where it does not say.
+fn asked_workers(threads: &Option<Threads>) -> Result<u32, OutOfMemory>
+    ensures { IfOk result (λ n. n ≡ asked_workers threads.now) }
+{
+    match threads {
+        None => Ok(1),
+        Some(threads) => number(&threads.number),
+    }
+}
+
+/// `set from` an instance of a thread program, whose rows have these columns.
+fn from_stage(
+    alloc: Global,
+    instance: &Token,
+    threads: &Option<Threads>,
+    stage: &[Column],
+) -> Result<TypedReading, OutOfMemory>
+    ensures { IfOk result (λ reading. reading ≡ FromStage (spelled_name instance.now) (asked_workers threads.now) stage.now) }
+{
+    let workers = asked_workers(threads)?;
+    let columns = copy_columns(alloc, stage)?;
+    let instance = name(alloc, instance)?;
+    Ok(TypedReading::From {
+        instance,
+        workers,
+        columns,
+    })
+}
+
+/// The reading statement of a program with `run`, which reads from a thread program with these columns where it reads from one: without
+/// a reading statement there is one load.
 pub fn read_statement(
     alloc: Global,
     tables: &[NamedSchema],
     made: &[MentionedTable],
+    stage: &[Column],
     reading: Option<&Reading>,
 ) -> Result<TypedReading, OutOfMemory>
-    ensures { IfOk result (λ typed. typed ≡ read_statement (columns_stored tables.now) made.now (option_copied reading.entry)) }
+    ensures { IfOk result (λ typed. typed ≡ read_statement (columns_stored tables.now) made.now stage.now (option_copied reading.entry)) }
 {
     match reading {
         None => Ok(TypedReading::Once),
         Some(reading) => match reading {
             Reading::Set { inputs, by, .. } => set(alloc, tables, made, inputs.as_slice(), by),
-            Reading::SetFrom { .. } => Ok(TypedReading::Once),
+            Reading::SetFrom {
+                instance,
+                threads,
+                ..
+            } => from_stage(alloc, instance, threads, stage),
             Reading::Merge {
                 inputs,
                 retain,

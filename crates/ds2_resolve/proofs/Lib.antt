@@ -1,3 +1,5 @@
 pub mod MakerLemmas
 pub mod MentionedTables
 pub mod BeforeLemmas
+pub mod TokenLemmas
+pub mod RuleParts

@@ -1,17 +1,27 @@
--- The tables of the store that a program mentions.
-use Rattle.std.proofs.Common.{◌≡◌, ℕ, Bool, true, false, ◌||◌, List, [], ◌∷◌, ◌++◌, bytes_eq, refl, sym, ap, ◌∙◌, append-nil}
+-- The tables of the store that a unit mentions.
+use Rattle.std.proofs.Common.{◌≡◌, ℕ, Bool, true, false, ◌||◌, List, [], ◌∷◌, ◌++◌, bytes_eq, Option, Some, None, refl, sym, ap, ◌∙◌, append-nil}
 use Rattle.std.specs.Prelude.{if◌then◌else◌, filter, map}
 use Rattle.std.proofs.lemmas.List.{map-append}
+use Rattle.std.proofs.lemmas.List.Folds.{list_any-append}
 use Rattle.std.proofs.lemmas.Slice.Eq.{bytes_eq-Decides}
+use Rattle.ds2_token.specs.declared.token.Token.{Token}
 use Rattle.ds2_tree.specs.Globals.{GlobalItem, Declared, Listed, Defined}
 use Rattle.ds2_tree.specs.declared.globals.Declaration.TheVariants as declaration
 use Rattle.ds2_tree.specs.declared.readings.Input as source_input
 use Rattle.ds2_meaning.specs.ProgramTree.{is_listed}
 use Rattle.ds2_names.specs.NameRules.{from_each}
-use Rattle.ds2_names.specs.SourceLimits.{tables_in_item, first_mentions}
-use Rattle.ds2_names.specs.SourceUnit.{PlacedName, placed_name, spelled_name, names_alone, source_instances, tables_of_reading}
-use Rattle.ds2_resolve.specs.StoreMentions.{stored_table, stored_in_global, first_by}
-use Rattle.ds2_aliases.proofs.TestLemmas.{listed_last}
+use Rattle.ds2_names.specs.SourceLimits.{named_by_text, tables_in_item, first_mentions}
+use Rattle.ds2_names.specs.SourceUnit.{PlacedName, placed_name, spelled_name, spelled_text, sized_table, names_alone, tables_of_reading}
+use Rattle.ds2_resolve.specs.StoreMentions.{stored_table, stored_text, stored_in_hash, stored_in_global, first_by}
+use Rattle.ds2_scope.proofs.SetLemmas.{or_false}
+
+-- ---- lists of names
+
+pub listed_append : (xs ys : List (List ℕ)) (name : List ℕ) → is_listed (xs ++ ys) name ≡ (is_listed xs name || is_listed ys name)
+listed_append xs ys name = list_any-append (λ other. bytes_eq other name) xs ys
+
+listed_last : (xs : List (List ℕ)) (y name : List ℕ) → is_listed (xs ++ y ∷ []) name ≡ (is_listed xs name || bytes_eq y name)
+listed_last xs y name = listed_append xs (y ∷ []) name ∙ ap (λ t. is_listed xs name || t) (or_false (bytes_eq y name))
 
 -- ---- tables at their first mention
 
@@ -62,7 +72,7 @@ first_mentions_are seen (t ∷ tables) = by (is_listed seen t.name) (first_menti
     by true h k = h
     by false h k = ap (λ r. t ∷ r) k
 
--- ---- the tables of a program
+-- ---- the tables of a unit
 
 pub filter_append : {A : Type 0} (test : A → Bool) (xs ys : List A) → filter test (xs ++ ys) ≡ filter test xs ++ filter test ys
 filter_append test [] ys = refl
@@ -85,15 +95,23 @@ module _ (stored : List ℕ → Bool) where
       by true h = ap (λ r. placed_name i.table ∷ r) h
       by false h = h
 
-  pub globals_stored : (globals : List GlobalItem) → source_instances globals ≡ []
-      → filter (λ (t : PlacedName). stored t.name) (from_each tables_in_item globals) ≡ from_each (stored_in_global stored) globals
-  globals_stored [] none = refl
-  globals_stored (Declared (declaration.Variables v) ∷ globals) none = globals_stored globals none
-  globals_stored (Declared (declaration.Instance a b c d e f) ∷ globals) none = absurd (cc none)
-  globals_stored (Declared (declaration.Hash a b c d e f g h i j k) ∷ globals) none = absurd (cc none)
-  globals_stored (Declared (declaration.Hiter a b c d e f g h) ∷ globals) none = absurd (cc none)
-  globals_stored (Declared (declaration.Thread a b c d e) ∷ globals) none = absurd (cc none)
-  globals_stored (Listed keyword names end ∷ globals) none = globals_stored globals none
-  globals_stored (Defined m ∷ globals) none =
+  text_stored : (text : Token) → filter (λ (t : PlacedName). stored t.name) (named_by_text (Some text)) ≡ stored_text stored text
+  text_stored text = refl
+
+  hash_stored : (text : Option Token) → filter (λ (t : PlacedName). stored t.name) (named_by_text text) ≡ stored_in_hash stored text
+  hash_stored None = refl
+  hash_stored (Some text) = text_stored text
+
+  pub globals_stored : (globals : List GlobalItem) → filter (λ (t : PlacedName). stored t.name) (from_each tables_in_item globals) ≡ from_each (stored_in_global stored) globals
+  globals_stored [] = refl
+  globals_stored (Declared (declaration.Variables v) ∷ globals) = globals_stored globals
+  globals_stored (Declared (declaration.Instance a b c d e f) ∷ globals) = globals_stored globals
+  globals_stored (Declared (declaration.Hash a b c d e f g h size j k) ∷ globals) =
+      filter_append (λ (t : PlacedName). stored t.name) (named_by_text (sized_table size)) (from_each tables_in_item globals)
+      ∙ (λ i. hash_stored (sized_table size) i ++ globals_stored globals i)
+  globals_stored (Declared (declaration.Hiter a b c d e f g h) ∷ globals) = globals_stored globals
+  globals_stored (Declared (declaration.Thread a b c d e) ∷ globals) = globals_stored globals
+  globals_stored (Listed keyword names end ∷ globals) = globals_stored globals
+  globals_stored (Defined m ∷ globals) =
       filter_append (λ (t : PlacedName). stored t.name) (tables_in_item (Defined m)) (from_each tables_in_item globals)
-      ∙ (λ i. inputs_stored (tables_of_reading m.reading) i ++ globals_stored globals none i)
+      ∙ (λ i. inputs_stored (tables_of_reading m.reading) i ++ globals_stored globals i)

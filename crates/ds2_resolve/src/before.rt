@@ -1,54 +1,74 @@
-//! The limits over a source, at data programs that declare no instances.
-ghost use Rattle.std.specs.Prelude.{◌≡◌, ◌+◌, ◌-◌, ◌||◌, [], ℕ, length, drop, map, nat_eq, if◌then◌else◌, IfOk, OnOk, None, List as Items};
+//! What stands before a unit of a source, and the limits over a source.
+ghost use Rattle.std.specs.Prelude.{◌≡◌, ◌-◌, ◌||◌, [], ℕ, length, drop, map, nat_eq, option_copied, if◌then◌else◌, IfOk, OnOk, List as Items};
 ghost use Rattle.std.specs.Cmp.Lexicographic.{pointwise};
 ghost use Rattle.std.specs.HashSet.{contains};
-ghost use Rattle.ds2_tree.specs.UnitViews.{global_tree, data_tree};
-ghost use Rattle.ds2_tree.specs.Units.{SourcePart, AData};
+ghost use Rattle.ds2_tree.specs.UnitViews.{global_tree, package_tree, thread_tree, data_tree, source_tree};
+ghost use Rattle.ds2_tree.specs.Units.{SourcePart, APackage, AThread, AData, package_spelling, source_spelling};
 ghost use Rattle.ds2_meaning.specs.ProgramTree.{is_listed};
+ghost use Rattle.ds2_names.specs.NameRules.{columns_left};
 ghost use Rattle.ds2_names.specs.SourceLimits.{BeforeUnit, before_all, behind_part, beyond_source_limits, unit_place};
-ghost use Rattle.ds2_names.specs.SourceUnit.{TableColumns, names_alone, source_instances, unit_of_data};
+ghost use Rattle.ds2_names.specs.SourceUnit.{TableColumns, names_alone, names_of_unit, source_instances, unit_of_package, unit_of_thread, unit_of_data};
 ghost use Rattle.ds2_names.specs.UnitRules.{places_of};
+ghost use Rattle.ds2_scope.specs.CodeUnits.{unit_source, instances_in_source};
 ghost use Rattle.ds2_scope.specs.Earliest.{earliest};
-ghost use Rattle.ds2_resolve.specs.TableMakers.{maker_in, makes_table};
-ghost use Rattle.ds2_resolve.specs.StandingBefore.{first_tables, TellsOfUnits};
+ghost use Rattle.ds2_resolve.specs.StandingBefore.{first_tables, count_of_kind, TellsOfUnits, behind_mentions};
 
+use crate::chains::chain_length;
 use crate::makers::{Makers, note_outputs};
 use crate::store_mentions::{mention, stored_tables};
-use ds2_base::{OutOfMemory, Place};
+use crate::token_counts::count_tokens;
+use ds2_base::{Bytes, List, OutOfMemory, Place};
+use ds2_calls::KnownCalls;
 use ds2_names::PlacedName;
-use ds2_scope::{NameSet, earlier_of};
-use ds2_tree::{DataProgram, GlobalItem, OutputTable};
+use ds2_scope::{
+    Instance, KnownThread, KnownUnits, NameSet, Unit, UnitKind, earlier_of, one_more, spelled_name,
+};
+use ds2_token::Token;
+use ds2_tree::{DataProgram, GlobalItem, OutputTable, Package, Source, Thread};
 use std::alloc::Global;
 use std::collections::{HashMap, HashSet};
 
-/// The data programs that stand before one in a source.
+/// What stands before a unit of a source.
 #[derive(Drop)]
-pub struct ProgramsBefore {
-    /// How many there are.
+pub struct UnitsBefore {
+    /// The packages and thread programs.
+    pub known: KnownUnits,
+    /// What calls on their instances may mean.
+    pub calls: KnownCalls,
+    /// How many data programs there are.
     pub count: u32,
     /// The tables that they make.
     pub makers: Makers,
-    /// The tables of the store that they mention.
+    /// The tables of the store that are mentioned.
     pub mentioned: NameSet,
     /// How many further tables of the store may be mentioned.
     pub room: usize,
+    /// The tokens of the source, those of its package counted once more for each instance.
+    pub tokens: usize,
 }
 
-// The place of the first output.
-fn first_output(outputs: &[OutputTable]) -> Option<Place>
-    ensures { result ≡ earliest (unit_place None outputs.now) }
+// The place of a unit's name; of a data program that of its first output.
+fn unit_place(name: Option<&Token>, outputs: &[OutputTable]) -> Option<Place>
+    ensures { result ≡ earliest (unit_place (option_copied name.entry) outputs.now) }
 {
-    match outputs {
-        [] => None,
-        [first, ..] => Some(first.table.place),
+    match name {
+        Some(name) => Some(name.place),
+        None => match outputs {
+            [] => None,
+            [first, ..] => Some(first.table.place),
+        },
     }
 }
 
-// The place of the first output, where a test does not hold.
-fn first_output_unless(holds: bool, outputs: &[OutputTable]) -> Option<Place>
-    ensures { result ≡ earliest (if holds then [] else unit_place None outputs.now) }
+// The place of a unit, where a test does not hold.
+fn unit_unless(holds: bool, unit: Unit<'_>) -> Option<Place>
+    ensures { result ≡ earliest (if holds then [] else unit_place (unit_source unit.entry).name (unit_source unit.entry).outputs) }
 {
-    if holds { None } else { first_output(outputs) }
+    if holds {
+        None
+    } else {
+        unit_place(unit.name, unit.outputs)
+    }
 }
 
 // The earliest place of tables.
@@ -74,14 +94,28 @@ fn beyond_room(room: usize, tables: &[PlacedName]) -> Option<Place>
     }
 }
 
-// Adds the tables of the store that a program mentions, and gives the earliest one for which there is no room.
+// How many units of a kind stand before a unit.
+fn count_of_kind(before: &UnitsBefore, kind: UnitKind) -> u32
+    ensures { result ≡ count_of_kind before.now kind }
+{
+    match kind {
+        UnitKind::Package => before.known.package_count,
+        UnitKind::Thread => before.known.thread_count,
+        UnitKind::Data => before.count,
+    }
+}
+
+// Adds the tables of the store that a unit mentions, and gives the earliest one for which there is no room.
 fn enter_tables(
     alloc: Global,
-    before: &mut ProgramsBefore,
+    before: &mut UnitsBefore,
     globals: &[GlobalItem],
 ) -> Result<Option<Place>, OutOfMemory>
+    ensures known { OnOk result (before.new.known ≡ before.old.known) }
+    ensures calls { OnOk result (before.new.calls ≡ before.old.calls) }
     ensures count { OnOk result (before.new.count ≡ before.old.count) }
     ensures makers { OnOk result (before.new.makers ≡ before.old.makers) }
+    ensures tokens { OnOk result (before.new.tokens ≡ before.old.tokens) }
     ensures mentioned { OnOk result ((name : Items ℕ) → contains (pointwise nat_eq) before.new.mentioned name ≡ (is_listed (names_alone (first_tables before.old (map global_tree globals.now))) name || contains (pointwise nat_eq) before.old.mentioned name)) }
     ensures room { OnOk result (before.new.room ≡ before.old.room - length (first_tables before.old (map global_tree globals.now))) }
     ensures place { IfOk result (λ place. place ≡ earliest (places_of (drop before.old.room (first_tables before.old (map global_tree globals.now))))) }
@@ -93,54 +127,103 @@ fn enter_tables(
     Ok(beyond)
 }
 
-// Adds the tables that a program makes.
-fn enter_outputs(
+/// Adds the mentions and the tokens of a unit with these instances. Gives the earliest place at which it passes a limit over the source: a
+/// 65th unit of its kind, 1,000,000 tokens, and a 17th table of the store.
+pub(crate) fn enter_unit(
     alloc: Global,
-    before: &mut ProgramsBefore,
-    outputs: &[OutputTable],
-) -> Result<(), OutOfMemory>
-    ensures count { OnOk result (before.new.count ≡ before.old.count + 1) }
-    ensures makers { OnOk result ((name : Items ℕ) → maker_in before.new.makers name ≡ (if makes_table outputs.now name then before.old.count + 1 else maker_in before.old.makers name)) }
-    ensures mentioned { OnOk result (before.new.mentioned ≡ before.old.mentioned) }
-    ensures room { OnOk result (before.new.room ≡ before.old.room) }
+    before: &mut UnitsBefore,
+    instances: &[Instance<'_>],
+    unit: Unit<'_>,
+) -> Result<Option<Place>, OutOfMemory>
+    requires { instances_in_source instances.now ≡ source_instances (unit_source unit).globals }
+    ensures place { IfOk result (λ place. (units : BeforeUnit) → TellsOfUnits before.old units → place ≡ earliest (beyond_source_limits units (unit_source unit.entry))) }
+    ensures behind { OnOk result ((units : BeforeUnit) → TellsOfUnits before.old units → TellsOfUnits before.new (behind_mentions (unit_source unit.entry) units)) }
 {
-    if before.count == u32::MAX {
-        return Err(OutOfMemory);
-    }
-    let number = before.count + 1;
-    note_outputs(alloc, &mut before.makers, number, outputs)?;
-    before.count = number;
-    Ok(())
+    let first = unit_unless(count_of_kind(before, unit.kind) < 64, unit);
+    let counted = count_tokens(alloc, &before.known, before.tokens, instances)?;
+    let tables = enter_tables(alloc, before, unit.globals)?;
+    before.tokens = counted.behind;
+    Ok(earlier_of(earlier_of(first, counted.beyond), tables))
 }
 
-impl ProgramsBefore {
-    /// No program: what stands before the first one of a source.
-    pub fn new(alloc: Global) -> Self
-        ensures { (parts : Items SourcePart) → TellsOfUnits result (before_all parts) }
+// How many tokens a source has.
+fn token_count(alloc: Global, source: &Source) -> Result<usize, OutOfMemory>
+    ensures { IfOk result (λ tokens. tokens ≡ length (source_spelling (source_tree source.now))) }
+{
+    let tokens = source.spelling(alloc)?;
+    Ok(tokens.len())
+}
+
+impl UnitsBefore {
+    // What stands before the first unit of a source with so many tokens.
+    fn new(alloc: Global, tokens: usize) -> Self
+        ensures { (parts : Items SourcePart) → tokens ≡ length (source_spelling parts) → TellsOfUnits result (before_all parts) }
     {
-        ProgramsBefore {
+        UnitsBefore {
+            known: KnownUnits::new(alloc),
+            calls: KnownCalls::new(alloc),
             count: 0,
             makers: HashMap::new(alloc),
             mentioned: HashSet::new(alloc),
             room: 16,
+            tokens,
         }
     }
 
-    /// Adds a data program that declares no instances. Gives the earliest place at which it passes a limit over the source: the first
-    /// output of a program beyond 64, and the first mention of a table of the store beyond 16. Answers want of memory, too, beyond 2^32 - 1
-    /// programs; nothing is known of what is kept then.
-    pub fn enter(
+    /// What stands before the first unit of a source.
+    pub fn of_source(alloc: Global, source: &Source) -> Result<Self, OutOfMemory>
+        ensures { IfOk result (λ before. TellsOfUnits before (before_all (source_tree source.now))) }
+    {
+        let tokens = token_count(alloc, source)?;
+        Ok(UnitsBefore::new(alloc, tokens))
+    }
+
+    /// Moves behind a data program whose mentions and tokens are there. Answers want of memory, too, beyond 2^32 - 1 programs.
+    pub(crate) fn enter_data(
         &mut self,
         alloc: Global,
         program: &DataProgram,
-    ) -> Result<Option<Place>, OutOfMemory>
-        requires { source_instances (map global_tree program.now.globals) ≡ [] }
-        ensures place { IfOk result (λ place. (before : BeforeUnit) → TellsOfUnits self.old before → place ≡ earliest (beyond_source_limits before (unit_of_data (data_tree program.now)))) }
-        ensures behind { OnOk result ((tables : TableColumns) (before : BeforeUnit) → TellsOfUnits self.old before → TellsOfUnits self.new (behind_part tables (AData (data_tree program.now)) before)) }
+    ) -> Result<(), OutOfMemory>
+        ensures { OnOk result ((tables : TableColumns) (units : BeforeUnit) → TellsOfUnits self.old (behind_mentions (unit_of_data (data_tree program.now)) units) → TellsOfUnits self.new (behind_part tables (AData (data_tree program.now)) units)) }
     {
-        let units = first_output_unless(self.count < 64, program.outputs.as_slice());
-        let tables = enter_tables(alloc, self, program.globals.as_slice())?;
-        enter_outputs(alloc, self, program.outputs.as_slice())?;
-        Ok(earlier_of(units, tables))
+        let count = one_more(self.count)?;
+        self.count = count;
+        note_outputs(alloc, &mut self.makers, count, program.outputs.as_slice())?;
+        Ok(())
+    }
+
+    /// Moves behind a package of so many tokens whose mentions and tokens are there. Answers want of memory, too, beyond 2^32 - 1 packages.
+    pub(crate) fn enter_package(
+        &mut self,
+        alloc: Global,
+        unit: &Package,
+        tokens: usize,
+    ) -> Result<(), OutOfMemory>
+        requires { tokens ≡ length (package_spelling (package_tree unit.now)) }
+        ensures { OnOk result ((tables : TableColumns) (units : BeforeUnit) → TellsOfUnits self.old (behind_mentions (unit_of_package (package_tree unit.now)) units) → TellsOfUnits self.new (behind_part tables (APackage (package_tree unit.now)) units)) }
+    {
+        let name = spelled_name(alloc, &unit.name)?;
+        self.calls.add_package(alloc, unit)?;
+        self.known.add_package(name, tokens)?;
+        Ok(())
+    }
+
+    /// Moves behind a thread program with these columns and instances whose mentions and tokens are there. Answers want of memory, too, beyond
+    /// 2^32 - 1 thread programs.
+    pub(crate) fn enter_thread(
+        &mut self,
+        alloc: Global,
+        unit: &Thread,
+        instances: &[Instance<'_>],
+        columns: List<Bytes>,
+    ) -> Result<(), OutOfMemory>
+        requires { instances_in_source instances.now ≡ source_instances (thread_tree unit.now).globals }
+        ensures { OnOk result ((tables : TableColumns) (units : BeforeUnit) → columns ≡ columns_left (names_of_unit tables units.known (unit_of_thread (thread_tree unit.now))) [] → TellsOfUnits self.old (behind_mentions (unit_of_thread (thread_tree unit.now)) units) → TellsOfUnits self.new (behind_part tables (AThread (thread_tree unit.now)) units)) }
+    {
+        let name = spelled_name(alloc, &unit.name)?;
+        let chain = chain_length(alloc, &self.known, instances)?;
+        self.calls.add_thread(alloc, unit)?;
+        self.known.add_thread(name, KnownThread { columns, chain })?;
+        Ok(())
     }
 }

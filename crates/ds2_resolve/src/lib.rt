@@ -1,18 +1,18 @@
-//! The refusal of the names of a data program that declares no instances: that of the least place at which it breaks a rule of names, and at one
-//! place that of the first kind.
+//! The refusal of the names of a unit: that of the least place at which it breaks a rule of names, and at one place that of the first kind.
 //!
-//! `resolve` makes a program's names once and hands them to the rules of `ds2_name_uses` and `ds2_given_names`; what is misplaced is found by
-//! `ds2_scope`, aliased arguments by `ds2_aliases`. The limits over a source stand here: `ProgramsBefore` holds how many programs stand before
-//! one, the tables that they make, and the tables of the store that they mention.
+//! `resolve`, `resolve_package` and `resolve_thread` make a unit's names once and hand them to the rules: `ds2_name_uses` looks at uses of names,
+//! `ds2_given_names` at names that are given, `ds2_instance_names` at declarations of instances, `ds2_scope` at what is misplaced, and
+//! `ds2_aliases` at aliased arguments. The limits over a source stand here: `UnitsBefore` holds what stands before a unit, its packages and
+//! thread programs, the data programs and the tables that they make, the tables of the store that are mentioned, and the count of tokens.
 #![tactic(auto)]
 
 mod before;
-mod instances;
+mod chains;
 mod makers;
 mod resolving;
 mod store_mentions;
+mod token_counts;
 
-pub use before::ProgramsBefore;
-pub use instances::declares_no_instances;
+pub use before::UnitsBefore;
 pub use makers::{Makers, maker_of};
-pub use resolving::resolve;
+pub use resolving::{resolve, resolve_package, resolve_thread};

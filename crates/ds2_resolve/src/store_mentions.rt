@@ -1,18 +1,20 @@
-//! The tables of the store that a data program mentions.
+//! The tables of the store that a unit mentions.
 ghost use Rattle.std.specs.Prelude.{◌≡◌, ◌||◌, ◌++◌, [], ◌∷◌, ℕ, List as Items, IfOk, OnOk, nat_eq, bytes_eq, if◌then◌else◌, map};
 ghost use Rattle.std.specs.Cmp.Lexicographic.{pointwise};
 ghost use Rattle.std.specs.HashSet.{contains};
 ghost use Rattle.ds2_tree.specs.UnitViews.{global_tree};
 ghost use Rattle.ds2_meaning.specs.ProgramTree.{is_listed};
 ghost use Rattle.ds2_names.specs.NameRules.{from_each};
-ghost use Rattle.ds2_names.specs.SourceUnit.{names_alone};
-ghost use Rattle.ds2_resolve.specs.StoreMentions.{is_of_store, stored_table, stored_in_global, first_by};
+ghost use Rattle.ds2_names.specs.SourceUnit.{names_alone, sized_table};
+ghost use Rattle.ds2_resolve.specs.StoreMentions.{is_of_store, stored_table, stored_text, stored_in_hash, stored_in_global, first_by};
 
 use crate::makers::{Makers, maker_of};
 use ds2_base::{Bytes, List, OutOfMemory};
+use ds2_calls::spelled_text;
 use ds2_names::PlacedName;
 use ds2_scope::{NameSet, add_name, placed_name, tables_of};
-use ds2_tree::{GlobalItem, Input};
+use ds2_token::Token;
+use ds2_tree::{Declaration, GlobalItem, HashSize, Input};
 use std::alloc::Global;
 
 // Whether no program makes a table.
@@ -54,7 +56,45 @@ fn push_inputs(
     Ok(())
 }
 
-// Adds the tables of the reading statement of a method, where a part of a unit is one.
+// Adds the table of a text, where no program makes it.
+fn push_text(
+    alloc: Global,
+    makers: &Makers,
+    found: &mut List<PlacedName>,
+    text: &Token,
+) -> Result<(), OutOfMemory>
+    ensures { OnOk result (found.new ≡ found.old ++ stored_text (is_of_store makers.now) text.now) }
+{
+    let name = spelled_text(alloc, text)?;
+    if is_of_store(makers, &name) {
+        found.push(PlacedName {
+            name,
+            place: text.place,
+        })
+    } else {
+        Ok(())
+    }
+}
+
+// Adds the table of a hash object, where it has one and no program makes it.
+fn push_hash_table(
+    alloc: Global,
+    makers: &Makers,
+    found: &mut List<PlacedName>,
+    size: &Option<HashSize>,
+) -> Result<(), OutOfMemory>
+    ensures { OnOk result (found.new ≡ found.old ++ stored_in_hash (is_of_store makers.now) (sized_table size.now)) }
+{
+    match size {
+        None => Ok(()),
+        Some(size) => match &size.table {
+            None => Ok(()),
+            Some(table) => push_text(alloc, makers, found, &table.text),
+        },
+    }
+}
+
+// Adds the table of a hash object or those of the reading statement of a method, where a part of a unit is one.
 fn push_in_global(
     alloc: Global,
     makers: &Makers,
@@ -68,11 +108,17 @@ fn push_in_global(
             push_inputs(alloc, makers, found, tables_of(m.reading.as_ref()))
         }
         GlobalItem::Listed { .. } => Ok(()),
-        GlobalItem::Declaration(_) => Ok(()),
+        GlobalItem::Declaration(declaration) => match declaration {
+            Declaration::Variables(_) => Ok(()),
+            Declaration::Instance { .. } => Ok(()),
+            Declaration::Hash { size, .. } => push_hash_table(alloc, makers, found, size),
+            Declaration::Hiter { .. } => Ok(()),
+            Declaration::Thread { .. } => Ok(()),
+        },
     }
 }
 
-/// The tables that reading statements mention and that no program makes, in order.
+/// The tables that hash objects and reading statements mention and that no program makes, in order.
 pub(crate) fn stored_tables(
     alloc: Global,
     makers: &Makers,

@@ -2,6 +2,7 @@
 pub mod SameMeaning
 pub use Rattle.ds2_code_answer.specs.CodeAnswer
 pub use Rattle.ds2_code_answer.specs.CodeTables
+pub use Rattle.ds2_layout.specs.Layout
 pub use Rattle.ds2_meaning.specs.ProgramMeaning
 pub use Rattle.ds2_meaning.specs.ProgramTree
 pub use Rattle.ds2_meaning.specs.Reading

@@ -1,5 +1,6 @@
 -- When code means the same as a program.
 use Rattle.std.specs.Prelude.{◌≡◌, ℕ, List, [], ◌∷◌, ◌++◌, map, Option, Some, None}
+use Rattle.std.specs.List.{AllByRecursion}
 use Rattle.ds2_value.specs.Row.{Columns}
 use Rattle.ds2_value.specs.Run.{Written}
 use Rattle.ds2_table.specs.Table.{Contents}
@@ -8,16 +9,21 @@ use Rattle.ds2_meaning.specs.ProgramMeaning.{MadeTable, program_answer, tables_m
 use Rattle.ds2_meaning.specs.ProgramTree.{InstanceTree, UnitTree, ProgramTree, OverTables, OverStage, reader_of}
 use Rattle.ds2_meaning.specs.Reading.{TableRows, inputs_of}
 use Rattle.ds2_meaning.specs.TableLaws.{tables_mentioned}
+use Rattle.ds2_meaning.specs.declared.globals.OutputColumn.{OutputColumn}
+use Rattle.ds2_meaning.specs.declared.globals.OutputTable.{OutputTable}
 use Rattle.ds2_meaning.specs.declared.hashes.DeclaredHash.{DeclaredHash}
 use Rattle.ds2_meaning.specs.declared.hashes.LoadedTable.{LoadedTable}
 use Rattle.ds2_meaning.specs.declared.readings.Input.{Input}
 use Rattle.ds2_meaning.specs.declared.readings.MentionedTable.{MentionedTable}
+use Rattle.ds2_layout.specs.Layout.{program_slots, source_slot}
+use Rattle.ds2_code.specs.OperandTypes.{slot_type}
 use Rattle.ds2_code.specs.declared.parts.OutputPart.{OutputPart}
 use Rattle.ds2_code.specs.declared.parts.ProgramParts.{ProgramParts}
 use Rattle.ds2_code.specs.declared.parts.StagedParts.{StagedParts}
 use Rattle.ds2_code.specs.declared.parts.TableReference.{TableReference}
 use Rattle.ds2_code_answer.specs.CodeAnswer.{code_answer}
 use Rattle.ds2_code_answer.specs.CodeTables.{program_references, columns_named}
+use Rattle.ds2_program_code.specs.CodeParts.{code_slots}
 use Rattle.ds2_same_answer.specs.SameAnswer.{staged_code, HaveRowsMentioned, AreLikeAnswers}
 use Rattle.ds2_unit.specs.Outputs.{tables_written}
 use Rattle.ds2_unit_counts.specs.CountsByWay.{CountsByWay}
@@ -91,3 +97,13 @@ pub record MeansSame (p : ProgramTree) (code : StagedParts) : Type 0 where
 abbrev pub TypedProgramsMeanSame : Type 0
 TypedProgramsMeanSame =
     (p : UnitTree) → IsTypedUnit p → ReadsNoStage p.reading → thread_parameters p.threads [] ≡ None → MeansSame (OverTables p) (staged_code (OverTables p))
+
+-- ---- outputs as tables that later programs read
+
+-- the slots of an output's columns have the types of the columns
+abbrev pub HasOutputSlots : UnitTree → OutputTable → Type 0
+HasOutputSlots p o = AllByRecursion (λ (c : OutputColumn). slot_type (code_slots p) (source_slot (program_slots p) c.source) ≡ Some c.ty) o.columns
+
+-- so it is in the code of each typed program, at each of its outputs
+abbrev pub OutputsHaveSlots : Type 0
+OutputsHaveSlots = (p : UnitTree) → IsTypedUnit p → AllByRecursion (HasOutputSlots p) p.outputs

@@ -7,8 +7,11 @@ use Rattle.ds2_tree.specs.declared.globals.Declaration.TheVariants as declaratio
 use Rattle.ds2_tree.specs.declared.readings.Input as source_input
 use Rattle.ds2_tree.specs.declared.readings.InputFlag.{InputFlag}
 use Rattle.ds2_names.specs.NameRules.{from_each}
-use Rattle.ds2_names.specs.SourceUnit.{PlacedName, declared_names, variable_declarations, source_methods, flag_names}
-use Rattle.ds2_scope.specs.Collected.{declared_in, methods_in, flags_in}
+use Rattle.ds2_names.specs.SourceUnit.{PlacedName, declared_names, variable_declarations, source_methods, source_instances, flag_names}
+use Rattle.std.proofs.lemmas.List.{map-append}
+use Rattle.ds2_scope.specs.CodeUnits.{source_instance, instances_in_source}
+use Rattle.ds2_scope.specs.Collected.{declared_in, methods_in, instances_in, flags_in}
+use Rattle.ds2_scope.specs.declared.instances.Instance.{Instance}
 use Rattle.ds2_scope.specs.Earliest.{earlier_of, earliest}
 use Rattle.ds2_scope.proofs.EarliestLemmas.{none_right, earlier_of_assoc, earliest_append}
 
@@ -20,6 +23,19 @@ declared_item (Declared (declaration.Hiter a b c d e f g h)) gs = refl
 declared_item (Declared (declaration.Thread a b c d e)) gs = refl
 declared_item (Listed keyword names end) gs = refl
 declared_item (Defined m) gs = refl
+
+pub instances_item : (g : GlobalItem) (gs : List GlobalItem) → source_instances (g ∷ gs) ≡ instances_in g ++ source_instances gs
+instances_item (Declared (declaration.Variables v)) gs = refl
+instances_item (Declared (declaration.Instance a b c d e f)) gs = refl
+instances_item (Declared (declaration.Hash a b c d e f g h i j k)) gs = refl
+instances_item (Declared (declaration.Hiter a b c d e f g h)) gs = refl
+instances_item (Declared (declaration.Thread a b c d e)) gs = refl
+instances_item (Listed keyword names end) gs = refl
+instances_item (Defined m) gs = refl
+
+-- one instance more, behind others
+pub instance_added : (is : List Instance) (i : Instance) → instances_in_source (is ++ i ∷ []) ≡ instances_in_source is ++ source_instance i ∷ []
+instance_added is i = map-append source_instance is (i ∷ [])
 
 pub methods_item : (g : GlobalItem) (gs : List GlobalItem) → source_methods (g ∷ gs) ≡ methods_in g ++ source_methods gs
 methods_item (Declared d) gs = refl

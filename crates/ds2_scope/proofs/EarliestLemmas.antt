@@ -130,3 +130,12 @@ earlier_of_comm (Some a) (Some b) = by (is_earlier b a) (is_earlier a b) refl re
         let y = not_before a b k in
         let line : a.line ≡ b.line = omega (arith, x, y) in
         let column : a.column ≡ b.column = omega (arith, x, y) in ap (λ p. Some p) (same_place a b line column)
+
+-- the last two of three may change places
+pub swap_last : (a b c : Option Place) → earlier_of (earlier_of a b) c ≡ earlier_of (earlier_of a c) b
+swap_last a b c = earlier_of_assoc a b c ∙ ap (earlier_of a) (earlier_of_comm b c) ∙ sym (earlier_of_assoc a c b)
+
+-- and so may the middle ones of four
+pub interchange : (a b c d : Option Place) → earlier_of (earlier_of a b) (earlier_of c d) ≡ earlier_of (earlier_of a c) (earlier_of b d)
+interchange a b c d =
+    sym (earlier_of_assoc (earlier_of a b) c d) ∙ ap (λ x. earlier_of x d) (swap_last a b c) ∙ earlier_of_assoc (earlier_of a c) b d

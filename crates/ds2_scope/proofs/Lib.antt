@@ -3,8 +3,8 @@ pub mod LesserLemmas
 pub mod NamedLemmas
 pub mod CollectedLemmas
 pub mod StatementRows
-pub mod MisplacedLemmas
 pub mod SetLemmas
 pub mod TableLemmas
-pub mod ProgramNameLemmas
+pub mod KnownLemmas
+pub mod UnitNameLemmas
 pub mod EachLemmas

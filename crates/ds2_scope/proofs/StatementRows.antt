@@ -1,5 +1,5 @@
--- Statements whose parts stand in a list, and what is misplaced in them.
-use Rattle.std.proofs.Common.{◌≡◌, Bool, true, false, ◌||◌, List, [], ◌∷◌, ◌++◌, Option, Some, None, refl, sym, ap, ◌∙◌}
+-- Statements whose parts stand in a list.
+use Rattle.std.proofs.Common.{◌≡◌, List, [], ◌∷◌, ◌++◌, Option, Some, None, refl, sym, ap, ◌∙◌}
 use Rattle.std.specs.Option.{option_map}
 use Rattle.std.specs.declared.boxed.Box.{Box}
 use Rattle.std.specs.declared.alloc.Global.{Global}
@@ -12,18 +12,14 @@ use Rattle.ds2_tree.specs.declared.statements.When as code_when
 use Rattle.ds2_tree.specs.declared.statements.Otherwise as code_otherwise
 use Rattle.ds2_tree.specs.declared.statements.Selector as code_selector
 use Rattle.ds2_tree.specs.declared.statements.DoControl as code_control
-use Rattle.ds2_tree.specs.declared.statements.DoControl.TheVariants as control
 use Rattle.ds2_tree.specs.declared.statements.Statement as code
 use Rattle.ds2_tree.specs.declared.statements.Statement.{Row_of-Statement, end_of-Statement, more_of-Statement, items-the_row-Statement, items_hidden-the_row-Statement-2, Row_of-ElseIf, end_of-ElseIf, more_of-ElseIf, items-the_row-ElseIf, items_hidden-the_row-ElseIf-0, Row_of-When, end_of-When, more_of-When, items-the_row-When, items_hidden-the_row-When-1}
 use Rattle.ds2_tree.specs.declared.statements.Statement.TheVariants as statement
-use Rattle.ds2_tree.specs.Expressions.{Expression}
 use Rattle.ds2_tree.specs.ExpressionViews.{expression_tree, arguments_of}
-use Rattle.ds2_tree.specs.Statements.{Statement, Statements, Otherwise, NoOtherwise, Otherwise', Select, Do, Then, When, Block, Counted, Tested}
+use Rattle.ds2_tree.specs.Statements.{Statements, Otherwise, NoOtherwise, Otherwise', Select, Do, Then, When}
 use Rattle.ds2_tree.specs.StatementViews.{selector_tree, control_tree, if_else, statement_tree, others_row, statements_row, whens_row, statements_of, others_of, whens_of, otherwise_tree}
-use Rattle.ds2_names.specs.NameRules.{from_each}
 use Rattle.ds2_scope.specs.Earliest.{earlier_of, earliest}
-use Rattle.ds2_scope.specs.MisplacedParts.{is_loop, misplaced_within, misplaced_within_all, misplaced_within_whens, misplaced_within_otherwise, misplaced_within_else_if}
-use Rattle.ds2_scope.proofs.EarliestLemmas.{none_right, earlier_of_assoc, earliest_append}
+use Rattle.ds2_scope.proofs.EarliestLemmas.{earlier_of_assoc, earliest_append}
 
 others_items : (n : _) (k : Row_of-ElseIf n) (o : Otherwise) → others_row k o ≡ others_of (items-the_row-ElseIf n k) o
 others_items n end_of-ElseIf o = refl
@@ -75,70 +71,7 @@ do_tree k c p ss e end =
     let row = body_in (statement.Do k c p ss e end) in
     ap (λ r. Do k (control_tree c) p r e end) (statements_items row.0 row.1 ∙ ap statements_of (items_hidden-the_row-Statement-2 ss))
 
--- ---- what is misplaced
+-- ---- places
 
 pub one_more_list : (found : Option Place) (xs ys : List Place) → earlier_of (earlier_of found (earliest xs)) (earliest ys) ≡ earlier_of found (earliest (xs ++ ys))
 one_more_list found xs ys = earlier_of_assoc found (earliest xs) (earliest ys) ∙ ap (earlier_of found) (sym (earliest_append xs ys))
-
-module _ (may_output returns inside : Bool) where
-  in_if_else : (k : Token) (e : Expression) (t : Token) (s : Statement) (o : Otherwise)
-      → earliest (misplaced_within may_output returns inside (if_else k e t s o))
-      ≡ earlier_of (earliest (misplaced_within may_output returns inside s)) (earliest (misplaced_within_otherwise may_output returns inside o))
-  in_if_else k e t s NoOtherwise = sym (none_right (earliest (misplaced_within may_output returns inside s)))
-  in_if_else k e t s (Otherwise' w o) = earliest_append (misplaced_within may_output returns inside s) (misplaced_within may_output returns inside o)
-
-  in_others : (xs : List code_else_if.ElseIf) (o : Otherwise)
-      → earliest (misplaced_within_otherwise may_output returns inside (others_of xs o))
-      ≡ earlier_of (earliest (from_each (misplaced_within_else_if may_output returns inside) xs)) (earliest (misplaced_within_otherwise may_output returns inside o))
-  in_others [] o = refl
-  in_others (x ∷ xs) o =
-      let here = misplaced_within_else_if may_output returns inside x in
-      let rest = from_each (misplaced_within_else_if may_output returns inside) xs in
-      in_if_else x.keyword (expression_tree x.condition) x.then_keyword (statement_tree x.then) (others_of xs o)
-      ∙ ap (earlier_of (earliest here)) (in_others xs o)
-      ∙ sym (earlier_of_assoc (earliest here) (earliest rest) (earliest (misplaced_within_otherwise may_output returns inside o)))
-      ∙ ap (λ y. earlier_of y (earliest (misplaced_within_otherwise may_output returns inside o))) (sym (earliest_append here rest))
-
-  pub misplaced_if : (x : code.Statement) (k : Token) (e : code_expression.Expression) (t : Token) (s : Box code.Statement Global) (others : List code_else_if.ElseIf) (o : Option code_otherwise.Otherwise)
-      → x ≡ statement.If k e t s others o
-      → earliest (misplaced_within may_output returns inside (statement_tree x))
-      ≡ earlier_of (earliest (misplaced_within may_output returns inside (statement_tree s.value)))
-      (earlier_of (earliest (from_each (misplaced_within_else_if may_output returns inside) others)) (earliest (misplaced_within_otherwise may_output returns inside (otherwise_tree o))))
-  misplaced_if x k e t s others o h =
-      ap (λ y. earliest (misplaced_within may_output returns inside (statement_tree y))) h
-      ∙ ap (λ y. earliest (misplaced_within may_output returns inside y)) (if_tree_is k e t s others o)
-      ∙ in_if_else k (expression_tree e) t (statement_tree s.value) (others_of others (otherwise_tree o))
-      ∙ ap (earlier_of (earliest (misplaced_within may_output returns inside (statement_tree s.value)))) (in_others others (otherwise_tree o))
-
-  pub misplaced_select : (x : code.Statement) (k : Token) (s : Option code_selector.Selector) (p : Place) (ws : List code_when.When) (o : Option code_otherwise.Otherwise) (e : Token) (end : Place)
-      → x ≡ statement.Select k s p ws o e end
-      → earliest (misplaced_within may_output returns inside (statement_tree x))
-      ≡ earlier_of (earliest (misplaced_within_whens may_output returns inside (whens_of ws))) (earliest (misplaced_within_otherwise may_output returns inside (otherwise_tree o)))
-  misplaced_select x k s p ws o e end h =
-      ap (λ y. earliest (misplaced_within may_output returns inside (statement_tree y))) h
-      ∙ ap (λ y. earliest (misplaced_within may_output returns inside y)) (select_tree k s p ws o e end)
-      ∙ earliest_append (misplaced_within_whens may_output returns inside (whens_of ws)) (misplaced_within_otherwise may_output returns inside (otherwise_tree o))
-
-  pub misplaced_do : (x : code.Statement) (k : Token) (c : code_control.DoControl) (p : Place) (ss : List code.Statement) (e : Token) (end : Place)
-      → x ≡ statement.Do k c p ss e end
-      → misplaced_within may_output returns inside (statement_tree x) ≡ misplaced_within_all may_output returns (inside || is_loop c) (statements_of ss)
-  misplaced_do x k c p ss e end h =
-      ap (λ y. misplaced_within may_output returns inside (statement_tree y)) h
-      ∙ ap (λ y. misplaced_within may_output returns inside y) (do_tree k c p ss e end)
-      ∙ by c inside
-    where
-      body : Bool → List Place
-      body loop = misplaced_within_all may_output returns loop (statements_of ss)
-
-      both : (t : Bool) → body t ≡ body (t || false)
-      both true = refl
-      both false = refl
-
-      loops : (t : Bool) → body true ≡ body (t || true)
-      loops true = refl
-      loops false = refl
-
-      by : (c : code_control.DoControl) (t : Bool) → misplaced_within may_output returns t (Do k (control_tree c) p (statements_of ss) e end) ≡ body (t || is_loop c)
-      by control.Block t = both t
-      by (control.Counted count) t = loops t
-      by (control.Tested test) t = loops t

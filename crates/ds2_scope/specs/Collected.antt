@@ -12,7 +12,7 @@ use Rattle.ds2_tree.specs.declared.units.OutputOption.TheVariants as option
 use Rattle.ds2_tree.specs.declared.units.OutputTable as source_output
 use Rattle.ds2_tree.specs.declared.units.Renaming.{Renaming}
 use Rattle.ds2_names.specs.NameRules.{from_each, later_places, options_of, renamings_in}
-use Rattle.ds2_names.specs.SourceUnit.{PlacedName, placed_name, local_names, flag_names}
+use Rattle.ds2_names.specs.SourceUnit.{PlacedName, placed_name, local_names, flag_names, SourceInstance, source_instances}
 
 -- the names of variables that a part of a unit declares
 abbrev pub declared_in : GlobalItem → List PlacedName
@@ -31,6 +31,14 @@ method_name m = placed_name m.name
 -- the name of a parameter
 abbrev pub parameter_name : source_parameter.Parameter → PlacedName
 parameter_name p = placed_name p.name
+
+-- the instance that a part of a unit declares, where it declares one
+abbrev pub instances_in : GlobalItem → List SourceInstance
+instances_in g = source_instances (g ∷ [])
+
+-- the name of an instance
+abbrev pub instance_name : SourceInstance → PlacedName
+instance_name i = placed_name i.name
 
 -- the name of an output
 abbrev pub output_table_name : source_output.OutputTable → PlacedName

@@ -1,5 +1,5 @@
 -- Sets of names, and the columns of tables that are not known yet.
-use Rattle.std.specs.Prelude.{◌≡◌, ℕ, nat_eq, List, ◌++◌, map}
+use Rattle.std.specs.Prelude.{◌≡◌, ℕ, Bool, nat_eq, if◌then◌else◌, List, [], ◌∷◌, ◌++◌, map}
 use Rattle.std.specs.Cmp.Lexicographic.{pointwise}
 use Rattle.std.specs.HashSet.{HashSet, contains}
 use Rattle.ds2_base.specs.declared.place.Place.{Place}
@@ -25,3 +25,12 @@ pub record AddsColumns {S : Type 0} (seen : List (List ℕ)) (place : Place) (co
 -- likewise the columns of tables
 abbrev pub AddsAllColumns : TableColumns → (known : List (List ℕ)) → List source_input.Input → (before after : List PlacedName) → Type 0
 AddsAllColumns tables known inputs before after = after ≡ before ++ new_columns tables known inputs
+
+-- a column of a thread program at a place, unless a test knows its name
+abbrev pub stage_column_by : (List ℕ → Bool) → Place → List ℕ → List PlacedName
+stage_column_by known place name = if known name then [] else record { name = name; place = place } ∷ []
+
+-- the columns of a thread program that a test does not know
+abbrev pub stage_columns_by : (List ℕ → Bool) → Place → List (List ℕ) → List PlacedName
+stage_columns_by known place [] = []
+stage_columns_by known place (name ∷ columns) = stage_column_by known place name ++ stage_columns_by known place columns

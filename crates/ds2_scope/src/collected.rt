@@ -89,8 +89,11 @@ fn push_locals(
     Ok(())
 }
 
-// The names of parameters.
-fn parameter_names(alloc: Global, parameters: &[Parameter]) -> Result<List<PlacedName>, OutOfMemory>
+/// The names of parameters.
+pub fn parameter_names(
+    alloc: Global,
+    parameters: &[Parameter],
+) -> Result<List<PlacedName>, OutOfMemory>
     ensures { IfOk result (λ names. names ≡ map parameter_name parameters.now) }
 {
     let mut names: List<PlacedName> = List::new(alloc);

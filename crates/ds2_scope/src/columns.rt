@@ -1,9 +1,10 @@
 //! The columns of a reading statement that are not declared.
-ghost use Rattle.std.specs.Prelude.{◌≡◌, ◌∷◌, [], ◌||◌, ℕ, List as Items, IfOk, OnOk, nat_eq, bytes_eq, not};
+ghost use Rattle.std.specs.Prelude.{◌≡◌, ◌∷◌, ◌++◌, [], ◌||◌, ℕ, List as Items, IfOk, OnOk, nat_eq, bytes_eq, not};
 ghost use Rattle.std.specs.Cmp.Lexicographic.{pointwise};
 ghost use Rattle.std.specs.HashSet.{contains};
+ghost use Rattle.ds2_meaning.specs.ProgramTree.{is_listed};
 ghost use Rattle.ds2_names.specs.SourceUnit.{names_alone, columns_stored};
-ghost use Rattle.ds2_scope.specs.NameSets.{HasNames, column_names, AddsColumns, AddsAllColumns};
+ghost use Rattle.ds2_scope.specs.NameSets.{HasNames, column_names, AddsColumns, AddsAllColumns, stage_column_by, stage_columns_by};
 
 use crate::names::spelled_name;
 use ds2_base::{Bytes, List, OutOfMemory, Place};
@@ -121,4 +122,52 @@ pub fn add_columns(
 {
     let mut known = name_set(alloc, names.as_slice())?;
     push_inputs(alloc, names, &mut known, tables, inputs)
+}
+
+// Adds a column of a thread program, unless its name is known.
+fn push_stage_column(
+    alloc: Global,
+    names: &mut List<PlacedName>,
+    known: &NameSet,
+    place: Place,
+    name: &Bytes,
+) -> Result<(), OutOfMemory>
+    ensures { OnOk result (names.new ≡ names.old ++ stage_column_by (contains (pointwise nat_eq) known.now) place name.now) }
+{
+    if known.contains(name) {
+        Ok(())
+    } else {
+        let name = List::from_slice(alloc, name.as_slice())?;
+        names.push(PlacedName { name, place })
+    }
+}
+
+// Adds the columns of a thread program whose names are not known.
+fn push_stage_columns(
+    alloc: Global,
+    names: &mut List<PlacedName>,
+    known: &NameSet,
+    place: Place,
+    columns: &[Bytes],
+) -> Result<(), OutOfMemory>
+    ensures { OnOk result (names.new ≡ names.old ++ stage_columns_by (contains (pointwise nat_eq) known.now) place columns.now) }
+{
+    'columns: for name in columns {
+        push_stage_column(alloc, names, known, place, name)?;
+    }
+    Ok(())
+}
+
+/// Adds the columns of a thread program that are not among these names, at the place of its instance.
+pub fn add_stage_columns(
+    alloc: Global,
+    names: &mut List<PlacedName>,
+    columns: &[Bytes],
+    place: Place,
+) -> Result<(), OutOfMemory>
+    ensures { OnOk result (names.new ≡ names.old ++ stage_columns_by (is_listed (names_alone names.old)) place columns.now) }
+{
+    let known = name_set(alloc, names.as_slice())?;
+    push_stage_columns(alloc, names, &known, place, columns)?;
+    Ok(())
 }

@@ -2,7 +2,7 @@
 ghost use Rattle.std.specs.Prelude.{◌≡◌, ◌++◌, IfOk, OnOk, map, if◌then◌else◌};
 ghost use Rattle.ds2_token.specs.Forms.{between_quotes};
 ghost use Rattle.ds2_token.specs.Words.{quoted_kind};
-ghost use Rattle.ds2_names.specs.SourceUnit.{spelled_name, placed_name};
+ghost use Rattle.ds2_names.specs.SourceUnit.{spelled_name, placed_name, is_system_name};
 
 use ds2_base::{Bytes, List, OutOfMemory};
 use ds2_names::PlacedName;
@@ -58,4 +58,11 @@ pub fn push_names(
         names.push(placed_name(alloc, token)?)?;
     }
     Ok(())
+}
+
+/// Whether a name is init, run or term.
+pub fn is_system_name(name: &[u8]) -> bool
+    ensures { result ≡ is_system_name name.now }
+{
+    name == b"init".as_slice() || name == b"run".as_slice() || name == b"term".as_slice()
 }

@@ -1,12 +1,13 @@
-//! The reading statement of a data program.
+//! The reading statement of a unit.
 ghost use Rattle.std.specs.Prelude.{◌≡◌, ◌++◌, [], IfOk, OnOk, map, option_copied};
 ghost use Rattle.ds2_tree.specs.UnitViews.{global_tree};
-ghost use Rattle.ds2_names.specs.SourceUnit.{placed_name, source_methods, reading_of_run, tables_of_reading, by_list, bys_of_reading, flag_names};
+ghost use Rattle.ds2_names.specs.SourceUnit.{placed_name, source_methods, reading_of_run, tables_of_reading, by_list, bys_of_reading, flag_names, stage_token};
 ghost use Rattle.ds2_scope.specs.Collected.{by_name, flags_in};
 
 use crate::names::{placed_name, spelled_name};
 use ds2_base::{List, OutOfMemory};
 use ds2_names::PlacedName;
+use ds2_token::Token;
 use ds2_tree::{By, ByVariable, GlobalItem, Input, Reading};
 use std::alloc::Global;
 
@@ -38,6 +39,20 @@ pub fn tables_of(reading: Option<&Reading>) -> &[Input]
             Reading::Set { inputs, .. } => inputs.as_slice(),
             Reading::SetFrom { .. } => &[],
             Reading::Merge { inputs, .. } => inputs.as_slice(),
+        },
+    }
+}
+
+/// The name of the instance behind `set from`.
+pub fn stage_of(reading: Option<&Reading>) -> Option<&Token>
+    ensures { option_copied result ≡ stage_token (option_copied reading.entry) }
+{
+    match reading {
+        None => None,
+        Some(reading) => match reading {
+            Reading::Set { .. } => None,
+            Reading::SetFrom { instance, .. } => Some(instance),
+            Reading::Merge { .. } => None,
         },
     }
 }

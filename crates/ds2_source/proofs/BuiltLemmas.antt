@@ -1,22 +1,16 @@
--- Sources that are built: their data program, which declares no instances.
-use Rattle.std.proofs.Common.{◌≡◌, Bool, true, false, not, ◌&&◌, List, [], ◌∷◌, Option, Some, None, refl, sym, subst, ◌∙◌}
+-- Sources that are built: their data programs declare no instances.
+use Rattle.std.proofs.Common.{◌≡◌, Bool, true, false, ◌&&◌, List, [], ◌∷◌, refl, ◌∙◌}
 use Rattle.std.specs.List.{list_all}
 use Rattle.ds2_tree.specs.Globals.{GlobalItem, Declared, Listed, Defined}
-use Rattle.ds2_tree.specs.Units.{DataProgram, SourcePart, Proc, Run, Quit, APackage, AThread, AData}
+use Rattle.ds2_tree.specs.Units.{SourcePart, Proc, Run, Quit, APackage, AThread, AData}
 use Rattle.ds2_tree.specs.declared.globals.Declaration.TheVariants as declaration
 use Rattle.ds2_names.specs.SourceUnit.{source_instances}
-use Rattle.ds2_elaboration.specs.Elaboration.{IsDataSource}
-use Rattle.ds2_source.specs.BuiltSources.{is_built_global, is_built_part, has_one_program_at_most, is_built_source}
-use Rattle.ds2_source.specs.SourcePrograms.{first_program}
+use Rattle.ds2_source.specs.BuiltSources.{is_built_global, is_built_part, is_built_source, IsDataSource}
 
 pub both_true : (a b : Bool) → (a && b) ≡ true → (a ≡ true) × (b ≡ true)
 both_true true true t = (refl, refl)
 both_true true false t = absurd (cc t)
 both_true false b t = absurd (cc t)
-
-pub not_true : (a : Bool) → not a ≡ true → a ≡ false
-not_true true t = absurd (cc t)
-not_true false t = refl
 
 -- ---- instances
 
@@ -46,25 +40,6 @@ none_in_parts (Declared (declaration.Thread a b c d e)) rest t = absurd (cc t)
 none_in_parts (Listed keyword names end) rest t = (refl, t)
 none_in_parts (Defined m) rest t = (refl, t)
 
--- ---- the data program
-
--- a data program that is there is built
-abbrev pub IsBuilt : Option DataProgram → Type 0
-IsBuilt None = Unit {0}
-IsBuilt (Some u) = list_all is_built_global u.globals ≡ true
-
-program_among : (parts : List SourcePart) → list_all is_built_part parts ≡ true → IsBuilt (first_program parts)
-program_among [] t = tt
-program_among (Proc keyword ds2 end ∷ parts) t = program_among parts t
-program_among (Run keyword end ∷ parts) t = program_among parts t
-program_among (Quit keyword end ∷ parts) t = program_among parts t
-program_among (APackage u ∷ parts) t = absurd (cc t)
-program_among (AThread u ∷ parts) t = absurd (cc t)
-program_among (AData u ∷ parts) t = (both_true (list_all is_built_global u.globals) (list_all is_built_part parts) t).0
-
-pub program_is_built : (parts : List SourcePart) → is_built_source parts ≡ true → IsBuilt (first_program parts)
-program_is_built parts t = program_among parts (both_true (list_all is_built_part parts) (has_one_program_at_most parts) t).0
-
 -- ---- data programs without instances alone
 
 data_parts : (parts : List SourcePart) → list_all is_built_part parts ≡ true → IsDataSource parts
@@ -78,10 +53,4 @@ data_parts (AData u ∷ parts) t = let both = both_true (list_all is_built_globa
 
 -- a source that is built has data programs without instances alone
 pub built_has_data : (parts : List SourcePart) → is_built_source parts ≡ true → IsDataSource parts
-built_has_data parts t = data_parts parts (both_true (list_all is_built_part parts) (has_one_program_at_most parts) t).0
-
--- ---- a data program that was found
-
-module _ (parts : List SourcePart) (built : is_built_source parts ≡ true) where
-  pub found_declares_none : (u : DataProgram) → Some u ≡ first_program parts → source_instances u.globals ≡ []
-  found_declares_none u e = declares_none u.globals (subst (λ (o : Option DataProgram). IsBuilt o) (sym e) (program_is_built parts built))
+built_has_data parts t = data_parts parts t

@@ -4,7 +4,6 @@ pub mod SourceAnswer
 pub mod SourceRefusals
 pub mod AnswersOfTexts
 pub mod SourceTexts
-pub mod SourcePrograms
 pub mod BuiltSources
 pub mod InputTables
 pub use Rattle.ds2_elaboration.specs.Elaboration

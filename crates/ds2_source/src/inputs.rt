@@ -1,7 +1,7 @@
 //! The tables that must come from the store.
 ghost use Rattle.std.specs.Prelude.{◌≡◌, IfOk, map};
 ghost use Rattle.ds2_tree.specs.UnitViews.{part_tree, source_tree};
-ghost use Rattle.ds2_elaboration.specs.Elaboration.{IsDataSource};
+ghost use Rattle.ds2_source.specs.BuiltSources.{IsDataSource};
 ghost use Rattle.ds2_source.specs.Answers.{AnswersWith};
 ghost use Rattle.ds2_source.specs.InputTables.{source_inputs, names_or_refusal};
 

@@ -18,7 +18,6 @@ mod inputs;
 mod kinds;
 pub mod laws;
 mod mentions;
-mod programs;
 mod source;
 
 pub use built::is_built_source;
@@ -27,5 +26,4 @@ pub use ds2_meaning::{ScopeKind, TypeKind};
 pub use ds2_token::LexKind;
 pub use inputs::{MOST_TABLES, input_names};
 pub use kinds::{SourceKind, SourceRefusal};
-pub use programs::first_program;
 pub use source::read_source;

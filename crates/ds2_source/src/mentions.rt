@@ -9,7 +9,7 @@ ghost use Rattle.ds2_meaning.specs.ProgramTree.{is_listed};
 ghost use Rattle.ds2_names.specs.NameRules.{from_each};
 ghost use Rattle.ds2_names.specs.SourceLimits.{tables_in_item};
 ghost use Rattle.ds2_names.specs.SourceUnit.{names_alone, placed_name, source_instances};
-ghost use Rattle.ds2_elaboration.specs.Elaboration.{IsDataPart};
+ghost use Rattle.ds2_source.specs.BuiltSources.{IsDataPart};
 ghost use Rattle.ds2_source.specs.InputTables.{first_not_known, tables_in_part, names_made_by_outputs, known_behind};
 
 use ds2_base::{List, OutOfMemory};

@@ -35,22 +35,22 @@ told_call types xs f form result e h =
     subst (λ (g : Callee). StandsAs (call_refusals types g xs) (call_node types (callee_place g) g xs) result) (sym e) h
 
 -- a method that is there
-record MethodThere (types : TypeScope) (own : List ℕ) (known : KnownMethod) (m : Option Method) : Type 0 where
-  method : Method
-  there : m ≡ Some method
-  is_known : IsKnownMethod types own known method
+pub record MethodThere (methods : List Method) (own : List ℕ) (known : KnownMethod) (m : Option Method) : Type 0 where
+  pub method : Method
+  pub there : m ≡ Some method
+  pub is_known : IsKnownMethod methods own known method
 
-no_method_there : (types : TypeScope) (own : List ℕ) (k : Option KnownMethod) (m : Option Method) → k ≡ None → IsMethodAs types own k m → m ≡ None
-no_method_there types own None None e h = refl
-no_method_there types own None (Some m) e h = absurd h
-no_method_there types own (Some k) m e h = absurd (none_not_some k e)
+pub no_method_there : (methods : List Method) (own : List ℕ) (k : Option KnownMethod) (m : Option Method) → k ≡ None → IsMethodAs methods own k m → m ≡ None
+no_method_there methods own None None e h = refl
+no_method_there methods own None (Some m) e h = absurd h
+no_method_there methods own (Some k) m e h = absurd (none_not_some k e)
 
-method_there : (types : TypeScope) (own : List ℕ) (k : Option KnownMethod) (m : Option Method) (known : KnownMethod) → k ≡ Some known → IsMethodAs types own k m
-    → MethodThere types own known m
-method_there types own None m known e h = absurd (some_not_none known e)
-method_there types own (Some k) None known e h = absurd h
-method_there types own (Some k) (Some m) known e h =
-    record { method = m; there = refl; is_known = subst (λ (o : KnownMethod). IsKnownMethod types own o m) (inside k known e) h }
+pub method_there : (methods : List Method) (own : List ℕ) (k : Option KnownMethod) (m : Option Method) (known : KnownMethod) → k ≡ Some known → IsMethodAs methods own k m
+    → MethodThere methods own known m
+method_there methods own None m known e h = absurd (some_not_none known e)
+method_there methods own (Some k) None known e h = absurd h
+method_there methods own (Some k) (Some m) known e h =
+    record { method = m; there = refl; is_known = subst (λ (o : KnownMethod). IsKnownMethod methods own o m) (inside k known e) h }
 
 module _ (types : TypeScope) (scope : Scope) (name : Token) (spelled : List ℕ) (found : Option KnownMethod) (xs : List ElaboratedArgument) (result : Results) where
   abbrev own : List ℕ
@@ -65,7 +65,7 @@ module _ (types : TypeScope) (scope : Scope) (name : Token) (spelled : List ℕ)
       → StandsAs (call_refusals types (callee.Function name) xs) (call_node types name.place (callee.Function name) xs) result
   function_called s e f g h =
       let none : own_method ≡ None =
-      no_method_there types own (get (pointwise nat_eq) scope.methods.now own) own_method (ap (λ (n : List ℕ). get (pointwise nat_eq) scope.methods.now n) (sym e) ∙ sym f ∙ g) (s.callables own) in
+      no_method_there types.methods own (get (pointwise nat_eq) scope.methods.now own) own_method (ap (λ (n : List ℕ). get (pointwise nat_eq) scope.methods.now n) (sym e) ∙ sym f ∙ g) (s.callables own) in
       stands_as _ _ _ _ result
       (ap (named_call_refusals types name xs) none ∙ ap (λ (m : Option Method). (method_or_function_call types name xs m).refusals) none)
       (ap (named_call_node types name.place name xs) none ∙ ap (λ (m : Option Method). t.Evaluate name.place (method_or_function_call types name xs m).node) none) h
@@ -78,7 +78,7 @@ module _ (types : TypeScope) (scope : Scope) (name : Token) (spelled : List ℕ)
       → StandsAs (call_refusals types (callee.Function name) xs) (call_node types name.place (callee.Function name) xs) result
   method_called known parameters passed s e f g p h further =
       let m =
-      method_there types own (get (pointwise nat_eq) scope.methods.now own) own_method known
+      method_there types.methods own (get (pointwise nat_eq) scope.methods.now own) own_method known
       (ap (λ (n : List ℕ). get (pointwise nat_eq) scope.methods.now n) (sym e) ∙ sym f ∙ g) (s.callables own) in
       let a = arguments_for name.place (elaborated_parameters m.method) xs in
       let given = subst (λ (ps : List Parameter). AreAllPassed (arguments_for name.place ps xs) passed) (p ∙ m.is_known.parameters) h in

@@ -12,3 +12,5 @@ pub mod PutForms
 pub mod OutputForms
 pub mod BranchForms
 pub mod CountForms
+pub mod InstanceCalls
+pub mod SettingForms

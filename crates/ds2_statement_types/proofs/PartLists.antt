@@ -17,7 +17,7 @@ from_each-push {A} {B} f (y ∷ xs) x = ap (λ (l : List B). f y ++ l) (from_eac
 
 module _ {A B : Type 0} (view : A → B) where
   -- one part behind others
-  one_behind : (xs ys : TypeRefusals) (parts : List B) (part : B) (items : Result (List A) (Refusal TypeKind)) (one : Result A (Refusal TypeKind)) → AreTypedAs view xs parts items
+  pub one_behind : (xs ys : TypeRefusals) (parts : List B) (part : B) (items : Result (List A) (Refusal TypeKind)) (one : Result A (Refusal TypeKind)) → AreTypedAs view xs parts items
       → IsOutcome (λ (a : A). view a ≡ part) ys one → AreTypedAs view (xs ++ ys) (parts ++ part ∷ []) (with_one items one)
   one_behind xs ys parts part (Ok items) (Ok a) h k =
       (none_behind xs ys h.0 k.0, map-push view items a ∙ ap (λ (l : List B). l ++ view a ∷ []) h.1 ∙ ap (λ (b : B). parts ++ b ∷ []) k.1)

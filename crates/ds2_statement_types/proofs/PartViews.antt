@@ -7,11 +7,12 @@ use Rattle.std.specs.declared.alloc.Global.{Global}
 use Rattle.ds2_base.specs.Text.{text_of}
 use Rattle.ds2_base.specs.declared.place.Place.{Place}
 use Rattle.ds2_meaning.specs.TypedStatement as t
-use Rattle.ds2_meaning.specs.View.{Part, Chained, in_a_row, if_tree, otherwise_part, statement_part, arm_part, when_part, call_tree, typed_expression, typed_statement, typed_statements}
+use Rattle.ds2_meaning.specs.View.{Part, Chained, in_a_row, if_tree, otherwise_part, statement_part, arm_part, when_part, call_tree, parameter_tree, typed_expression, typed_statement, typed_statements}
 use Rattle.ds2_meaning.specs.declared.expressions.Call.{Call}
 use Rattle.ds2_meaning.specs.declared.expressions.Expression.{Expression}
 use Rattle.ds2_meaning.specs.declared.location.Reference.{Reference}
 use Rattle.ds2_meaning.specs.declared.statements.Arm.{Arm}
+use Rattle.ds2_meaning.specs.declared.statements.ParameterSetting.{ParameterSetting}
 use Rattle.ds2_meaning.specs.declared.statements.Statement as code
 use Rattle.ds2_meaning.specs.declared.statements.Statement.TheFolds.{fold-Arm, fold-When, fold-roll-Statement, fold_out-Arm, fold_out-When}
 use Rattle.ds2_meaning.specs.declared.statements.Statement.TheOpen as node
@@ -26,6 +27,13 @@ pub invoke_typed : (place : Place) (call : Call) → typed_statement (statement.
 invoke_typed place call =
     ap typed_statement (sym (statement.rolls-Invoke place call))
     ∙ fold-roll-Statement t.TypedStatement Chained (Part t.TypedWhens) statement_part arm_part when_part (node.Invoke place call)
+
+-- values for the parameters of a thread program
+pub set_typed : (place : Place) (instance : List ℕ) (values : List ParameterSetting)
+    → typed_statement (statement.SetParameters place instance values) ≡ t.SetParameters place instance (map parameter_tree values)
+set_typed place instance values =
+    ap typed_statement (sym (statement.rolls-SetParameters place instance values))
+    ∙ fold-roll-Statement t.TypedStatement Chained (Part t.TypedWhens) statement_part arm_part when_part (node.SetParameters place instance values)
 
 -- the text, where there is one
 abbrev text_or : List ℕ → Option (List ℕ) → List ℕ

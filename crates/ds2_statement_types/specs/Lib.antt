@@ -8,3 +8,4 @@ pub mod Branches
 pub mod Controls
 pub mod TestRules
 pub mod Returning
+pub mod Settings

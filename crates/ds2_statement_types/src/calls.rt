@@ -1,5 +1,6 @@
 //! Calls as statements.
-ghost use Rattle.std.specs.Prelude.{◌≡◌, None, map};
+ghost use Rattle.std.specs.Prelude.{◌≡◌, map};
+ghost use Rattle.std.specs.Option.{option_copied};
 ghost use Rattle.ds2_elaboration.specs.ExpressionTypes.{TypeScope, ElaboratedArguments, elaborated_arguments};
 ghost use Rattle.ds2_elaboration.specs.StatementTypes.{call_refusals, call_node};
 ghost use Rattle.ds2_elaboration.specs.Typings.{TypeRefusals};
@@ -15,11 +16,12 @@ ghost use Rattle.ds2_statement_types.specs.MethodScopes.{IsMethodScope};
 ghost use Rattle.ds2_statement_types.specs.StatementOutcomes.{IsNodeAs, StandsAs};
 
 use crate::method_scope::MethodScope;
+use crate::object_calls::object_call;
 use crate::outcomes::{StatementOutcome, boxed};
-use ds2_base::{List, OutOfMemory, Place};
+use ds2_base::{List, Name, OutOfMemory, Place};
 use ds2_expression_walk::named_functions::{function, null_call};
-use ds2_expression_walk::names::{nameless, spelled_name};
-use ds2_expression_walk::passing::PassedArguments;
+use ds2_expression_walk::names::spelled_name;
+use ds2_expression_walk::passing::{PassedArguments, copied};
 use ds2_expression_walk::walk::{judged_arguments, passed_arguments};
 use ds2_meaning::{Argument as TypedArgument, Call, Statement};
 use ds2_token::Token;
@@ -27,22 +29,27 @@ use ds2_tree::{Argument, Callee};
 use ds2_types::judgement::{Node, Outcome};
 use std::alloc::Global;
 
-/// A call of the unit's method of this number.
-fn unit_call(number: u32, arguments: List<TypedArgument>) -> Call
-    ensures { call_tree result ≡ record { instance = None; method = number; arguments = in_a_row (map argument_tree arguments) NoArgument } }
+/// A call of the method of this number, of an instance or of the unit itself.
+fn method_call(instance: Option<Name>, number: u32, arguments: List<TypedArgument>) -> Call
+    ensures { call_tree result ≡ record { instance = instance; method = number; arguments = in_a_row (map argument_tree arguments) NoArgument } }
 {
     Call {
-        instance: None,
+        instance,
         method: number,
         arguments,
     }
 }
 
-/// The tree of a call of the unit's method of this number, whose result is dropped.
-fn invoke_node(place: Place, number: u32, arguments: List<TypedArgument>) -> Statement
-    ensures { typed_statement result ≡ typed.Invoke place None number (in_a_row (map argument_tree arguments) NoArgument) }
+/// The tree of a call of the method of this number, whose result is dropped.
+fn invoke_node(
+    place: Place,
+    instance: Option<Name>,
+    number: u32,
+    arguments: List<TypedArgument>,
+) -> Statement
+    ensures { typed_statement result ≡ typed.Invoke place instance number (in_a_row (map argument_tree arguments) NoArgument) }
 {
-    let call = unit_call(number, arguments);
+    let call = method_call(instance, number, arguments);
     Statement::Invoke { place, call }
 }
 
@@ -56,26 +63,32 @@ fn evaluate_node(place: Place, value: Node) -> Statement
     }
 }
 
-/// A call of the unit's method of this number, with its arguments.
-fn invoked(
+/// A call of the method of this number, of an instance or of the unit itself, with its arguments.
+pub fn invoked(
     alloc: Global,
     place: Place,
+    instance: Option<&Name>,
     number: u32,
     arguments: PassedArguments,
 ) -> Result<StatementOutcome, OutOfMemory>
-    ensures { (a : ElaboratedArguments) → AreAllPassed a arguments → StandsAs a.refusals (typed.Invoke place None number a.arguments) result }
+    ensures { (a : ElaboratedArguments) → AreAllPassed a arguments → StandsAs a.refusals (typed.Invoke place (option_copied instance.entry) number a.arguments) result }
 {
     match arguments {
         Err(refusal) => Ok(Err(refusal)),
         Ok(arguments) => {
-            let made = boxed(alloc, invoke_node(place, number, arguments))?;
+            let own = copied(alloc, instance)?;
+            let made = boxed(alloc, invoke_node(place, own, number, arguments))?;
             Ok(Ok(made))
         }
     }
 }
 
 /// An expression whose value is dropped.
-fn evaluated(alloc: Global, place: Place, outcome: Outcome) -> Result<StatementOutcome, OutOfMemory>
+pub fn evaluated(
+    alloc: Global,
+    place: Place,
+    outcome: Outcome,
+) -> Result<StatementOutcome, OutOfMemory>
     ensures { (refusals : TypeRefusals) (node : TypedExpression) → IsNodeAs refusals node outcome → StandsAs refusals (typed.Evaluate place node) result }
 {
     match outcome {
@@ -108,7 +121,7 @@ fn named_call(
         Some(method) => {
             let parameters = method.parameters.as_slice();
             let passed = passed_arguments(alloc, &scope.names, arguments, name.place, parameters)?;
-            invoked(alloc, name.place, method.number, passed)
+            invoked(alloc, name.place, None, method.number, passed)
         }
     }
 }
@@ -143,8 +156,8 @@ pub fn call(
     match callee {
         Callee::Function(name) => named_call(alloc, scope, name, arguments),
         Callee::Null(keyword) => null_test(alloc, scope, keyword, arguments),
-        Callee::Method { object, .. } => {
-            evaluated(alloc, object.place, nameless(object.place).outcome)
+        Callee::Method { object, method, .. } => {
+            object_call(alloc, scope, object, method, arguments)
         }
     }
 }

@@ -18,7 +18,7 @@ use crate::parts::with_one;
 use ds2_base::{List, OutOfMemory, Place, Refusal, Text};
 use ds2_expression_walk::names::spelled_name;
 use ds2_expression_walk::scopes::Scope;
-use ds2_expression_walk::variables::{flag, variable};
+use ds2_expression_walk::variables::{member_value, variable};
 use ds2_meaning::{PutItem as TypedItem, Statement, TypeKind};
 use ds2_token::Token;
 use ds2_tree::PutItem;
@@ -112,7 +112,7 @@ fn item(alloc: Global, scope: &Scope<'_>, item: &PutItem) -> Result<ItemOutcome,
             }
         },
         PutItem::Member { object, member, .. } => {
-            let x = flag(alloc, scope, object, member)?;
+            let x = member_value(alloc, scope, object, member)?;
             Ok(shown(x.outcome))
         }
     }

@@ -40,6 +40,7 @@ fn is_settable(standing: Standing) -> bool
     match standing {
         Standing::Local => true,
         Standing::Variable => true,
+        Standing::Parameter => true,
         Standing::Flag => false,
     }
 }

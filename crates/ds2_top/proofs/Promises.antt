@@ -1,28 +1,36 @@
 -- The promises of the top call, each from what a command leaves.
 use Rattle.std.proofs.Common.{◌≡◌, ◌⊎◌, ◌∙◌, ◌++◌, inl, inr, ℕ, List, [], length, refl, sym, ap, subst, arith, ◌≤◌, Option, Some, None, IfSome, IsSome, Result, Ok, Err}
 use Rattle.std.proofs.lemmas.List.{take_all}
-use Rattle.ds2_compile.specs.AnswersOfTexts.{SourcesRead}
 use Rattle.ds2_outside.specs.Files.{Files}
-use Rattle.ds2_top.specs.declared.halt.Halt.{Halt}
-use Rattle.ds2_top.specs.declared.halt.Halt.TheVariants.{Ended, OutOfMemory}
+use Rattle.ds2_compile.specs.AnswersOfTexts.{SourcesRead}
+use Rattle.ds2_compile.specs.StagedParts.{StagedParts}
+use Rattle.ds2_answer.specs.declared.command_line.CommandLine.{CommandLine}
+use Rattle.ds2_answer.specs.declared.command_line.CommandLine.TheVariants.{Run, Compile, Exec, Check}
 use Rattle.ds2_answer.specs.declared.status.Status.{Status}
 use Rattle.ds2_answer.specs.declared.status.Status.TheVariants as ended
-use Rattle.ds2_answer.specs.declared.words.Command.{Command}
-use Rattle.ds2_answer.specs.Actions.{actions, log_text}
-use Rattle.ds2_answer.specs.Answer.{answer, on_command}
-use Rattle.ds2_top.specs.Halt.{Caused, DoesAll}
+use Rattle.ds2_answer.specs.CommandLines.{command_line_of}
+use Rattle.ds2_answer.specs.CommandPlans.{plan_of_command}
+use Rattle.ds2_answer.specs.Lines.{memory_line}
+use Rattle.ds2_answer.specs.ObjectPlans.{ObjectReading}
+use Rattle.ds2_answer.specs.Plan.{Plan}
+use Rattle.ds2_answer.specs.PlanSteps.{status_at_end, steps_of, text_logged}
+use Rattle.ds2_answer.specs.Status.{IsRefusal, log_failed}
+use Rattle.ds2_answer.specs.TablePlans.{Presence, present_in}
+use Rattle.ds2_exec.specs.Halts.{CausedBy, FollowsAll}
+use Rattle.ds2_exec.specs.PlanOutcomes.{CameOfPlan, CutShort}
+use Rattle.ds2_exec.specs.declared.halt.Halt.{Halt}
+use Rattle.ds2_exec.specs.declared.halt.Halt.TheVariants.{Ended, OutOfMemory}
+use Rattle.ds2_top.specs.CommandOutcomes.{DecodesUnlessHalted, DoesCommand, HaltsUnstored, StoresUnlessHalted}
+use Rattle.ds2_top.specs.DecodedFiles.{DecodesObject, EndsBeforeDecoding}
 use Rattle.ds2_top.specs.Headline.{Headline, IsAnswered, LeavesRefusal}
 use Rattle.ds2_top.specs.Leaves.{Did, Leaves}
-use Rattle.ds2_answer.specs.Lines.{memory_line}
-use Rattle.ds2_answer.specs.AnswerLaws.{FaultsAreFirst, RefusalsWriteNothing, RefusedWordsAreUsage}
-use Rattle.ds2_top.specs.Fault.{LeavesFault}
-use Rattle.ds2_top.specs.Load.{OverFiles}
-use Rattle.ds2_top.specs.Outcome.{CameOf, Short}
-use Rattle.ds2_top.specs.Outside.{Outside, Gained, LogGains, LogRose, ReadsRose, WritesRose}
+use Rattle.ds2_top.specs.ObjectRuns.{HaltsUndecoded}
+use Rattle.ds2_top.specs.Outside.{Outside, Gained, HoldsFiles, LogGains, LogRose, ReadsRose, WritesRose}
 use Rattle.ds2_top.specs.Reported.{Reported, TakesLine, TakesSome}
-use Rattle.ds2_answer.specs.Script.{Script}
-use Rattle.ds2_answer.specs.Status.{IsRefusal, log_failed}
-use Rattle.ds2_answer.specs.Words.{command_of}
+use Rattle.ds2_top.specs.RuntimeFaults.{FaultLeft}
+use Rattle.ds2_top.specs.SourceObjects.{IsBeforeStoring, StoresObject}
+use Rattle.ds2_top.proofs.CommandStops.{check_faults_never, compile_faults_never, refusal_writes_nothing, usage_only}
+use Rattle.ds2_top.proofs.FaultSteps.{fault_left}
 use Rattle.ds2_top.proofs.Plain.{append_nil, ended_leaves, memory_leaves}
 
 -- a text that a log has gained which has not failed was gained whole
@@ -30,78 +38,192 @@ gained_whole : (x : List ℕ) (before now : Outside) → Gained x before now →
 gained_whole x before now (inl whole) sound = whole
 gained_whole x before now (inr (rose, part)) sound = absurd (sound rose)
 
--- what holds of every answer
-module _ (law_usage : RefusedWordsAreUsage) (law_kept : RefusalsWriteNothing) (law_first : FaultsAreFirst) where
-  module _ (sources : SourcesRead) (before now : Outside) where
-    -- what a command leaves that has ended in a fault
-    fault_left : (words : List (List ℕ)) (files : Files) → Leaves (answer sources words files) files before now ended.Fault → LeavesFault words files before now
-    fault_left words files (did, gained) =
-        let f = law_first sources words files (sym did.status_is) in
-        record {
-          fault = f.fault;
-          place = f.place;
-          first = f.first;
-          files_are = λ tells. did.files_are tells ∙ ap (λ (a : Files). Some a) f.files_are;
-          gained = subst (λ (x : List ℕ). Gained x before now) f.log_is gained;
-        }
+-- ---- what holds of every answer
 
-    of_did : (words : List (List ℕ)) (files : Files) (status : Status) → Did (answer sources words files) files before now status → Gained (log_text (actions (answer sources words files))) before now → IsRefusal status
-        → LeavesRefusal (answer sources words files) files before now status
-    of_did words files status did gained is =
-        record {
-          status_is = did.status_is;
-          files_are = λ tells. did.files_are tells ∙ ap (λ (f : Files). Some f) (law_kept sources words files (subst IsRefusal did.status_is is));
-          gained = gained;
-        }
+module _ (sources : SourcesRead) (object_for : ObjectReading) (object : List StagedParts) (files : Files) (there : Presence) (before now : Outside) where
+  abbrev answer_of : Option CommandLine → Plan
+  answer_of line = plan_of_command sources object_for object line files there
 
-    refusal_left : (words : List (List ℕ)) (files : Files) (status : Status) → Leaves (answer sources words files) files before now status → IsRefusal status → LeavesRefusal (answer sources words files) files before now status
-    refusal_left words files ended.Done left is = absurd is
-    refusal_left words files ended.Usage left is = of_did words files ended.Usage left.0 left.1 is
-    refusal_left words files ended.Source left is = of_did words files ended.Source left.0 left.1 is
-    refusal_left words files ended.File left is = of_did words files ended.File left.0 left.1 is
-    refusal_left words files ended.Exists left is = of_did words files ended.Exists left.0 left.1 is
-    refusal_left words files ended.Fault left is = absurd is
-    refusal_left words files ended.Read left is = absurd is
-    refusal_left words files ended.Write left is = absurd is
-    refusal_left words files ended.Log left is = absurd is
-    refusal_left words files ended.Object left is = of_did words files ended.Object left.0 left.1 is
-    refusal_left words files ended.Memory left is = absurd is
+  -- what a command leaves that has ended in a fault
+  fault_of : (line : Option CommandLine) → Leaves (answer_of line) files before now ended.Fault → StoresObject sources line files object before now ended.Fault
+      → FaultLeft sources object line (answer_of line) files before now
+  fault_of None (did, gained) stores = cc did.status_is
+  fault_of (Some (Run source threads budget)) (did, gained) (inl of_source) = fault_left sources object source budget files there before now of_source (answer_of (Some (Run source threads budget))) refl did
+  fault_of (Some (Run source threads budget)) (did, gained) (inr (never, held)) = absurd never
+  fault_of (Some (Compile source)) (did, gained) stores = compile_faults_never sources object_for object files there source (sym did.status_is)
+  fault_of (Some (Exec name budget)) (did, gained) stores = tt
+  fault_of (Some (Check source)) (did, gained) stores = check_faults_never sources object_for object files there source (sym did.status_is)
 
-    whole : (script : Script) (files : Files) (status : Status) → Did script files before now status → Gained (log_text (actions script)) before now → (LogRose before now → ⊥) → IsAnswered script files before now status
-    whole script files status did gained sound = record { did = did; gained = gained_whole (log_text (actions script)) before now gained sound }
+  of_did : (line : Option CommandLine) (status : Status) → Did (answer_of line) files before now status → Gained (text_logged (steps_of (answer_of line))) before now → IsRefusal status
+      → LeavesRefusal (answer_of line) files before now status
+  of_did line status did gained is =
+      record {
+        status_is = did.status_is;
+        files_are = λ tells. did.files_are tells ∙ ap (λ (f : Files). Some f) (refusal_writes_nothing sources object_for object files there line (subst IsRefusal did.status_is is));
+        gained = gained;
+      }
 
-    all_answered : (script : Script) (files : Files) (status : Status) → Leaves script files before now status → (ReadsRose before now → ⊥) → (WritesRose before now → ⊥) → (LogRose before now → ⊥)
-        → IsAnswered script files before now status ⊎ (status ≡ ended.Memory)
-    all_answered script files ended.Done left r w l = inl (record { did = left.0; gained = left.1 })
-    all_answered script files ended.Usage left r w l = inl (whole script files ended.Usage left.0 left.1 l)
-    all_answered script files ended.Source left r w l = inl (whole script files ended.Source left.0 left.1 l)
-    all_answered script files ended.File left r w l = inl (whole script files ended.File left.0 left.1 l)
-    all_answered script files ended.Exists left r w l = inl (whole script files ended.Exists left.0 left.1 l)
-    all_answered script files ended.Fault left r w l = inl (whole script files ended.Fault left.0 left.1 l)
-    all_answered script files ended.Object left r w l = inl (whole script files ended.Object left.0 left.1 l)
-    all_answered script files ended.Read left r w l = absurd (r left.cause)
-    all_answered script files ended.Write left r w l = absurd (w left.cause)
-    all_answered script files ended.Log left r w l = absurd (l left.1)
-    all_answered script files ended.Memory left r w l = inr refl
+  refusal_left : (line : Option CommandLine) (status : Status) → Leaves (answer_of line) files before now status → IsRefusal status → LeavesRefusal (answer_of line) files before now status
+  refusal_left line ended.Done left is = absurd is
+  refusal_left line ended.Usage left is = of_did line ended.Usage left.0 left.1 is
+  refusal_left line ended.Source left is = of_did line ended.Source left.0 left.1 is
+  refusal_left line ended.File left is = of_did line ended.File left.0 left.1 is
+  refusal_left line ended.Exists left is = of_did line ended.Exists left.0 left.1 is
+  refusal_left line ended.Fault left is = absurd is
+  refusal_left line ended.Read left is = absurd is
+  refusal_left line ended.Write left is = absurd is
+  refusal_left line ended.Log left is = absurd is
+  refusal_left line ended.Object left is = of_did line ended.Object left.0 left.1 is
+  refusal_left line ended.Memory left is = absurd is
 
-    -- each promise follows from what the command leaves, but that words that are no command are refused
-    promises : (words : List (List ℕ)) (files : Files) (status : Status) → IfSome before.files (λ held. held ≡ files) → Leaves (answer sources words files) files before now status
-        → (command_of words ≡ None → (status ≡ ended.Usage) ⊎ (status ≡ ended.Memory)) → Headline words before now status
-    promises words files status told left back =
-        let at : (s : Status) → status ≡ s → Leaves (answer sources words files) files before now s = λ s is. subst (Leaves (answer sources words files) files before now) is left in
-        record {
-          sources = sources;
-          files = files;
-          told = told;
-          leaves = left;
-          fault = λ is. fault_left words files (at ended.Fault is);
-          refused = λ is. refusal_left words files status left is;
-          usage = (λ is. law_usage.only sources words files (sym (at ended.Usage is).0.status_is), back);
-          read_fault = λ is. (at ended.Read is).cause;
-          write_fault = λ is. (at ended.Write is).cause;
-          log_fault = λ is. (at ended.Log is).1;
-          answered = λ r w l. all_answered (answer sources words files) files status left r w l;
-        }
+  whole : (plan : Plan) (status : Status) → Did plan files before now status → Gained (text_logged (steps_of plan)) before now → (LogRose before now → ⊥) → IsAnswered plan files before now status
+  whole plan status did gained sound = record { did = did; gained = gained_whole (text_logged (steps_of plan)) before now gained sound }
+
+  all_answered : (plan : Plan) (status : Status) → Leaves plan files before now status → (ReadsRose before now → ⊥) → (WritesRose before now → ⊥) → (LogRose before now → ⊥)
+      → IsAnswered plan files before now status ⊎ (status ≡ ended.Memory)
+  all_answered plan ended.Done left r w l = inl (record { did = left.0; gained = left.1 })
+  all_answered plan ended.Usage left r w l = inl (whole plan ended.Usage left.0 left.1 l)
+  all_answered plan ended.Source left r w l = inl (whole plan ended.Source left.0 left.1 l)
+  all_answered plan ended.File left r w l = inl (whole plan ended.File left.0 left.1 l)
+  all_answered plan ended.Exists left r w l = inl (whole plan ended.Exists left.0 left.1 l)
+  all_answered plan ended.Fault left r w l = inl (whole plan ended.Fault left.0 left.1 l)
+  all_answered plan ended.Object left r w l = inl (whole plan ended.Object left.0 left.1 l)
+  all_answered plan ended.Read left r w l = absurd (r left.cause)
+  all_answered plan ended.Write left r w l = absurd (w left.cause)
+  all_answered plan ended.Log left r w l = absurd (l left.1)
+  all_answered plan ended.Memory left r w l = inr refl
+
+  -- each promise follows from what the command leaves, but that words that are no command are refused
+  promises : (words : List (List ℕ)) (status : Status) → IfSome before.files (λ held. held ≡ files) → IfSome before.files (λ held. (name : List ℕ) → there name ≡ present_in held name)
+      → Leaves (answer_of (command_line_of words)) files before now status → StoresObject sources (command_line_of words) files object before now status
+      → DecodesObject object_for (command_line_of words) files before now status → (command_line_of words ≡ None → (status ≡ ended.Usage) ⊎ (status ≡ ended.Memory)) → Headline words before now status
+  promises words status told there_told left stores decodes back =
+      let line = command_line_of words in
+      let at : (s : Status) → status ≡ s → Leaves (answer_of line) files before now s = λ s is. subst (Leaves (answer_of line) files before now) is left in
+      record {
+        sources = sources;
+        object_for = object_for;
+        files = files;
+        there = there;
+        told = told;
+        there_told = there_told;
+        object = object;
+        leaves = left;
+        stores = stores;
+        decodes = decodes;
+        fault = λ is. fault_of line (at ended.Fault is) (subst (StoresObject sources line files object before now) is stores);
+        refused = λ is. refusal_left line status left is;
+        usage = (λ is. usage_only sources object_for object files there line (sym (at ended.Usage is).0.status_is), back);
+        read_fault = λ is. (at ended.Read is).cause;
+        write_fault = λ is. (at ended.Write is).cause;
+        log_fault = λ is. (at ended.Log is).1;
+        answered = λ r w l. all_answered (answer_of line) status left r w l;
+      }
+
+-- ---- what is stored and decoded
+
+module _ (sources : SourcesRead) (object_for : ObjectReading) (object : List StagedParts) (files : Files) (before now : Outside) (ran : Result (Unit {0}) Halt) (status : Status) where
+  stores_at : (line : Option CommandLine) → (HaltsUnstored ran before.files now.files → IsBeforeStoring status × HoldsFiles files before now)
+      → StoresUnlessHalted sources line files object ran before.files now.files → StoresObject sources line files object before now status
+  stores_at None f stores = tt
+  stores_at (Some (Run source threads budget)) f (inl of_source) = inl of_source
+  stores_at (Some (Run source threads budget)) f (inr halts) = inr (f halts)
+  stores_at (Some (Compile source)) f (inl of_source) = inl of_source
+  stores_at (Some (Compile source)) f (inr halts) = inr (f halts)
+  stores_at (Some (Exec name budget)) f stores = tt
+  stores_at (Some (Check source)) f stores = tt
+
+  decodes_at : (line : Option CommandLine) → (HaltsUndecoded ran before.files now.files → EndsBeforeDecoding files before now status)
+      → DecodesUnlessHalted object_for line files ran before.files now.files → DecodesObject object_for line files before now status
+  decodes_at None f decodes = tt
+  decodes_at (Some (Run source threads budget)) f decodes = tt
+  decodes_at (Some (Compile source)) f decodes = tt
+  decodes_at (Some (Exec name budget)) f (inl decoded) = inl decoded
+  decodes_at (Some (Exec name budget)) f (inr halts) = inr (f halts)
+  decodes_at (Some (Check source)) f decodes = tt
+
+-- ---- what was reported
+
+before_failed : (s : Status) → IsBeforeStoring s → IsBeforeStoring (log_failed s)
+before_failed ended.Done b = b
+before_failed ended.Usage b = tt
+before_failed ended.Source b = tt
+before_failed ended.File b = tt
+before_failed ended.Exists b = tt
+before_failed ended.Fault b = b
+before_failed ended.Read b = tt
+before_failed ended.Write b = b
+before_failed ended.Log b = b
+before_failed ended.Object b = b
+before_failed ended.Memory b = tt
+
+reported_before : (s : Status) (x : List ℕ) (rose : Type 0) (result : Status) (before logged : Option (List ℕ)) → Reported s x rose result before logged → IsBeforeStoring s → IsBeforeStoring result
+reported_before s x rose result before logged (inl (r, l)) b = subst IsBeforeStoring (sym r) b
+reported_before s x rose result before logged (inr (inl (r, c, p))) b = subst IsBeforeStoring (sym r) (before_failed s b)
+reported_before s x rose result before logged (inr (inr (r, p))) b = subst IsBeforeStoring (sym r) tt
+
+reported_read : (s : Status) (x : List ℕ) (rose : Type 0) (result : Status) (before logged : Option (List ℕ)) → Reported s x rose result before logged → s ≡ ended.Read → (result ≡ ended.Read) ⊎ (result ≡ ended.Memory)
+reported_read s x rose result before logged (inl (r, l)) is = inl (r ∙ is)
+reported_read s x rose result before logged (inr (inl (r, c, p))) is = inl (r ∙ ap log_failed is)
+reported_read s x rose result before logged (inr (inr (r, p))) is = inr r
+
+usage_reported : (s : Status) (x : List ℕ) (rose : Type 0) (result : Status) (before logged : Option (List ℕ)) → Reported s x rose result before logged → s ≡ ended.Usage → (result ≡ ended.Usage) ⊎ (result ≡ ended.Memory)
+usage_reported s x rose result before logged (inl (r, l)) is = inl (r ∙ is)
+usage_reported s x rose result before logged (inr (inl (r, c, p))) is = inl (r ∙ ap log_failed is)
+usage_reported s x rose result before logged (inr (inr (r, p))) is = inr r
+
+linked : (told : Option Files) (files : Files) → IfSome told (λ held. held ≡ files) → IsSome told → told ≡ Some files
+linked None files is tells = absurd (cc)
+linked (Some held) files is tells = ap (λ (f : Files). Some f) is
+
+-- files that have not changed are those that were told
+files_kept : (files : Files) (before now : Outside) → IfSome before.files (λ held. held ≡ files) → now.files ≡ before.files → HoldsFiles files before now
+files_kept files before now told same = λ tells. same ∙ linked before.files files told tells
+
+-- ---- commands
+
+usage_came : (sources : SourcesRead) (object_for : ObjectReading) (object : List StagedParts) (files : Files) (there : Presence) (words : List (List ℕ)) (told now : Option Files) (status : Status) (x : List ℕ)
+    → command_line_of words ≡ None → CameOfPlan (plan_of_command sources object_for object (command_line_of words) files there) [] told status x now → status ≡ ended.Usage
+usage_came sources object_for object files there words told now status x is came =
+    (subst (λ (line : Option CommandLine). CameOfPlan (plan_of_command sources object_for object line files there) [] told status x now) is came).0.status_is
+
+module _ (sources : SourcesRead) (words : List (List ℕ)) (before now : Outside) where
+  -- a command that has come to an end with a status
+  ended_headline : (status result : Status) (x : List ℕ) (ran : Result (Unit {0}) Halt) (d : DoesCommand sources (command_line_of words) [] before.files ran x now.files)
+      → (status ≡ ended.Read → ReadsRose before now) → (status ≡ ended.Write → WritesRose before now)
+      → CameOfPlan (plan_of_command sources d.object_for d.object (command_line_of words) d.files d.there) [] before.files status x now.files
+      → (HaltsUnstored ran before.files now.files → IsBeforeStoring result × HoldsFiles d.files before now)
+      → (HaltsUndecoded ran before.files now.files → EndsBeforeDecoding d.files before now result)
+      → Reported status x (LogRose before now) result before.log now.log → Headline words before now result
+  ended_headline status result x ran d read write came unstored undecoded r =
+      let line = command_line_of words in
+      promises sources d.object_for d.object d.files d.there before now words result d.files_told d.there_told
+      (ended_leaves before now (plan_of_command sources d.object_for d.object line d.files d.there) d.files status x result (linked before.files d.files d.files_told) read write came r)
+      (stores_at sources d.object_for d.object d.files before now ran result line unstored d.stores)
+      (decodes_at sources d.object_for d.object d.files before now ran result line undecoded d.decodes)
+      (λ none. usage_reported status x (LogRose before now) result before.log now.log r
+      (usage_came sources d.object_for d.object d.files d.there words before.files now.files status x none came))
+
+  -- a command that has ended before its last step
+  halted_at : (status result : Status) (x : List ℕ) → DoesCommand sources (command_line_of words) [] before.files (Err (Ended status)) x now.files
+      → CausedBy {T = Unit {0}} ended.Read (Err (Ended status)) before.read_faults now.read_faults → CausedBy {T = Unit {0}} ended.Write (Err (Ended status)) before.write_faults now.write_faults
+      → Reported status x (LogRose before now) result before.log now.log → Headline words before now result
+  halted_at status result x d reads writes r =
+      ended_headline status result x (Err (Ended status)) d reads.rose writes.rose d.follows
+      (λ halts. (reported_before status x (LogRose before now) result before.log now.log r halts.0, files_kept d.files before now d.files_told halts.1))
+      (λ halts. (reported_read status x (LogRose before now) result before.log now.log r halts.0, files_kept d.files before now d.files_told halts.1)) r
+
+  pub halted_headline : (status result : Status) (said x : List ℕ) (ran : Result (Unit {0}) Halt) (halt : Halt) → ran ≡ Err halt → halt ≡ Ended status → said ≡ []
+      → CausedBy ended.Read ran before.read_faults now.read_faults → CausedBy ended.Write ran before.write_faults now.write_faults
+      → DoesCommand sources (command_line_of words) said before.files ran x now.files
+      → Reported status x (LogRose before now) result before.log now.log → Headline words before now result
+  halted_headline status result said x ran halt ran_is halt_is empty reads writes d r =
+      let is : ran ≡ Err (Ended status) = ran_is ∙ ap (λ (h : Halt). Err h) halt_is in
+      halted_at status result x
+      (subst (λ (s : List ℕ). DoesCommand sources (command_line_of words) s before.files (Err (Ended status)) x now.files) empty
+      (subst (λ (ran : Result (Unit {0}) Halt). DoesCommand sources (command_line_of words) said before.files ran x now.files) is d))
+      (subst (λ (ran : Result (Unit {0}) Halt). CausedBy ended.Read ran before.read_faults now.read_faults) is reads)
+      (subst (λ (ran : Result (Unit {0}) Halt). CausedBy ended.Write ran before.write_faults now.write_faults) is writes) r
 
   done_no_read : {P : Type 0} → ended.Done ≡ ended.Read → P
   done_no_read is = absurd (cc)
@@ -109,51 +231,13 @@ module _ (law_usage : RefusedWordsAreUsage) (law_kept : RefusalsWriteNothing) (l
   done_no_write : {P : Type 0} → ended.Done ≡ ended.Write → P
   done_no_write is = absurd (cc)
 
-  linked : (told : Option Files) (files : Files) → IfSome told (λ held. held ≡ files) → IsSome told → told ≡ Some files
-  linked None files is tells = absurd (cc)
-  linked (Some held) files is tells = ap (λ (f : Files). Some f) is
-
-  usage_came : (sources : SourcesRead) (words : List (List ℕ)) (files : Files) (told now : Option Files) (status : Status) (x : List ℕ) → command_of words ≡ None → CameOf (answer sources words files) [] told status x now → status ≡ ended.Usage
-  usage_came sources words files told now status x is came = (subst (λ (c : Option Command). CameOf (on_command sources c files) [] told status x now) is came).0.status_is
-
-  usage_reported : (status : Status) (x : List ℕ) (rose : Type 0) (result : Status) (before logged : Option (List ℕ)) → Reported status x rose result before logged → status ≡ ended.Usage
-      → (result ≡ ended.Usage) ⊎ (result ≡ ended.Memory)
-  usage_reported status x rose result before logged (inl (r, l)) is = inl (r ∙ is)
-  usage_reported status x rose result before logged (inr (inl (r, b, p))) is = inl (r ∙ ap log_failed is)
-  usage_reported status x rose result before logged (inr (inr (r, p))) is = inr r
-
-  -- a command that has come to an end with a status
-  ended_headline : (sources : SourcesRead) (words : List (List ℕ)) (before now : Outside) (status result : Status) (said x : List ℕ) → said ≡ []
-      → (status ≡ ended.Read → ReadsRose before now) → (status ≡ ended.Write → WritesRose before now)
-      → OverFiles before.files (λ files. DoesAll (answer sources words files) said before.files (Err (Ended status)) x now.files)
-      → Reported status x (LogRose before now) result before.log now.log → Headline words before now result
-  ended_headline sources words before now status result said x empty read write o r =
-      let came : CameOf (answer sources words o.files) [] before.files status x now.files = subst (λ (s : List ℕ). CameOf (answer sources words o.files) s before.files status x now.files) empty o.holds in
-      promises sources before now words o.files result o.told_is
-      (ended_leaves before now (answer sources words o.files) o.files status x result (linked before.files o.files o.told_is) read write came r)
-      (λ none. usage_reported status x (LogRose before now) result before.log now.log r (usage_came sources words o.files before.files now.files status x none came))
-
-  -- a command that has ended before its last step
-  pub halted_headline : (sources : SourcesRead) (words : List (List ℕ)) (before now : Outside) (status result : Status) (said x : List ℕ) (ran : Result (Unit {0}) Halt) (halt : Halt) → ran ≡ Err halt → halt ≡ Ended status → said ≡ []
-      → Caused ended.Read ran before.read_faults now.read_faults → Caused ended.Write ran before.write_faults now.write_faults
-      → OverFiles before.files (λ files. DoesAll (answer sources words files) said before.files ran x now.files)
-      → Reported status x (LogRose before now) result before.log now.log → Headline words before now result
-  halted_headline sources words before now status result said x ran halt ran_is halt_is empty read write o r =
-      let is : ran ≡ Err (Ended status) = ran_is ∙ ap (λ (h : Halt). Err h) halt_is in
-      let reads : Caused {T = Unit {0}} ended.Read (Err (Ended status)) before.read_faults now.read_faults =
-      subst (λ (ran : Result (Unit {0}) Halt). Caused ended.Read ran before.read_faults now.read_faults) is read in
-      let writes : Caused {T = Unit {0}} ended.Write (Err (Ended status)) before.write_faults now.write_faults =
-      subst (λ (ran : Result (Unit {0}) Halt). Caused ended.Write ran before.write_faults now.write_faults) is write in
-      ended_headline sources words before now status result said x empty reads.rose writes.rose
-      (subst (λ (ran : Result (Unit {0}) Halt). OverFiles before.files (λ files. DoesAll (answer sources words files) said before.files ran x now.files)) is o) r
-
   -- a command that was done
-  pub done_headline : (sources : SourcesRead) (words : List (List ℕ)) (before now : Outside) (result : Status) (said x : List ℕ) → said ≡ []
-      → OverFiles before.files (λ files. DoesAll (answer sources words files) said before.files (Ok tt) x now.files)
+  pub done_headline : (result : Status) (said x : List ℕ) → said ≡ [] → DoesCommand sources (command_line_of words) said before.files (Ok tt) x now.files
       → Reported ended.Done x (LogRose before now) result before.log now.log → Headline words before now result
-  done_headline sources words before now result said x empty o r =
-      ended_headline sources words before now ended.Done result said x empty done_no_read done_no_write
-      (record { files = o.files; told_is = o.told_is; holds = o.holds.ends ended.Done x now.files (record { status_is = refl; log_is = refl; files = refl }, tt) }) r
+  done_headline result said x empty given r =
+      let d = subst (λ (s : List ℕ). DoesCommand sources (command_line_of words) s before.files (Ok tt) x now.files) empty given in
+      ended_headline ended.Done result x (Ok tt) d done_no_read done_no_write
+      (d.follows.ends ended.Done x now.files (record { status_is = refl; log_is = refl; files = refl }, tt)) (λ never. absurd never) (λ never. absurd never) r
 
   part_of_taken : (line : List ℕ) (before logged : Option (List ℕ)) → TakesLine line before logged → TakesSome line before logged
   part_of_taken line None logged taken = tt
@@ -163,13 +247,18 @@ module _ (law_usage : RefusedWordsAreUsage) (law_kept : RefusalsWriteNothing) (l
       (length line, is ∙ ap (λ (l : List ℕ). Some (held ++ l)) (sym (take_all (length line) line enough)))
   part_of_taken line (Some held) logged (inr (inr part)) = part
 
+  memory_at : (x : List ℕ) → (said : List ℕ) → DoesCommand sources (command_line_of words) said before.files (Err OutOfMemory) x now.files → TakesLine memory_line before.log now.log → Headline words before now ended.Memory
+  memory_at x said d taken =
+      let line = command_line_of words in
+      promises sources d.object_for d.object d.files d.there before now words ended.Memory d.files_told d.there_told
+      (memory_leaves before now (plan_of_command sources d.object_for d.object line d.files d.there) d.files (linked before.files d.files d.files_told) d.follows (part_of_taken memory_line before.log now.log taken))
+      (stores_at sources d.object_for d.object d.files before now (Err OutOfMemory) ended.Memory line (λ same. (tt, files_kept d.files before now d.files_told same)) d.stores)
+      (decodes_at sources d.object_for d.object d.files before now (Err OutOfMemory) ended.Memory line (λ same. (inr refl, files_kept d.files before now d.files_told same)) d.decodes)
+      (λ none. inr refl)
+
   -- a command that has found no memory
-  pub memory_headline : (sources : SourcesRead) (words : List (List ℕ)) (before now : Outside) (result : Status) (said x : List ℕ) (ran : Result (Unit {0}) Halt) (halt : Halt) → ran ≡ Err halt → halt ≡ OutOfMemory
-      → OverFiles before.files (λ files. DoesAll (answer sources words files) said before.files ran x now.files)
-      → result ≡ ended.Memory → TakesLine memory_line before.log now.log → Headline words before now result
-  memory_headline sources words before now result said x ran halt ran_is halt_is o is taken =
-      let short : Short (answer sources words o.files) before.files now.files =
-      subst (λ (r : Result (Unit {0}) Halt). DoesAll (answer sources words o.files) said before.files r x now.files) (ran_is ∙ ap (λ (h : Halt). Err h) halt_is) o.holds in
-      let left : Leaves (answer sources words o.files) o.files before now ended.Memory =
-      memory_leaves before now (answer sources words o.files) o.files (linked before.files o.files o.told_is) short (part_of_taken memory_line before.log now.log taken) in
-      promises sources before now words o.files result o.told_is (subst (Leaves (answer sources words o.files) o.files before now) (sym is) left) (λ none. inr is)
+  pub memory_headline : (result : Status) (said x : List ℕ) (ran : Result (Unit {0}) Halt) (halt : Halt) → ran ≡ Err halt → halt ≡ OutOfMemory
+      → DoesCommand sources (command_line_of words) said before.files ran x now.files → result ≡ ended.Memory → TakesLine memory_line before.log now.log → Headline words before now result
+  memory_headline result said x ran halt ran_is halt_is d is taken =
+      subst (λ (s : Status). Headline words before now s) (sym is)
+      (memory_at x said (subst (λ (ran : Result (Unit {0}) Halt). DoesCommand sources (command_line_of words) said before.files ran x now.files) (ran_is ∙ ap (λ (h : Halt). Err h) halt_is) d) taken)

@@ -1,11 +1,11 @@
--- What the top call promises, and what its inner calls leave.
+-- The top call.
 pub mod Outside
-pub mod Outcome
-pub mod Halt
-pub mod Load
-pub mod ReadTables
-pub mod ProgramRuns
-pub mod Leaves
 pub mod Reported
-pub mod Fault
+pub mod SourceObjects
+pub mod DecodedFiles
+pub mod RuntimeFaults
+pub mod Leaves
 pub mod Headline
+pub mod SourceLoads
+pub mod ObjectRuns
+pub mod CommandOutcomes

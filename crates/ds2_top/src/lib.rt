@@ -7,17 +7,15 @@
 //! ```
 #![tactic(auto)]
 
-mod files;
-mod halt;
-mod programs;
+mod commands;
+mod compiling;
+mod loaded;
+mod objects;
+mod refusals;
 mod report;
-mod run;
-mod runner;
 mod sources;
-mod stored;
-mod tables;
+mod storing;
 mod top;
 
 pub use ds2_answer::Status;
-use halt::Halt;
 pub use top::{ds2, ds2_alone};

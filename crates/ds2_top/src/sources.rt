@@ -1,155 +1,134 @@
-//! A source over its tables: its tree is looked at, its tables are read, its programs are compiled and run.
-ghost use Rattle.std.specs.Prelude.{◌≡◌, ◌≤◌, ◌<◌, ◌+◌, ◌^◌, [], length, IsTrue};
-ghost use Rattle.ds2_compile.specs.UnitViews.{source_tree};
+//! From the file of a source to its object.
+ghost use Rattle.std.specs.Prelude.{◌<◌, ◌≤◌, ◌+◌, ◌^◌, IsTrue, length};
+ghost use Rattle.ds2_base.specs.Text.{text_of};
 ghost use Rattle.ds2_compile.specs.AnswersOfTexts.{SourcesRead};
-ghost use Rattle.ds2_compile.specs.Elaboration.{IsDataSource};
 ghost use Rattle.ds2_compile.specs.BuiltSources.{is_built_source};
+ghost use Rattle.ds2_compile.specs.BuiltSources.{IsDataSource};
 ghost use Rattle.ds2_compile.specs.InputTables.{names_or_refusal, source_inputs};
 ghost use Rattle.ds2_compile.specs.SourceTexts.{StandsInText};
-ghost use Rattle.ds2_answer.specs.declared.words.TheConstants.{MOST_BUDGET};
-ghost use Rattle.ds2_answer.specs.declared.kinds.SourceReason.TheVariants.{Rule};
-ghost use Rattle.ds2_answer.specs.Answer.{on_built, on_inputs, on_source, on_stored, on_tables};
-ghost use Rattle.ds2_answer.specs.Lines.{source_line};
-ghost use Rattle.ds2_top.specs.Halt.{Caused, DoesAll, EndsAs};
-ghost use Rattle.ds2_top.specs.Load.{OverFiles};
-ghost use Rattle.ds2_top.specs.ReadTables.{AreApart};
+ghost use Rattle.ds2_compile.specs.UnitViews.{source_tree};
+ghost use Rattle.ds2_answer.specs.SourcePlans.{source_plan, with_built, with_inputs, with_text, with_tree};
+ghost use Rattle.ds2_answer.specs.Words.{is_source};
+ghost use Rattle.ds2_answer.specs.declared.kinds.TheConstants.{SOURCE_LIMIT};
+ghost use Rattle.ds2_exec.specs.Halts.{CausedBy};
+ghost use Rattle.ds2_top.specs.SourceLoads.{LoadsSource, ReadsInputs};
 
-use crate::Halt;
-use crate::halt::refuse_source;
-use crate::programs::run_programs;
-use crate::runner::Runner;
-use crate::stored::{KeptTable, schemas_of};
-use crate::tables::read_tables;
-use ds2_answer::{SourceReason, Status};
-use ds2_base::{Bytes, Name, Place, Stop, Text};
-use ds2_compile::{
-    Source, SourceRefusal, compile, input_names, is_built_source, one_source_answer, read_source,
-};
+use crate::compiling::compile_over;
+use crate::loaded::Loaded;
+use crate::refusals::{refuse, refuse_source};
+use ds2_answer::{FileKind, SOURCE_LIMIT, SourceReason, Status};
+use ds2_base::{Bytes, List, Place, Stop, Text};
+use ds2_compile::{Source, input_names, is_built_source, one_source_answer, read_source};
+use ds2_exec::{Halt, KeptTable, read_file, read_tables, refuse_file};
 use ds2_outside::Store;
 use std::alloc::Global;
 
-// Says that a source breaks a rule, which ends the command.
-fn refuse(alloc: Global, refusal: SourceRefusal, log: &mut Bytes) -> Halt
-    ensures { EndsAs Status.Source (source_line (Rule refusal.kind) refusal.place) log.old result log.new }
-{
-    refuse_source(alloc, SourceReason::Rule(refusal.kind), refusal.place, log)
-}
-
-// Compiles a source over the tables that were read and runs its programs, or refuses it.
-fn run_stored<R: Runner, S: Store>(
+// Reads the tables of the store that a source mentions, or refuses it where they are too many.
+fn read_inputs<S: Store>(
     alloc: Global,
-    runner: &R,
     tree: &Source,
-    read: &[KeptTable],
-    budget: u64,
     log: &mut Bytes,
     store: &mut S,
-) -> Result<(), Halt>
-    requires built { IsTrue (is_built_source (source_tree tree.now)) }
-    requires text { StandsInText (source_tree tree.now) }
-    requires budget { budget ≤ MOST_BUDGET }
-    ensures does { DoesAll (on_stored (source_tree tree.now) budget read.now) log.old (S.files store.old) result log.new (S.files store.new) }
-    ensures read { Caused Status.Read result (S.read_faults store.old) (S.read_faults store.new) }
-    ensures write { Caused Status.Write result (S.write_faults store.old) (S.write_faults store.new) }
-{
-    let schemas = schemas_of(alloc, read)?;
-    match compile(alloc, tree, &schemas) {
-        Ok(compiled) => {
-            let codes = compiled.programs.as_slice();
-            run_programs(alloc, runner, codes, read, budget, log, store)
-        }
-        Err(Stop::Refused(refusal)) => Err(refuse(alloc, refusal, log)),
-        Err(Stop::OutOfMemory) => Err(Halt::OutOfMemory),
-    }
-}
-
-// Reads the tables of a source, and goes on.
-fn run_inputs<R: Runner, S: Store>(
-    alloc: Global,
-    runner: &R,
-    tree: &Source,
-    names: &[Name],
-    budget: u64,
-    log: &mut Bytes,
-    store: &mut S,
-) -> Result<(), Halt>
-    requires apart { AreApart names.now }
-    requires built { IsTrue (is_built_source (source_tree tree.now)) }
-    requires text { StandsInText (source_tree tree.now) }
-    requires budget { budget ≤ MOST_BUDGET }
-    ensures does { OverFiles (S.files store.old) (λ files. DoesAll (on_tables names.now [] files (on_stored (source_tree tree.now) budget)) log.old (S.files store.old) result log.new (S.files store.new)) }
-    ensures read { Caused Status.Read result (S.read_faults store.old) (S.read_faults store.new) }
-    ensures write { Caused Status.Write result (S.write_faults store.old) (S.write_faults store.new) }
-{
-    let read = read_tables(alloc, runner, names, log, store)?;
-    run_stored(alloc, runner, tree, read.as_slice(), budget, log, store)
-}
-
-// Runs a source that is built, or refuses it where it reads too many tables.
-fn run_built<R: Runner, S: Store>(
-    alloc: Global,
-    runner: &R,
-    tree: &Source,
-    budget: u64,
-    log: &mut Bytes,
-    store: &mut S,
-) -> Result<(), Halt>
-    requires built { IsTrue (is_built_source (source_tree tree.now)) }
-    requires data { IsDataSource (source_tree tree.now) }
-    requires text { StandsInText (source_tree tree.now) }
-    requires budget { budget ≤ MOST_BUDGET }
-    ensures does { OverFiles (S.files store.old) (λ files. DoesAll (on_inputs (names_or_refusal (source_inputs (source_tree tree.now))) (source_tree tree.now) budget files) log.old (S.files store.old) result log.new (S.files store.new)) }
-    ensures read { Caused Status.Read result (S.read_faults store.old) (S.read_faults store.new) }
-    ensures write { Caused Status.Write result (S.write_faults store.old) (S.write_faults store.new) }
+) -> Result<List<KeptTable>, Halt>
+    requires { IsDataSource (source_tree tree.now) }
+    ensures reads { ReadsInputs (source_tree tree.now) log.old (S.files store.old) result log.new (S.files store.new) }
+    ensures read { CausedBy Status.Read result (S.read_faults store.old) (S.read_faults store.new) }
+    ensures write { CausedBy Status.Write result (S.write_faults store.old) (S.write_faults store.new) }
 {
     match input_names(alloc, tree) {
-        Ok(names) => run_inputs(alloc, runner, tree, names.as_slice(), budget, log, store),
+        Ok(names) => read_tables(alloc, &[], names.as_slice(), log, store),
         Err(Stop::Refused(refusal)) => Err(refuse(alloc, refusal, log)),
         Err(Stop::OutOfMemory) => Err(Halt::OutOfMemory),
     }
 }
 
-// Runs the tree of a source, or refuses it where it has a form that isn't built yet.
-fn run_tree<R: Runner, S: Store>(
+// Reads the tables of a source that is built, and compiles it.
+fn load_built<S: Store>(
     alloc: Global,
-    runner: &R,
     tree: &Source,
-    budget: u64,
     log: &mut Bytes,
     store: &mut S,
-) -> Result<(), Halt>
+) -> Result<Loaded, Halt>
+    requires domain { IsDataSource (source_tree tree.now) }
     requires text { StandsInText (source_tree tree.now) }
-    requires budget { budget ≤ MOST_BUDGET }
-    ensures does { OverFiles (S.files store.old) (λ files. DoesAll (on_built (is_built_source (source_tree tree.now)) (source_tree tree.now) budget files) log.old (S.files store.old) result log.new (S.files store.new)) }
-    ensures read { Caused Status.Read result (S.read_faults store.old) (S.read_faults store.new) }
-    ensures write { Caused Status.Write result (S.write_faults store.old) (S.write_faults store.new) }
+    ensures loads { LoadsSource (λ files go. with_inputs (names_or_refusal (source_inputs (source_tree tree.now))) (source_tree tree.now) files go) log.old (S.files store.old) result log.new (S.files store.new) }
+    ensures read { CausedBy Status.Read result (S.read_faults store.old) (S.read_faults store.new) }
+    ensures write { CausedBy Status.Write result (S.write_faults store.old) (S.write_faults store.new) }
+{
+    let stored = read_inputs(alloc, tree, log, store)?;
+    compile_over(alloc, tree, stored, log)
+}
+
+// Loads the tree of a source, or refuses it where it has a form that isn't built yet.
+fn load_tree<S: Store>(
+    alloc: Global,
+    tree: &Source,
+    log: &mut Bytes,
+    store: &mut S,
+) -> Result<Loaded, Halt>
+    requires { StandsInText (source_tree tree.now) }
+    ensures loads { LoadsSource (λ files go. with_built (is_built_source (source_tree tree.now)) (source_tree tree.now) files go) log.old (S.files store.old) result log.new (S.files store.new) }
+    ensures read { CausedBy Status.Read result (S.read_faults store.old) (S.read_faults store.new) }
+    ensures write { CausedBy Status.Write result (S.write_faults store.old) (S.write_faults store.new) }
 {
     if is_built_source(tree) {
-        run_built(alloc, runner, tree, budget, log, store)
+        load_built(alloc, tree, log, store)
     } else {
         Err(refuse_source(alloc, SourceReason::NotBuilt, Place::start(), log))
     }
 }
 
-/// Runs the source of a text, or refuses it.
-pub(crate) fn run_text<R: Runner, S: Store>(
+// Loads the source of a text, or refuses it.
+fn load_text<S: Store>(
     alloc: Global,
-    runner: &R,
     text: &Text,
-    budget: u64,
     log: &mut Bytes,
     store: &mut S,
-) -> Result<(), Halt>
-    requires short { length text.now + 1 < 2 ^ 32 }
-    requires budget { budget ≤ MOST_BUDGET }
-    ensures does { (sources : SourcesRead) → OverFiles (S.files store.old) (λ files. DoesAll (on_source (sources.answer_for text.now) budget files) log.old (S.files store.old) result log.new (S.files store.new)) }
-    ensures read { Caused Status.Read result (S.read_faults store.old) (S.read_faults store.new) }
-    ensures write { Caused Status.Write result (S.write_faults store.old) (S.write_faults store.new) }
+) -> Result<Loaded, Halt>
+    requires { length text.now + 1 < 2 ^ 32 }
+    ensures loads { (sources : SourcesRead) → LoadsSource (λ files go. with_tree (sources.answer_for text.now) files go) log.old (S.files store.old) result log.new (S.files store.new) }
+    ensures read { CausedBy Status.Read result (S.read_faults store.old) (S.read_faults store.new) }
+    ensures write { CausedBy Status.Write result (S.write_faults store.old) (S.write_faults store.new) }
 {
     one_source_answer();
     match read_source(alloc, text) {
-        Ok(tree) => run_tree(alloc, runner, &tree, budget, log, store),
+        Ok(tree) => load_tree(alloc, &tree, log, store),
         Err(Stop::Refused(refusal)) => Err(refuse(alloc, refusal, log)),
         Err(Stop::OutOfMemory) => Err(Halt::OutOfMemory),
     }
+}
+
+// Loads the source of a file's bytes, or refuses the file where they are no text.
+fn load_bytes<S: Store>(
+    alloc: Global,
+    name: &Text,
+    bytes: Bytes,
+    log: &mut Bytes,
+    store: &mut S,
+) -> Result<Loaded, Halt>
+    requires { length bytes ≤ SOURCE_LIMIT }
+    ensures loads { (sources : SourcesRead) → LoadsSource (λ files go. with_text sources name.now (text_of bytes) files go) log.old (S.files store.old) result log.new (S.files store.new) }
+    ensures read { CausedBy Status.Read result (S.read_faults store.old) (S.read_faults store.new) }
+    ensures write { CausedBy Status.Write result (S.write_faults store.old) (S.write_faults store.new) }
+{
+    match Text::from_bytes(alloc, bytes)? {
+        Some(text) => load_text(alloc, &text, log, store),
+        None => Err(refuse_file(alloc, name, FileKind::NotUtf8, log)),
+    }
+}
+
+/// Reads a source and the tables of the store that it mentions, and compiles it; or refuses it.
+pub(crate) fn load_source<S: Store>(
+    alloc: Global,
+    name: &Text,
+    log: &mut Bytes,
+    store: &mut S,
+) -> Result<Loaded, Halt>
+    requires { IsTrue (is_source name.now) }
+    ensures loads { (sources : SourcesRead) → LoadsSource (source_plan sources name.now) log.old (S.files store.old) result log.new (S.files store.new) }
+    ensures read { CausedBy Status.Read result (S.read_faults store.old) (S.read_faults store.new) }
+    ensures write { CausedBy Status.Write result (S.write_faults store.old) (S.write_faults store.new) }
+{
+    let bytes = read_file(alloc, name, SOURCE_LIMIT, log, store)?;
+    load_bytes(alloc, name, bytes, log, store)
 }

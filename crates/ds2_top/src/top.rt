@@ -2,14 +2,12 @@
 ghost use Rattle.std.specs.Prelude.{◌≡◌};
 ghost use Rattle.ds2_top.specs.Headline.{Headline};
 
-use crate::Halt;
+use crate::commands::run;
 use crate::report::{report, report_memory};
-use crate::run::run;
-use crate::runner::Alone;
 use ds2_answer::Status;
-use ds2_answer::laws::{faults_are_first, refusals_write_nothing, refused_words_are_usage};
 use ds2_base::{List, Text};
 use ds2_compile::sources_are_read;
+use ds2_exec::Halt;
 use ds2_outside::{Gate, Sink, Store};
 use std::alloc::Global;
 use std::sync::Wait;
@@ -17,8 +15,9 @@ use std::thread::Threads;
 
 /// Does what a line of words says, with one worker, and writes the log at the end in one call.
 ///
-/// The words are those after the program's name. A file of a table has the table's name and the ending `.csv`. The first
-/// refusal ends the command. The status tells how it has ended, and the log the kind and the place.
+/// The words are those after the program's name: `run`, `compile` or `check` and a source, or `exec` and an object, with their options. A
+/// file of a table has the table's name and the ending `.csv`, and the object of `NAME.ds2` is `NAME.dso`. The first refusal ends the
+/// command. The status tells how it has ended, and the log the kind and the place.
 pub fn ds2_alone<T: Store, L: Sink>(
     alloc: Global,
     words: &[Text],
@@ -31,11 +30,8 @@ pub fn ds2_alone<T: Store, L: Sink>(
         result }
 {
     sources_are_read();
-    refused_words_are_usage();
-    refusals_write_nothing();
-    faults_are_first();
     let mut text = List::new(alloc);
-    match run(alloc, &Alone, words, &mut text, store) {
+    match run(alloc, words, &mut text, store) {
         Ok(()) => report(Status::Done, &text, log),
         Err(Halt::Ended(status)) => report(status, &text, log),
         Err(Halt::OutOfMemory) => report_memory(alloc, log),

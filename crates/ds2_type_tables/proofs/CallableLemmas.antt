@@ -1,25 +1,30 @@
 -- Methods that can be called, one by one.
 use Rattle.std.proofs.Common.{◌≡◌, ℕ, ◌+◌, ◌||◌, Bool, true, false, if◌then◌else◌, bytes_eq, List, [], ◌∷◌, Option, Some, None, refl, sym, ap, ◌∙◌, subst}
-use Rattle.std.specs.Prelude.{nat_eq, not, position, unwrap_or}
+use Rattle.std.specs.Prelude.{nat_eq, not, is_some, position, unwrap_or}
 use Rattle.std.specs.List.{position_from}
 use Rattle.std.specs.Option.{option_or}
 use Rattle.std.specs.Cmp.Lexicographic.{pointwise}
-use Rattle.std.specs.HashMap.{get}
+use Rattle.std.specs.HashMap.{HashMap, get}
 use Rattle.std.proofs.lemmas.Iterator.Adapters.{position_from-zero}
 use Rattle.std.proofs.lemmas.Slice.Eq.{bytes_eq-Decides}
 use Rattle.ds2_tree.specs.Globals.{Method, GlobalItem, Declared, Listed, Defined}
+use Rattle.ds2_value.specs.declared.ty.Ty.{Ty}
+use Rattle.ds2_meaning.specs.IsTyped.{type_in}
 use Rattle.ds2_meaning.specs.ProgramTree.{is_listed}
 use Rattle.ds2_names.specs.SourceUnit.{spelled_name, is_system_name, source_methods}
 use Rattle.ds2_names.specs.Uses.{method_named}
-use Rattle.ds2_elaboration.specs.ExpressionTypes.{TypeScope, callable_methods, number_of_method}
-use Rattle.ds2_expression_walk.specs.Scopes.{IsMethodAs, IsScopeOf}
+use Rattle.ds2_elaboration.specs.ExpressionTypes.{TypeScope, ObjectCalls, callable_methods, object_in_scope}
+use Rattle.ds2_expression_walk.specs.Scopes.{IsMethodAs, AreKnownMethods, IsObjectAs, object_unless, object_in, IsScopeOf}
 use Rattle.ds2_expression_walk.specs.declared.scopes.KnownMethod.{KnownMethod}
+use Rattle.ds2_expression_walk.specs.declared.scopes.KnownName.{KnownName}
+use Rattle.ds2_expression_walk.specs.declared.scopes.KnownObject.{KnownObject}
 use Rattle.ds2_expression_walk.specs.declared.scopes.Scope.{Scope}
 use Rattle.ds2_scope.proofs.TableLemmas.{or_none}
 use Rattle.ds2_type_tables.specs.Bys.{if_listed, HasBys}
 use Rattle.ds2_type_tables.specs.Callables.{known_method, known_if_named, callable_if, callable_in, number_behind_method, known_in_part, known_from, HasCallables}
 use Rattle.ds2_type_tables.specs.Globals.{HasGlobals}
-use Rattle.ds2_type_tables.specs.Tables.{HasLocals}
+use Rattle.ds2_type_tables.specs.Objects.{object_named, HasObjects}
+use Rattle.ds2_type_tables.specs.Tables.{local_of, HasLocals}
 use Rattle.ds2_type_tables.proofs.ScopeTables.{variables_of_tables}
 
 -- ---- one part more of a unit
@@ -78,30 +83,50 @@ tells_from name number (m ∷ methods) = by (bytes_eq (spelled_name m.name) name
     by true h = refl
     by false h = h
 
-told_as : (types : TypeScope) (name : List ℕ) (k : Option KnownMethod) (m : Option Method) (i : Option ℕ) → Tells k m i
-    → i ≡ position (λ (m : Method). bytes_eq (spelled_name m.name) name) types.methods → IsMethodAs types name k m
-told_as types name None None None h e = tt
-told_as types name None None (Some i) h e = tt
-told_as types name None (Some m) i h e = absurd h
-told_as types name (Some k) None i h e = absurd h
-told_as types name (Some k) (Some m) None h e = absurd h
-told_as types name (Some k) (Some m) (Some i) h e = record {
+told_as : (methods : List Method) (name : List ℕ) (k : Option KnownMethod) (m : Option Method) (i : Option ℕ) → Tells k m i
+    → i ≡ position (λ (m : Method). bytes_eq (spelled_name m.name) name) methods → IsMethodAs methods name k m
+told_as methods name None None None h e = tt
+told_as methods name None None (Some i) h e = tt
+told_as methods name None (Some m) i h e = absurd h
+told_as methods name (Some k) None i h e = absurd h
+told_as methods name (Some k) (Some m) None h e = absurd h
+told_as methods name (Some k) (Some m) (Some i) h e = record {
   number = ap (λ (x : KnownMethod). x.number) h ∙ ap (λ (o : Option ℕ). unwrap_or o 0) e;
   parameters = ap (λ (x : KnownMethod). x.parameters) h;
   returns = ap (λ (x : KnownMethod). x.returns) h;
 }
 
-methods_of_table : (types : TypeScope) (scope : Scope) → HasCallables scope.methods.now types.methods → (name : List ℕ)
-    → IsMethodAs types name (get (pointwise nat_eq) scope.methods.now name) (method_named types.methods name)
-methods_of_table types scope h name =
-    subst (λ (k : Option KnownMethod). IsMethodAs types name k (method_named types.methods name)) (sym (h name))
-    (told_as types name (known_from 0 types.methods name) (method_named types.methods name) (position_from (λ (m : Method). bytes_eq (spelled_name m.name) name) 0 types.methods)
-    (tells_from name 0 types.methods) (sym (position_from-zero (λ (m : Method). bytes_eq (spelled_name m.name) name) types.methods)))
+-- a table that tells of each name the first of these methods knows them
+pub methods_of_table : {S : Type 0} (methods : List Method) (table : HashMap (List ℕ) KnownMethod S) → HasCallables table methods → AreKnownMethods methods table
+methods_of_table methods table h name =
+    subst (λ (k : Option KnownMethod). IsMethodAs methods name k (method_named methods name)) (sym (h name))
+    (told_as methods name (known_from 0 methods name) (method_named methods name) (position_from (λ (m : Method). bytes_eq (spelled_name m.name) name) 0 methods)
+    (tells_from name 0 methods) (sym (position_from-zero (λ (m : Method). bytes_eq (spelled_name m.name) name) methods)))
 
--- a scope of these tables
-pub scope_of_tables : (types : TypeScope) (scope : Scope) → HasLocals scope.locals.now types.locals → HasGlobals scope.globals.now types.unjoined types.variables types.flags
-    → HasBys scope.bys.now types.bys → HasCallables scope.methods.now types.methods → IsScopeOf types scope
-scope_of_tables types scope h k b m = record { variables = variables_of_tables types scope h k; flags = b; callables = methods_of_table types scope m }
+-- ---- objects
+
+-- an object that a local hides
+object_seen : (name : List ℕ) (ty : Option Ty) (local : Option KnownName) (object : Option KnownObject) (calls : Option ObjectCalls) → local ≡ local_of name ty → IsObjectAs name object calls
+    → IsObjectAs name (object_unless local object) (if is_some ty then None else calls)
+object_seen name None local object calls e h = subst (λ (o : Option KnownName). IsObjectAs name (object_unless o object) calls) (sym e) h
+object_seen name (Some ty) local object calls e h =
+    subst (λ (o : Option KnownName). IsObjectAs name (object_unless o object) None) (sym e) tt
+
+objects_of_tables : (types : TypeScope) (scope : Scope) → HasLocals scope.locals.now types.locals → HasObjects scope.objects.now types.objects → (name : List ℕ)
+    → IsObjectAs name (object_in scope name) (object_in_scope types name)
+objects_of_tables types scope h o name =
+    object_seen name (type_in types.locals name) (get (pointwise nat_eq) scope.locals.now name) (get (pointwise nat_eq) scope.objects.now name) (object_named types.objects name) (h name) (o name)
+
+-- ---- a scope of these tables
+
+pub scope_of_tables : (types : TypeScope) (scope : Scope) → HasLocals scope.locals.now types.locals → HasGlobals scope.globals.now types.unjoined types.variables types.parameters types.flags
+    → HasBys scope.bys.now types.bys → HasCallables scope.methods.now types.methods → HasObjects scope.objects.now types.objects → IsScopeOf types scope
+scope_of_tables types scope h k b m o = record {
+  variables = variables_of_tables types scope h k;
+  flags = b;
+  callables = methods_of_table types.methods scope.methods.now m;
+  objects = objects_of_tables types scope h o;
+}
 
 -- ---- BY variables
 

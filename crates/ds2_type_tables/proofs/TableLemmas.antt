@@ -4,7 +4,7 @@ use Rattle.std.specs.Prelude.{is_some}
 use Rattle.std.proofs.lemmas.Slice.Eq.{bytes_eq-Decides}
 use Rattle.ds2_names.specs.SourceUnit.{PlacedName}
 use Rattle.ds2_meaning.specs.ProgramTree.{is_listed}
-use Rattle.ds2_type_tables.specs.Globals.{known_column, column_known_as, known_flag, flag_of_name}
+use Rattle.ds2_type_tables.specs.Globals.{known_column, column_known_as, parameter_as_known, parameter_known_as, known_flag, flag_of_name}
 use Rattle.ds2_value.specs.declared.ty.Ty.{Ty}
 use Rattle.ds2_meaning.specs.IsTyped.{type_in}
 use Rattle.ds2_meaning.specs.declared.globals.Variable.{Variable}
@@ -64,6 +64,21 @@ one_more_column unjoined x v vs name =
         → known_or (if t then Some (known_column unjoined v) else None) (column_known_as unjoined name (type_in vs name)) ≡ column_known_as unjoined name (if t then Some v.ty else type_in vs name)
     by true e = ap (λ (n : List ℕ). column_known_as unjoined n (Some v.ty)) ((bytes_eq-Decides v.name name).0 e)
     by false e = refl
+
+-- one parameter of a thread program more
+pub one_more_parameter : (x : Option KnownName) (v : Variable) (vs : List Variable) (name : List ℕ)
+    → known_or (known_or x (if bytes_eq v.name name then Some (parameter_as_known v) else None)) (parameter_known_as name (type_in vs name)) ≡ known_or x (parameter_known_as name (type_in (v ∷ vs) name))
+one_more_parameter x v vs name =
+    or_assoc x (if bytes_eq v.name name then Some (parameter_as_known v) else None) (parameter_known_as name (type_in vs name)) ∙ ap (known_or x) (by (bytes_eq v.name name) refl)
+  where
+    by : (t : Bool) → bytes_eq v.name name ≡ t
+        → known_or (if t then Some (parameter_as_known v) else None) (parameter_known_as name (type_in vs name)) ≡ parameter_known_as name (if t then Some v.ty else type_in vs name)
+    by true e = ap (λ (n : List ℕ). parameter_known_as n (Some v.ty)) ((bytes_eq-Decides v.name name).0 e)
+    by false e = refl
+
+-- columns, parameters and flags behind each other
+pub globals_whole : (names : Option KnownName) (column parameter flag : Option KnownName) → names ≡ known_or column parameter → known_or names flag ≡ known_or column (known_or parameter flag)
+globals_whole names column parameter flag e = ap (λ (x : Option KnownName). known_or x flag) e ∙ or_assoc column parameter flag
 
 -- one flag more
 pub one_more_flag : (x : Option KnownName) (flag : List ℕ) (flags : List (List ℕ)) (name : List ℕ)

@@ -24,6 +24,15 @@ abbrev pub column_known_as : List PlacedName → List ℕ → Option Ty → Opti
 column_known_as unjoined name None = None
 column_known_as unjoined name (Some ty) = Some (record { name = name; standing = standing.Variable; ty = ty; refusal = first_type_refusal (from_each (clash_of_column name) unjoined) })
 
+-- a parameter of a thread program, as it is known
+abbrev pub parameter_as_known : Variable → KnownName
+parameter_as_known v = record { name = v.name; standing = standing.Parameter; ty = v.ty; refusal = None }
+
+-- the parameter of this name, where there is one of this type
+abbrev pub parameter_known_as : List ℕ → Option Ty → Option KnownName
+parameter_known_as name None = None
+parameter_known_as name (Some ty) = Some (record { name = name; standing = standing.Parameter; ty = ty; refusal = None })
+
 -- an `in=` flag, as it is known
 abbrev pub known_flag : List ℕ → KnownName
 known_flag name = record { name = name; standing = standing.Flag; ty = BigInt; refusal = None }
@@ -36,7 +45,12 @@ flag_of_name flags name = if is_listed flags name then Some (known_flag name) el
 abbrev pub HasColumns : {S : Type 0} → HashMap (List ℕ) KnownName S → List PlacedName → List Variable → Type 0
 HasColumns names unjoined variables = (name : List ℕ) → get (pointwise nat_eq) names name ≡ column_known_as unjoined name (type_in variables name)
 
--- a table tells of each name the first of these variables and columns that has it, else the flag
-abbrev pub HasGlobals : {S : Type 0} → HashMap (List ℕ) KnownName S → List PlacedName → List Variable → List (List ℕ) → Type 0
-HasGlobals names unjoined variables flags =
-    (name : List ℕ) → get (pointwise nat_eq) names name ≡ known_or (column_known_as unjoined name (type_in variables name)) (flag_of_name flags name)
+-- the variable, column or parameter that a name stands for, else the flag
+abbrev pub global_known_as : List PlacedName → List Variable → List Variable → List (List ℕ) → List ℕ → Option KnownName
+global_known_as unjoined variables parameters flags name =
+    known_or (column_known_as unjoined name (type_in variables name)) (known_or (parameter_known_as name (type_in parameters name)) (flag_of_name flags name))
+
+-- a table tells of each name the first of these variables and columns that has it, else the parameter, else the flag
+abbrev pub HasGlobals : {S : Type 0} → HashMap (List ℕ) KnownName S → List PlacedName → List Variable → List Variable → List (List ℕ) → Type 0
+HasGlobals names unjoined variables parameters flags =
+    (name : List ℕ) → get (pointwise nat_eq) names name ≡ global_known_as unjoined variables parameters flags name

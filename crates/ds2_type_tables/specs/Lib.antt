@@ -1,6 +1,7 @@
 pub mod Tables
 pub mod Clashes
 pub mod Globals
-pub mod ScopeLaw
 pub mod Bys
 pub mod Callables
+pub mod Objects
+pub mod ScopeLaw

@@ -1,8 +1,12 @@
 //! The variables of a unit: declared variables, columns and `in=` flags.
-ghost use Rattle.std.specs.Prelude.{◌≡◌, List as Items, IfOk};
+ghost use Rattle.std.specs.Prelude.{◌≡◌, ℕ, List as Items, IfOk, nat_eq};
+ghost use Rattle.std.specs.Cmp.Lexicographic.{pointwise};
+ghost use Rattle.std.specs.HashMap.{get};
+ghost use Rattle.ds2_expression_walk.specs.Scopes.{known_or};
+ghost use Rattle.ds2_meaning.specs.IsTyped.{type_in};
 ghost use Rattle.ds2_names.specs.SourceUnit.{PlacedName as PlacedOf};
 ghost use Rattle.ds2_type_tables.specs.Clashes.{HasClashes};
-ghost use Rattle.ds2_type_tables.specs.Globals.{known_column, known_flag, HasGlobals, HasColumns};
+ghost use Rattle.ds2_type_tables.specs.Globals.{known_column, column_known_as, parameter_as_known, parameter_known_as, known_flag, HasGlobals, HasColumns};
 
 use crate::clashes::{Clashes, clash_table, same_refusal};
 use crate::tables::add;
@@ -58,16 +62,46 @@ fn flag(alloc: Global, name: &Name) -> Result<KnownName, OutOfMemory>
     })
 }
 
-/// The table of declared variables and columns, and behind them of `in=` flags.
+/// A parameter of a thread program.
+fn parameter(alloc: Global, v: &Variable) -> Result<KnownName, OutOfMemory>
+    ensures { IfOk result (λ k. k ≡ parameter_as_known v.now) }
+{
+    Ok(KnownName {
+        name: v.name.copy(alloc)?,
+        standing: Standing::Parameter,
+        ty: v.ty,
+        refusal: None,
+    })
+}
+
+/// The table of declared variables and columns, and behind them of the parameters of a thread program.
+fn variables_and_parameters(
+    alloc: Global,
+    variables: &[Variable],
+    unjoined: &[PlacedName],
+    parameters: &[Variable],
+) -> Result<KnownNames, OutOfMemory>
+    ensures { IfOk result (λ names. (name : Items ℕ) → get (pointwise nat_eq) names name ≡ known_or (column_known_as unjoined.now name (type_in variables.now name)) (parameter_known_as name (type_in parameters.now name))) }
+{
+    let mut names = columns(alloc, variables, unjoined)?;
+    'parameters: for v in parameters {
+        let known = parameter(alloc, v)?;
+        add(alloc, &mut names, known)?;
+    }
+    Ok(names)
+}
+
+/// The table of declared variables and columns, behind them of the parameters of a thread program, and behind these of `in=` flags.
 pub fn globals(
     alloc: Global,
     variables: &[Variable],
     unjoined: &[PlacedName],
+    parameters: &[Variable],
     flags: &[Name],
 ) -> Result<KnownNames, OutOfMemory>
-    ensures { IfOk result (λ names. HasGlobals names unjoined.now variables.now flags.now) }
+    ensures { IfOk result (λ names. HasGlobals names unjoined.now variables.now parameters.now flags.now) }
 {
-    let mut names = columns(alloc, variables, unjoined)?;
+    let mut names = variables_and_parameters(alloc, variables, unjoined, parameters)?;
     'flags: for name in flags {
         let known = flag(alloc, name)?;
         add(alloc, &mut names, known)?;

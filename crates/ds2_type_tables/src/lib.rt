@@ -10,4 +10,5 @@ pub mod globals;
 pub mod laws;
 pub mod locals;
 pub mod methods;
+pub mod objects;
 pub mod tables;

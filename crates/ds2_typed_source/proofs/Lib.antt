@@ -1,1 +1,2 @@
-pub mod OneProgram
+pub mod ProgramOutcomes
+pub mod SourceSteps

@@ -1,2 +1,4 @@
 -- What a source becomes, as the code holds it.
 pub mod SourceOutcomes
+pub mod TablesBehind
+pub mod TypedSoFar

@@ -1,19 +1,16 @@
-use Rattle.std.proofs.Common.{◌≡◌, subst, sym, ap, ◌∙◌}
-use Rattle.std.specs.Prelude.{map}
+use Rattle.std.proofs.Common.{ap, ◌∙◌}
 use Rattle.std.proofs.lemmas.Result.{IfOk-weaker}
-use Rattle.ds2_tree.specs.UnitViews.{global_tree, data_tree}
-use Rattle.ds2_names.specs.SourceUnit.{source_methods}
-use Rattle.ds2_name_uses.specs.ScopeTables.{HasMethods}
-use Rattle.ds2_mentions.specs.MentionParts.{flags_in_table}
+use Rattle.ds2_calls.specs.UnitsCalls.{calls_by_tables}
+use Rattle.ds2_names.specs.SourceUnit.{source_methods, names_of_unit}
+use Rattle.ds2_scope.specs.CodeUnits.{unit_source}
+use Rattle.ds2_mentions.specs.PartsOfMethods.{unit_parts}
 use Rattle.ds2_aliases.specs.HandedGlobals.{aliased_by_parts}
-use Rattle.ds2_mentions.specs.PartsOfMethods.{parts_of_method}
-use Rattle.ds2_aliases.proofs.AliasLemmas.{program_aliased}
+use Rattle.ds2_aliases.proofs.AliasLemmas.{unit_aliased}
 use Rattle.ds2_aliases.proofs.aliases.aliased_argument.Goals as goal
 
 pub returns : goal.returns
 returns c =
-    let u = data_tree c.args.program.now in
-    let table = c.in_ok-flags.flags in
-    let has = subst (λ gs. HasMethods table (source_methods (map global_tree gs))) c.as_slice.ensures c.in_ok-flags.ensures in
-    let parts = c.as_slice-3.ensures ∙ c.in_ok-methods.ensures ∙ ap (λ gs. map (parts_of_method (flags_in_table table)) (source_methods (map global_tree gs))) c.as_slice-2.ensures in
-    IfOk-weaker c.aliased_in_methods.result _ _ (λ place h tables known. h ∙ ap aliased_by_parts parts ∙ program_aliased tables known u c.requires table has) c.aliased_in_methods.ensures
+    let u = unit_source c.args.unit in
+    let parts = c.in_ok-parts.ensures ∙ ap (λ ns. unit_parts (calls_by_tables c.args.calls.now) (source_methods u.globals) ns) c.as_slice.ensures in
+    IfOk-weaker c.aliased_in_unit.result _ _
+    (λ place h tables known are has. h ∙ ap aliased_by_parts parts ∙ unit_aliased c.args.calls.now (names_of_unit tables known u) c.args.names.now.instances has are.instances) c.aliased_in_unit.ensures

@@ -1,4 +1,4 @@
-use Rattle.std.proofs.Common.{◌≡◌, ◌+◌, ◌++◌, drop, sym, ap, ◌∙◌, append_assoc}
+use Rattle.std.proofs.Common.{◌+◌, ◌++◌, drop, sym, ap, ◌∙◌, append_assoc}
 use Rattle.ds2_names.specs.NameRules.{from_each}
 use Rattle.ds2_scope.proofs.SetLemmas.{item_first}
 use Rattle.ds2_aliases.specs.HandedGlobals.{handings_of_method}

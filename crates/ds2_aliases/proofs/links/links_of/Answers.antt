@@ -1,4 +1,4 @@
-use Rattle.std.proofs.Common.{◌+◌, drop, bytes_eq, nat_eq, not, ap, arith}
+use Rattle.std.proofs.Common.{◌+◌, drop, nat_eq, not, ap, arith}
 use Rattle.std.proofs.lemmas.Grind.{common_steps}
 use Rattle.std.proofs.lemmas.Slice.Eq.{bytes_eq-Decides}
 use Rattle.std.specs.Cmp.Lexicographic.{pointwise}

@@ -1,8 +1,12 @@
-use Rattle.std.proofs.Common.{◌+◌, List, drop, Ok, sym, ap, ◌∙◌, subst, arith}
+use Rattle.std.proofs.Common.{ℕ, ◌+◌, ◌++◌, false, List, map, Option, Some, None, drop, sym, ap, ◌∙◌, subst, arith}
 use Rattle.ds2_base.specs.declared.place.Place.{Place}
 use Rattle.ds2_elaboration.specs.OperatorTypes.{elaborated_not}
-use Rattle.ds2_elaboration.specs.Typings.{truth_refusals}
-use Rattle.ds2_types.specs.Judgements.{Judges}
+use Rattle.ds2_elaboration.specs.Typings.{TypeRefusals, clash_unless, form_of_operands, truth_refusals}
+use Rattle.ds2_meaning.specs.TypedExpression as tree
+use Rattle.ds2_names.specs.SourceUnit.{spelled_name}
+use Rattle.ds2_types.specs.Judgements.{IsJudged, Judges}
+use Rattle.ds2_value.specs.declared.ty.Ty.TheVariants.{BigInt}
+use Rattle.ds2_value.specs.declared.value.Value.TheVariants.{Null as NullValue}
 use Rattle.std.specs.Option.{option_copied}
 use Rattle.ds2_tree.specs.ExpressionViews.{expression_tree, operands_of, arguments_of}
 use Rattle.ds2_names.specs.Uses.{first_place}
@@ -13,13 +17,16 @@ use Rattle.ds2_tree.specs.declared.expressions.Operand as code_operand
 use Rattle.ds2_tree.specs.declared.expressions.Argument as code_argument
 use Rattle.ds2_meaning.specs.declared.methods.Parameter.{Parameter}
 use Rattle.ds2_tree.proofs.Rows.{chain_is, call_is}
-use Rattle.ds2_elaboration.specs.ExpressionTypes.{is_truth_chain, elaborated, elaborated_arguments, elaborated_flag, arguments_for, elaborated_call}
+use Rattle.ds2_elaboration.specs.ExpressionTypes.{ObjectCalls, is_truth_chain, elaborated, elaborated_arguments, elaborated_member, arguments_for, result_of_method, elaborated_object_call, elaborated_call}
 use Rattle.ds2_expression_walk.specs.ArgumentTrees.{argument_in}
 use Rattle.ds2_expression_walk.specs.Passing.{AreAllPassed}
+use Rattle.ds2_expression_walk.specs.Scopes.{value_parameter, AreKnownCalls, IsInstance, IsThreadObject}
+use Rattle.ds2_expression_walk.specs.declared.scopes.KnownCalls.{KnownCalls}
+use Rattle.ds2_expression_walk.proofs.ObjectForms.{no_object, an_object, values_refused}
 use Rattle.ds2_expression_walk.proofs.ArgumentWalk.{next_argument, last_argument, none_judged, one_judged, all_judged, HasPassed, none_passed, one_passed, too_many, at_their_end}
 use Rattle.ds2_expression_walk.specs.ChainForms.{chain_behind}
 use Rattle.ds2_expression_walk.proofs.ChainWalk.{next_operand, last_operand, begun, grown_on, grown_whole, begun_truth, grown_on_truth, grown_whole_truth, chain_of_truth, chain_of_values}
-use Rattle.ds2_expression_walk.proofs.Told.{IsJudgedAs, told, told_call, no_method, a_method, method_result}
+use Rattle.ds2_expression_walk.proofs.Told.{IsJudgedAs, told, told_call, no_method, a_method, method_result, no_instance_method, an_instance_method}
 use Rattle.ds2_expression_walk.proofs.walk.+judge.Goals as goal
 
 -- ---- chains
@@ -164,7 +171,7 @@ named_call-returns t c = λ types s.
     a_method types c.args.scope.now c.args.name.now c.in_ok-spelled.spelled (option_copied c.method.result) xs c.result_of.result known s c.in_ok-spelled.ensures c.method.ensures
     (ap option_copied c.in-Some.is)
     (λ m k.
-    method_result types c.args.name.now xs known c.as_slice-parameters.result.now c.in_ok-passed-in-Some.passed c.result_of.result m k c.as_slice-parameters.ensures
+    method_result types.methods None c.args.name.now xs known c.as_slice-parameters.result.now c.in_ok-passed-in-Some.passed c.result_of.result m k c.as_slice-parameters.ensures
     (c.in_ok-passed-in-Some.ensures types s) c.result_of.ensures)
 
 pub call-returns-in-Function : goal.call-returns-in-Function
@@ -178,7 +185,74 @@ call-returns-in_ok-judged-in-Null t c = λ types s.
 
 pub call-returns-in-Method : goal.call-returns-in-Method
 call-returns-in-Method t c = λ types s.
-    told_call types (elaborated_arguments types (arguments_of c.args.arguments.now)) c.args.callee.now _ (Ok c.nameless.result) c.in-Method.is c.nameless.ensures
+    told_call types (elaborated_arguments types (arguments_of c.args.arguments.now)) c.args.callee.now _ c.object_call.result c.in-Method.is (c.object_call.ensures types s)
+
+-- ---- calls on objects
+
+pub instance_call-returns-in-None : goal.instance_call-returns-in-None
+instance_call-returns-in-None t c = λ types sources s m k.
+    let xs = elaborated_arguments types (arguments_of c.args.arguments.now) in
+    no_instance_method c.args.methods.now sources c.args.object.now c.args.name.now c.in_ok-spelled.spelled (option_copied c.method_among.result) xs c.nameless.result m c.in_ok-spelled.ensures
+    c.method_among.ensures (ap option_copied c.in-None.is) c.nameless.ensures
+
+pub instance_call-returns : goal.instance_call-returns
+instance_call-returns t c = λ types sources s m k.
+    let xs = elaborated_arguments types (arguments_of c.args.arguments.now) in
+    let known = c.in-Some.method.now in
+    an_instance_method c.args.methods.now sources c.args.object.now c.args.name.now c.in_ok-spelled.spelled (option_copied c.method_among.result) xs known c.result_of.result m c.in_ok-spelled.ensures
+    c.method_among.ensures (ap option_copied c.in-Some.is)
+    (λ own h.
+    method_result sources (Some (spelled_name c.args.object.now)) c.args.name.now xs known c.as_slice-parameters.result.now c.in_ok-passed-in-Some.passed c.result_of.result own h
+    c.as_slice-parameters.ensures (c.in_ok-passed-in-Some.ensures types s)
+    (λ a g. subst (λ (i : List ℕ). Judges (result_of_method c.args.name.now.place (Some i) known.number a known.returns) c.result_of.result) k (c.result_of.ensures a g)))
+
+pub setting-returns : goal.setting-returns
+setting-returns t c = λ types variables node s e.
+    let xs = elaborated_arguments types (arguments_of c.args.arguments.now) in
+    let place = c.args.name.now.place in
+    let passed = subst (λ (ps : List Parameter). AreAllPassed (arguments_for place ps xs) c.in_ok-passed.passed) e (c.in_ok-passed.ensures types s) in
+    subst (λ (refusals : TypeRefusals). IsJudged (form_of_operands (refusals ++ clash_unless false place) node) c.without_result.result) (sym (values_refused place variables xs))
+    (c.without_result.ensures node (arguments_for place (map value_parameter variables) xs) passed)
+
+pub known_call-returns-in-Methods : goal.known_call-returns-in-Methods
+known_call-returns-in-Methods t c = λ types calls s h.
+    let xs = elaborated_arguments types (arguments_of c.args.arguments.now) in
+    let so = subst (λ (k : KnownCalls). AreKnownCalls k calls) c.in-Methods.is h.calls in
+    subst (λ (o : ObjectCalls). Judges (elaborated_object_call c.args.object.now c.args.name.now xs (Some o)) c.instance_call.result) (sym (IsInstance.same so))
+    (c.instance_call.ensures types (IsInstance.sources so) s (IsInstance.methods so) h.name)
+
+pub known_call-returns-in-Hash : goal.known_call-returns-in-Hash
+known_call-returns-in-Hash t c = λ types calls s h.
+    let xs = elaborated_arguments types (arguments_of c.args.arguments.now) in
+    let so = subst (λ (k : KnownCalls). AreKnownCalls k calls) c.in-Hash.is h.calls in
+    subst (λ (o : ObjectCalls). Judges (elaborated_object_call c.args.object.now c.args.name.now xs (Some o)) c.hash_call.result) (sym so) (c.hash_call.ensures h.name)
+
+pub known_call-returns-in-Iterator : goal.known_call-returns-in-Iterator
+known_call-returns-in-Iterator t c = λ types calls s h.
+    let xs = elaborated_arguments types (arguments_of c.args.arguments.now) in
+    let so = subst (λ (k : KnownCalls). AreKnownCalls k calls) c.in-Iterator.is h.calls in
+    subst (λ (o : ObjectCalls). Judges (elaborated_object_call c.args.object.now c.args.name.now xs (Some o)) c.iterator_call.result) (sym so) (c.iterator_call.ensures h.name)
+
+pub known_call-returns-in-Parameters : goal.known_call-returns-in-Parameters
+known_call-returns-in-Parameters t c = λ types calls s h.
+    let xs = elaborated_arguments types (arguments_of c.args.arguments.now) in
+    let so = subst (λ (k : KnownCalls). AreKnownCalls k calls) c.in-Parameters.is h.calls in
+    subst (λ (o : ObjectCalls). Judges (elaborated_object_call c.args.object.now c.args.name.now xs (Some o)) c.setting.result) (sym (IsThreadObject.same so))
+    (c.setting.ensures types (IsThreadObject.variables so) (tree.Constant NullValue BigInt) s (c.as_slice.ensures ∙ IsThreadObject.parameters so))
+
+pub object_call-returns-in-None : goal.object_call-returns-in-None
+object_call-returns-in-None t c = λ types s.
+    let xs = elaborated_arguments types (arguments_of c.args.arguments.now) in
+    no_object types c.args.scope.now c.args.object.now c.in_ok-spelled.spelled (option_copied c.object.result)
+    (λ (o : Option ObjectCalls). IsJudged (elaborated_object_call c.args.object.now c.args.name.now xs o) c.nameless.result) s c.in_ok-spelled.ensures c.object.ensures
+    (ap option_copied c.in-None.is) c.nameless.ensures
+
+pub object_call-returns : goal.object_call-returns
+object_call-returns t c = λ types s.
+    let xs = elaborated_arguments types (arguments_of c.args.arguments.now) in
+    an_object types c.args.scope.now c.args.object.now c.in_ok-spelled.spelled (option_copied c.object.result)
+    (λ (o : Option ObjectCalls). Judges (elaborated_object_call c.args.object.now c.args.name.now xs o) c.known_call.result) c.in-Some.known.now s c.in_ok-spelled.ensures c.object.ensures
+    (ap option_copied c.in-Some.is) (λ calls h. c.known_call.ensures types calls s h)
 
 -- ---- expressions
 
@@ -193,8 +267,8 @@ judge-returns-in-Variable t c = λ types s. told types (expression_tree c.args.e
 
 pub judge-returns-in-Member : goal.judge-returns-in-Member
 judge-returns-in-Member t c = λ types s.
-    told types (expression_tree c.args.e.now) _ c.flag.result (ap expression_tree c.in-Member.is)
-    (subst (λ (member : Token). Judges (elaborated_flag types c.in-Member.object member) c.flag.result) c.deref.ensures (c.flag.ensures types s))
+    told types (expression_tree c.args.e.now) _ c.member_value.result (ap expression_tree c.in-Member.is)
+    (subst (λ (member : Token). Judges (elaborated_member types c.in-Member.object member) c.member_value.result) c.deref.ensures (c.member_value.ensures types s))
 
 pub judge-returns-in-Call : goal.judge-returns-in-Call
 judge-returns-in-Call t c = λ types s.

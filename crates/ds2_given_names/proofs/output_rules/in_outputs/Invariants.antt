@@ -4,7 +4,7 @@ use Rattle.ds2_names.specs.SourceUnit.{SourceNames}
 use Rattle.ds2_names.specs.UnitRules.{output_without_columns}
 use Rattle.ds2_scope.specs.Earliest.{earlier_of, earliest}
 use Rattle.ds2_given_names.specs.OutputParts.{AreStatementLists, clashing_in}
-use Rattle.ds2_scope.specs.ProgramNames.{NamesAre}
+use Rattle.ds2_scope.specs.UnitNames.{NamesAre}
 use Rattle.ds2_given_names.proofs.output_rules.in_outputs.Given as goal
 
 abbrev pub invariant-outputs : goal.invariant-outputs

@@ -6,9 +6,7 @@ use Rattle.ds2_given_names.proofs.OutputLemmas.{real_output}
 use Rattle.ds2_given_names.proofs.output_rules.in_real_output.Goals as goal
 
 pub returns : goal.returns
-returns c = λ all are statements.
-    let o = c.args.o.now in
-    let options = c.options_of-options.ensures in
+returns c = λ all o are statements options place.
     real_output all o c.args.statements.now c.in_ok-lists.lists c.in_ok-news.news _ _ _ _
     statements
     (subst (λ os. AreOptionLists c.in_ok-lists.lists os) options c.in_ok-lists.ensures)
@@ -16,4 +14,4 @@ returns c = λ all are statements.
     (c.as_slice.ensures ∙ are.variables)
     are.is_open
     (c.in_ok-clash.ensures ∙ ap (λ cs. earliest (clashes cs)) (c.as_slice-2.ensures ∙ c.in_ok-columns.ensures))
-    (c.unless_empty-empty.ensures ∙ ap (λ cs. earliest (place_unless (c.args.names.now.is_open || not (nat_eq (length cs) 0)) o.table.place)) (c.as_slice-3.ensures ∙ c.in_ok-columns.ensures))
+    (c.unless_empty-empty.ensures ∙ (λ i. earliest (place_unless (c.args.names.now.is_open || not (nat_eq (length ((c.as_slice-3.ensures ∙ c.in_ok-columns.ensures) i)) 0)) (place i))))

@@ -2,11 +2,11 @@ use Rattle.std.proofs.Common.{◌≡◌, ◌++◌, drop}
 use Rattle.std.specs.Prelude.{map}
 use Rattle.ds2_tree.specs.UnitViews.{global_tree}
 use Rattle.ds2_names.specs.SourceUnit.{source_methods}
-use Rattle.ds2_mentions.specs.MentionParts.{flags_in_table}
+use Rattle.ds2_mentions.specs.MentionParts.{flags_by_calls}
 use Rattle.ds2_mentions.specs.PartsOfMethods.{parts_of_method}
 use Rattle.ds2_mentions.proofs.parts.parts_of_methods.Given as goal
 
 abbrev pub invariant-globals : goal.invariant-globals
 invariant-globals l =
-    l.all ++ map (parts_of_method (flags_in_table l.methods)) (source_methods (map global_tree (drop l.global-index l.globals)))
-    ≡ map (parts_of_method (flags_in_table l.methods)) (source_methods (map global_tree l.globals))
+    l.all ++ map (parts_of_method (flags_by_calls l.calls)) (source_methods (map global_tree (drop l.global-index l.globals)))
+    ≡ map (parts_of_method (flags_by_calls l.calls)) (source_methods (map global_tree l.globals))

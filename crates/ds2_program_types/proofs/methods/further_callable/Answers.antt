@@ -7,14 +7,14 @@ use Rattle.ds2_program_types.specs.TypedMethodLists.{AreMethodsOf}
 use Rattle.ds2_program_types.proofs.methods.further_callable.Goals as goal
 
 pub returns-in-Err : goal.returns-in-Err
-returns-in-Err c = λ tables u methods own xs ys h s k.
-    stands_of (AreBoth (AreMethodsOf tables u methods) (λ (t : typed.Method). typed_method t ≡ method_tree_of tables u own)) _ c.of_both.result (Err c.in-Err.refusal)
-    (both_stand (AreMethodsOf tables u methods) (λ (t : typed.Method). typed_method t ≡ method_tree_of tables u own) xs ys c.args.so_far c.args.m c.of_both.result h k c.of_both.ensures)
+returns-in-Err c = λ tables before u methods own xs ys h s k.
+    stands_of (AreBoth (AreMethodsOf tables before u methods) (λ (t : typed.Method). typed_method t ≡ method_tree_of tables before u own)) _ c.of_both.result (Err c.in-Err.refusal)
+    (both_stand (AreMethodsOf tables before u methods) (λ (t : typed.Method). typed_method t ≡ method_tree_of tables before u own) xs ys c.args.so_far c.args.m c.of_both.result h k c.of_both.ensures)
     c.in-Err.is
 
 pub returns-in_ok-all-in-Ok : goal.returns-in_ok-all-in-Ok
-returns-in_ok-all-in-Ok c = λ tables u methods own xs ys h s k.
-    let so = stands_of (AreBoth (AreMethodsOf tables u methods) (λ (t : typed.Method). typed_method t ≡ method_tree_of tables u own)) _ c.of_both.result (Ok c.in-Ok.parts)
-    (both_stand (AreMethodsOf tables u methods) (λ (t : typed.Method). typed_method t ≡ method_tree_of tables u own) xs ys c.args.so_far c.args.m c.of_both.result h k c.of_both.ensures)
+returns-in_ok-all-in-Ok c = λ tables before u methods own xs ys h s k.
+    let so = stands_of (AreBoth (AreMethodsOf tables before u methods) (λ (t : typed.Method). typed_method t ≡ method_tree_of tables before u own)) _ c.of_both.result (Ok c.in-Ok.parts)
+    (both_stand (AreMethodsOf tables before u methods) (λ (t : typed.Method). typed_method t ≡ method_tree_of tables before u own) xs ys c.args.so_far c.args.m c.of_both.result h k c.of_both.ensures)
     c.in-Ok.is in
-    (so.0, c.in_ok-all-in-Ok.ensures tables u methods own so.1.0 s so.1.1)
+    (so.0, c.in_ok-all-in-Ok.ensures tables before u methods own so.1.0 s so.1.1)

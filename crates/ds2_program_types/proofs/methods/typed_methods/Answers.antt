@@ -4,13 +4,13 @@ use Rattle.ds2_program_types.proofs.MethodLists.{methods_among, rules_among, one
 use Rattle.ds2_program_types.proofs.methods.typed_methods.Goals as goal
 
 pub globals-init : goal.globals-init
-globals-init c = λ tables u t. (refl, c.no_methods.ensures tables u)
+globals-init c = λ tables before u t. (refl, c.no_methods.ensures tables before u)
 
 pub globals-preserved : goal.globals-preserved
-globals-preserved c = λ tables u t.
-    let before = take c.globals.global-index c.args.globals.now in
-    one_more_typed global_tree tables u c.args.globals.now c.globals.global-index c.global-item.result c.in_ok-all.all (omega arith) c.global-item.is
-    (c.in_ok-all.ensures tables u (methods_among global_tree tables u before) (rules_among global_tree tables u before) t (c.globals.invariant tables u t))
+globals-preserved c = λ tables before u t.
+    let passed = take c.globals.global-index c.args.globals.now in
+    one_more_typed global_tree tables before u c.args.globals.now c.globals.global-index c.global-item.result c.in_ok-all.all (omega arith) c.global-item.is
+    (c.in_ok-all.ensures tables before u (methods_among global_tree tables before u passed) (rules_among global_tree tables before u passed) t (c.globals.invariant tables before u t))
 
 pub returns : goal.returns
-returns c = λ tables u t. all_typed global_tree tables u c.args.globals.now c.globals.global-index c.globals.all (omega arith) (c.globals.invariant tables u t)
+returns c = λ tables before u t. all_typed global_tree tables before u c.args.globals.now c.globals.global-index c.globals.all (omega arith) (c.globals.invariant tables before u t)

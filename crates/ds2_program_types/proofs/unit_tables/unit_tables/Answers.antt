@@ -8,10 +8,12 @@ use Rattle.ds2_program_types.specs.MadeOutputs.{names_made, HasNumbers}
 use Rattle.ds2_program_types.proofs.unit_tables.unit_tables.Goals as goal
 
 pub returns : goal.returns
-returns c = record {
-  globals = c.in_ok-globals.ensures;
-  bys = subst (λ l. HasBys c.in_ok-bys.bys (names_alone l)) c.requires.names.bys c.in_ok-bys.ensures;
+returns c = λ before n k e. record {
+  globals = c.in_ok-globals.ensures before n k e;
+  bys = subst (λ l. HasBys c.in_ok-bys.bys (names_alone l)) n.bys c.in_ok-bys.ensures;
   methods = subst (λ l. HasCallables c.in_ok-methods.methods (callable_methods (source_methods (map global_tree l)))) c.as_slice.ensures c.in_ok-methods.ensures;
   outputs = subst (λ l. HasNumbers c.in_ok-made.made.numbers (names_made l)) c.as_slice-2.ensures c.in_ok-made.ensures.numbers;
   count = c.in_ok-made.ensures.count ∙ ap (λ l. length (names_made l)) c.as_slice-2.ensures;
+  objects = c.no_objects.ensures;
+  instances = e;
 }

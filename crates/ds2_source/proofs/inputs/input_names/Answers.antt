@@ -1,7 +1,7 @@
 use Rattle.std.proofs.Common.{List, map, sym, ap, subst, ◌∙◌}
 use Rattle.ds2_tree.specs.UnitViews.{part_tree}
 use Rattle.ds2_tree.specs.declared.units.SourcePart.{SourcePart}
-use Rattle.ds2_elaboration.specs.Elaboration.{IsDataSource}
+use Rattle.ds2_source.specs.BuiltSources.{IsDataSource}
 use Rattle.ds2_names.specs.SourceUnit.{PlacedName}
 use Rattle.ds2_source.specs.Answers.{AnswersWith}
 use Rattle.ds2_source.specs.InputTables.{source_inputs, names_or_refusal}

@@ -5,7 +5,7 @@ use Rattle.std.specs.Cmp.Lexicographic.{pointwise}
 use Rattle.std.specs.HashSet.{contains}
 use Rattle.ds2_tree.specs.UnitViews.{part_tree}
 use Rattle.ds2_tree.specs.declared.units.SourcePart.{SourcePart}
-use Rattle.ds2_elaboration.specs.Elaboration.{IsDataSource}
+use Rattle.ds2_source.specs.BuiltSources.{IsDataSource}
 use Rattle.ds2_scope.proofs.SetLemmas.{item_first}
 use Rattle.ds2_source.proofs.StoreTables.{stored_behind, none_known, one_part}
 use Rattle.ds2_source.proofs.inputs.source_inputs.Goals as goal

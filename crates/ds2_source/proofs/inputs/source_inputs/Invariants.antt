@@ -3,7 +3,7 @@ use Rattle.std.specs.Prelude.{map}
 use Rattle.std.specs.Cmp.Lexicographic.{pointwise}
 use Rattle.std.specs.HashSet.{contains}
 use Rattle.ds2_tree.specs.UnitViews.{part_tree}
-use Rattle.ds2_elaboration.specs.Elaboration.{IsDataSource}
+use Rattle.ds2_source.specs.BuiltSources.{IsDataSource}
 use Rattle.ds2_source.specs.InputTables.{source_inputs}
 use Rattle.ds2_source.proofs.StoreTables.{stored_behind}
 use Rattle.ds2_source.proofs.inputs.source_inputs.Given as goal

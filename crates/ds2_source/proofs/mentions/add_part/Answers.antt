@@ -3,7 +3,7 @@ use Rattle.std.specs.Cmp.Lexicographic.{pointwise}
 use Rattle.std.specs.HashSet.{contains}
 use Rattle.ds2_tree.specs.Units.{SourcePart}
 use Rattle.ds2_tree.specs.UnitViews.{part_tree}
-use Rattle.ds2_elaboration.specs.Elaboration.{IsDataPart}
+use Rattle.ds2_source.specs.BuiltSources.{IsDataPart}
 use Rattle.ds2_source.specs.InputTables.{first_not_known, tables_in_part, known_behind}
 use Rattle.ds2_source.proofs.mentions.add_part.Goals as goal
 

@@ -1,6 +1,5 @@
 use Rattle.ds2_tree.specs.ExpressionViews.{arguments_of}
 use Rattle.ds2_elaboration.specs.ExpressionTypes.{elaborated_arguments}
-use Rattle.ds2_elaboration.specs.Typings.{elaborated_nameless}
 use Rattle.ds2_statement_types.proofs.CallForms.{told_call}
 use Rattle.ds2_statement_types.proofs.calls.call.Goals as goal
 
@@ -14,6 +13,4 @@ returns-in-Null c = λ types s.
 
 pub returns-in-Method : goal.returns-in-Method
 returns-in-Method c = λ types s.
-    let e = elaborated_nameless c.in-Method.object.place in
-    told_call types (elaborated_arguments types (arguments_of c.args.arguments.now)) c.args.callee.now _ c.evaluated.result c.in-Method.is
-    (c.evaluated.ensures e.refusals e.node c.nameless.ensures.outcome)
+    told_call types (elaborated_arguments types (arguments_of c.args.arguments.now)) c.args.callee.now _ c.object_call.result c.in-Method.is (c.object_call.ensures types s)

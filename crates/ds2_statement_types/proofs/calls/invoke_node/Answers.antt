@@ -6,4 +6,4 @@ use Rattle.ds2_statement_types.proofs.calls.invoke_node.Goals as goal
 
 pub returns : goal.returns
 returns c =
-    invoke_typed c.args.place c.unit_call-call.result ∙ ap (λ (k : CallTree). Invoke c.args.place k.instance k.method k.arguments) c.unit_call-call.ensures
+    invoke_typed c.args.place c.method_call-call.result ∙ ap (λ (k : CallTree). Invoke c.args.place k.instance k.method k.arguments) c.method_call-call.ensures

@@ -5,7 +5,7 @@ use Rattle.ds2_meaning.specs.TypedStatement as t
 use Rattle.ds2_meaning.specs.View.{item_tree}
 use Rattle.ds2_meaning.specs.declared.statements.PutItem.{PutItem}
 use Rattle.ds2_meaning.specs.declared.statements.PutItem.TheVariants.{Constant}
-use Rattle.ds2_elaboration.specs.ExpressionTypes.{elaborated_variable, elaborated_flag}
+use Rattle.ds2_elaboration.specs.ExpressionTypes.{elaborated_variable, elaborated_member}
 use Rattle.ds2_types.specs.Judgements.{IsOutcome}
 use Rattle.ds2_statement_types.proofs.PutForms.{told_item}
 use Rattle.ds2_statement_types.proofs.puts.item.Goals as goal
@@ -31,5 +31,5 @@ returns-in_ok-x-in-Some c = λ types s.
 
 pub returns-in_ok-x-in-Member : goal.returns-in_ok-x-in-Member
 returns-in_ok-x-in-Member c = λ types s.
-    let e = elaborated_flag types c.in-Member.object c.in-Member.member in
+    let e = elaborated_member types c.in-Member.object c.in-Member.member in
     told_item types c.args.item.now _ c.shown-in-Member.result c.in-Member.is (c.shown-in-Member.ensures e.refusals e.node (c.in_ok-x-in-Member.ensures types s).outcome)

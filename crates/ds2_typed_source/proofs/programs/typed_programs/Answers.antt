@@ -1,53 +1,58 @@
-use Rattle.std.proofs.Common.{◌≡◌, List, [], ◌∷◌, Some, None, Result, Ok, Err, sym, ap, subst, ◌∙◌, arith}
-use Rattle.std.proofs.lemmas.Grind.{common_steps}
-use Rattle.std.specs.Prelude.{map}
-use Rattle.ds2_base.specs.declared.stop.Stop.{Stop}
-use Rattle.ds2_tree.specs.UnitViews.{data_tree, source_tree}
-use Rattle.ds2_meaning.specs.View.{typed_data_program}
-use Rattle.ds2_meaning.specs.declared.units.TypedData.{TypedData}
-use Rattle.ds2_names.specs.SourceLimits.{before_all}
-use Rattle.ds2_names.specs.SourceUnit.{TableColumns, columns_stored}
-use Rattle.ds2_elaboration.specs.Elaboration.{elaborated_program}
-use Rattle.ds2_source.specs.SourcePrograms.{first_program}
-use Rattle.ds2_source.specs.declared.kinds.SourceRefusal.{SourceRefusal}
-use Rattle.ds2_source.proofs.BuiltLemmas.{found_declares_none}
-use Rattle.ds2_typed_source.specs.SourceOutcomes.{IsOutcomeOfProgram}
-use Rattle.ds2_typed_source.proofs.OneProgram.{outcome_none, outcome_alone, outcome_stopped}
+use Rattle.std.proofs.Common.{◌∙◌, List, map, sym, subst}
+use Rattle.std.specs.List.{AllByRecursion}
+use Rattle.ds2_tree.specs.Units as tree
+use Rattle.ds2_tree.specs.UnitViews.{part_tree, source_tree}
+use Rattle.ds2_tree.specs.declared.units.SourcePart.{SourcePart}
+use Rattle.ds2_names.specs.SourceUnit.{columns_stored}
+use Rattle.ds2_typed_source.specs.TypedSoFar.{BecomesWithRest, DataStands}
+use Rattle.ds2_typed_source.proofs.SourceSteps.{all_typed, no_parts_left, parts_left, source_begins, source_begins_behind, source_ended, text_stands}
 use Rattle.ds2_typed_source.proofs.programs.typed_programs.Goals as goal
 
-pub typed_program-requires : goal.typed_program-requires
-typed_program-requires c =
-    let u = data_tree c.in-Some.program.now in
-    let found : Some u ≡ first_program (source_tree c.args.source.now) = grind (arith, common_steps) in
-    found_declares_none (source_tree c.args.source.now) c.requires u found
+pub parts-init : goal.parts-init
+parts-init c =
+    let stored = c.args.schemas.now.tables in
+    let parts = source_tree c.args.source.now in
+    let t = c.in_ok-so_far.so_far in
+    let kept = c.in_ok-so_far.ensures in
+    let tables_are = kept.tables ∙ c.as_slice.ensures in
+    record {
+      leads =
+          subst (λ (ps : List SourcePart). BecomesWithRest (columns_stored stored) parts t (map part_tree ps)) (sym c.as_slice-rest.ensures)
+          (source_begins stored parts t kept.none kept.made tables_are kept.before);
+      stands =
+          subst (λ (ps : List SourcePart). AllByRecursion DataStands (map part_tree ps)) (sym c.as_slice-rest.ensures)
+          (text_stands c.tokens_stand_in_order.ensures parts c.requires.text c.requires.domain);
+      behind = source_begins_behind stored parts t kept.made tables_are kept.before c.requires.schemas;
+    }
 
-pub returns-in-None : goal.returns-in-None
-returns-in-None c =
-    let found : None ≡ first_program (source_tree c.args.source.now) = grind (arith, common_steps) in
-    outcome_none (columns_stored c.args.schemas.now.tables) (source_tree c.args.source.now) c.requires found ∙ ap (λ (l : List TypedData). Ok (map typed_data_program l)) (sym c.new.ensures)
+pub with_part-requires-clause-stands : goal.with_part-requires-clause-stands
+with_part-requires-clause-stands c =
+    (subst (λ (ps : List tree.SourcePart). AllByRecursion DataStands ps) (parts_left c.parts.rest.now c.part-item.result c.in-len1-up.len_at_least c.part-item.is) c.parts.invariant.stands).0
 
-pub returns-in_ok-alone-in-Ok : goal.returns-in_ok-alone-in-Ok
-returns-in_ok-alone-in-Ok c =
+pub parts-preserved : goal.parts-preserved
+parts-preserved c =
     let tables = columns_stored c.args.schemas.now.tables in
     let parts = source_tree c.args.source.now in
-    let u = data_tree c.in-Some.program.now in
-    let found : Some u ≡ first_program parts = grind (arith, common_steps) in
-    let kept : columns_stored c.as_slice-in-Some.result.now ≡ tables = ap columns_stored c.as_slice-in-Some.ensures in
-    let is =
-    subst (λ (o : Result TypedData (Stop SourceRefusal)). IsOutcomeOfProgram (elaborated_program (columns_stored c.as_slice-in-Some.result.now) (before_all parts) u) o) c.in-Ok.is
-    (c.typed_program.ensures parts) in
-    outcome_alone tables parts c.requires u found c.in-Ok.typed (subst (λ (t : TableColumns). IsOutcomeOfProgram (elaborated_program t (before_all parts) u) (Ok c.in-Ok.typed)) kept is)
-    ∙ ap (λ (l : List TypedData). Ok (map typed_data_program l)) (sym c.in_ok-alone-in-Ok.ensures)
+    let left = parts_left c.parts.rest.now c.part-item.result c.in-len1-up.len_at_least c.part-item.is in
+    record {
+      leads =
+          c.in_ok-so_far-2.ensures.leads tables parts _
+          (subst (λ (ps : List tree.SourcePart). BecomesWithRest tables parts c.parts.so_far ps) left c.parts.invariant.leads);
+      stands = (subst (λ (ps : List tree.SourcePart). AllByRecursion DataStands ps) left c.parts.invariant.stands).1;
+      behind = c.in_ok-so_far-2.ensures.behind;
+    }
 
-pub returns-in-Err : goal.returns-in-Err
-returns-in-Err c =
+pub returns-in_err-so_far-2 : goal.returns-in_err-so_far-2
+returns-in_err-so_far-2 c =
     let tables = columns_stored c.args.schemas.now.tables in
     let parts = source_tree c.args.source.now in
-    let u = data_tree c.in-Some.program.now in
-    let found : Some u ≡ first_program parts = grind (arith, common_steps) in
-    let kept : columns_stored c.as_slice-in-Some.result.now ≡ tables = ap columns_stored c.as_slice-in-Some.ensures in
-    let is =
-    subst (λ (o : Result TypedData (Stop SourceRefusal)). IsOutcomeOfProgram (elaborated_program (columns_stored c.as_slice-in-Some.result.now) (before_all parts) u) o) c.in-Err.is
-    (c.typed_program.ensures parts) in
-    outcome_stopped tables parts c.requires u found c.in-Err.stop
-    (subst (λ (t : TableColumns). IsOutcomeOfProgram (elaborated_program t (before_all parts) u) (Err c.in-Err.stop)) kept is)
+    let left = parts_left c.parts.rest.now c.part-item.result c.in-len1-up.len_at_least c.part-item.is in
+    source_ended tables parts c.in_err-so_far-2.field-0.0 c.from_residual-in_err-so_far-2.result c.from_residual-in_err-so_far-2.ensures.1
+    (c.in_err-so_far-2.ensures.leads tables parts _ (subst (λ (ps : List tree.SourcePart). BecomesWithRest tables parts c.parts.so_far ps) left c.parts.invariant.leads))
+
+pub returns : goal.returns
+returns c =
+    let tables = columns_stored c.args.schemas.now.tables in
+    let parts = source_tree c.args.source.now in
+    all_typed tables parts c.parts.so_far
+    (subst (λ (ps : List tree.SourcePart). BecomesWithRest tables parts c.parts.so_far ps) (no_parts_left c.parts.rest.now c.in_default.len_below) c.parts.invariant.leads)

@@ -1,0 +1,129 @@
+-- What `run`, `compile` and `check` answer to a source.
+use Rattle.std.specs.Prelude.{ℕ, ◌-◌, Bool, true, false, List, [], ◌∷◌, ◌++◌, codes, flat_map, length, map, take, Option, Some, None, Result, Ok, Err}
+use Rattle.ds2_base.specs.Bytes.{Bytes}
+use Rattle.ds2_base.specs.Place.{start_place}
+use Rattle.ds2_base.specs.Text.{text_of}
+use Rattle.ds2_table.specs.OneThread.{Answer}
+use Rattle.ds2_outside.specs.Files.{Files}
+use Rattle.ds2_source.specs.Units.{SourcePart}
+use Rattle.ds2_source.specs.ProgramMeaning.{program_answer, tables_made}
+use Rattle.ds2_source.specs.ProgramTree.{ProgramTree, reader_of}
+use Rattle.ds2_meaning.specs.declared.globals.OutputTable.{OutputTable}
+use Rattle.ds2_source.specs.Elaboration.{ProgramRefusal, elaborated_source}
+use Rattle.ds2_source.specs.AnswersOfTexts.{SourcesRead}
+use Rattle.ds2_source.specs.BuiltSources.{is_built_source}
+use Rattle.ds2_source.specs.InputTables.{source_inputs, names_or_refusal}
+use Rattle.ds2_source.specs.SourceAnswer.{SourceAnswer}
+use Rattle.ds2_source.specs.declared.kinds.SourceRefusal.{SourceRefusal}
+use Rattle.ds2_source.specs.SourceRefusals.{source_refusal_of}
+use Rattle.ds2_code.specs.declared.parts.StagedParts.{StagedParts}
+use Rattle.ds2_object.specs.ObjectSpelling.{object_spelled, written_object}
+use Rattle.ds2_answer.specs.declared.kinds.FileKind.TheVariants as file
+use Rattle.ds2_answer.specs.declared.kinds.SourceReason.TheVariants.{Rule, NotBuilt}
+use Rattle.ds2_answer.specs.declared.kinds.TheConstants.{SOURCE_LIMIT}
+use Rattle.ds2_answer.specs.declared.status.Status.TheVariants as ended
+use Rattle.ds2_answer.specs.HeldTables.{HeldTables, NamedTable, columns_held, held_from_store, made_by_name, rows_held}
+use Rattle.ds2_answer.specs.Lines.{object_line, source_line}
+use Rattle.ds2_answer.specs.ObjectPlans.{answer_over}
+use Rattle.ds2_answer.specs.Plan.{Plan, Stops, Logs, WritesFile}
+use Rattle.ds2_answer.specs.ProgramPlans.{ProgramLeft, ProgramRun, programs_plan}
+use Rattle.ds2_answer.specs.TablePlans.{OutputNamed, Presence, none_made, outputs_then, read_file, read_tables, refuse_file}
+
+-- ---- the object of a source
+
+-- the file of the object of a source: its name with the ending `.dso` in the place of `.ds2`
+abbrev pub object_file : List ℕ → List ℕ
+object_file source = take (length source - 4) source ++ codes ".dso"
+
+-- the bytes of an object
+abbrev pub object_bytes : List StagedParts → Bytes
+object_bytes object = object_spelled (written_object object)
+
+-- the object is written, over what stood there
+abbrev pub store_object : List ℕ → List StagedParts → Plan → Plan
+store_object source object rest = WritesFile (object_file source) (object_bytes object) rest
+
+-- ---- programs of a source
+
+-- how many instructions the first of these codes executes over tables that are held
+abbrev pub instructions_of_first : List StagedParts → ℕ → HeldTables → ℕ
+instructions_of_first [] budget held = 0
+instructions_of_first (code ∷ codes) budget held = Answer.executed (answer_over code budget held)
+
+-- what a program means over tables that are held; its instructions are those of its stored code
+abbrev pub left_by_program : ProgramTree → (instructions : ℕ) → Answer → ProgramLeft
+left_by_program p instructions answer =
+    record { lines = answer.lines; ending = answer.ending; instructions = instructions; tables = map made_by_name (tables_made 0 (reader_of p).outputs answer.rows) }
+
+-- a program of a source over tables that are held, whose stored code is the first of these
+abbrev pub run_of_program : ℕ → ProgramTree → List StagedParts → ProgramRun
+run_of_program budget p codes = λ held.
+    left_by_program p (instructions_of_first codes budget held) (program_answer p [] (rows_held held) budget 0)
+
+-- codes behind the first one
+abbrev pub other_codes : List StagedParts → List StagedParts
+other_codes [] = []
+other_codes (code ∷ codes) = codes
+
+-- the programs of a source, each with its stored code
+abbrev pub runs_of_programs : ℕ → List ProgramTree → List StagedParts → List ProgramRun
+runs_of_programs budget [] codes = []
+runs_of_programs budget (p ∷ programs) codes = run_of_program budget p codes ∷ runs_of_programs budget programs (other_codes codes)
+
+-- the outputs of a program of a source
+abbrev pub outputs_of_program : ProgramTree → List OutputNamed
+outputs_of_program p = map (λ (o : OutputTable). record { name = o.name; overwrites = o.overwrites }) (reader_of p).outputs
+
+-- ---- what a command does with the programs of a source
+
+-- `run`: unless an output is there already, the object is written, and the programs run over the tables that were read
+abbrev pub run_programs_of : List ℕ → ℕ → List StagedParts → Presence → HeldTables → List ProgramTree → Plan
+run_programs_of source budget object there held programs =
+    outputs_then none_made there (flat_map outputs_of_program programs) (store_object source object (programs_plan (runs_of_programs budget programs object) held))
+
+-- `compile`: the object is written, and its bytes are counted in the log
+abbrev pub compile_programs_of : List ℕ → List StagedParts → Plan
+compile_programs_of source object = store_object source object (Logs (object_line (object_file source) (length (object_bytes object))) (Stops ended.Done))
+
+-- ---- sources
+
+-- a source is refused
+abbrev pub refuse_source : SourceRefusal → Plan
+refuse_source refusal = Logs (source_line (Rule refusal.kind) refusal.place) (Stops ended.Source)
+
+-- a source is refused for its names or types, or the command goes on with its programs
+abbrev pub with_typed_programs : Result (List ProgramTree) ProgramRefusal → (List ProgramTree → Plan) → Plan
+with_typed_programs (Err refusal) go = refuse_source (source_refusal_of refusal)
+with_typed_programs (Ok programs) go = go programs
+
+-- what a command does with the tables and the programs of a source
+abbrev pub SourceCommand : Type 0
+SourceCommand = HeldTables → List ProgramTree → Plan
+
+-- a source over the tables that it reads
+abbrev pub with_tables : List SourcePart → SourceCommand → List NamedTable → Plan
+with_tables parts go read = with_typed_programs (elaborated_source (columns_held (held_from_store read)) parts) (go (held_from_store read))
+
+-- a source with too many tables is refused, or its tables are read
+abbrev pub with_inputs : Result (List (List ℕ)) SourceRefusal → List SourcePart → Files → SourceCommand → Plan
+with_inputs (Err refusal) parts files go = refuse_source refusal
+with_inputs (Ok names) parts files go = read_tables [] names [] files (with_tables parts go)
+
+-- a source of a form that isn't built is refused
+abbrev pub with_built : Bool → List SourcePart → Files → SourceCommand → Plan
+with_built false parts files go = Logs (source_line NotBuilt start_place) (Stops ended.Source)
+with_built true parts files go = with_inputs (names_or_refusal (source_inputs parts)) parts files go
+
+-- a text that is no source is refused, or its tree is looked at
+abbrev pub with_tree : SourceAnswer → Files → SourceCommand → Plan
+with_tree (Err refusal) files go = refuse_source refusal
+with_tree (Ok parts) files go = with_built (is_built_source parts) parts files go
+
+-- a file of a source that is no text is refused, or its text is read
+abbrev pub with_text : SourcesRead → List ℕ → Option Bytes → Files → SourceCommand → Plan
+with_text sources name None files go = refuse_file name file.NotUtf8
+with_text sources name (Some text) files go = with_tree (sources.answer_for text) files go
+
+-- the file of a source is read, and the command goes on with its tables and programs
+abbrev pub source_plan : SourcesRead → List ℕ → Files → SourceCommand → Plan
+source_plan sources name files go = read_file SOURCE_LIMIT name files (λ bytes. with_text sources name (text_of bytes) files go)

@@ -1,0 +1,4 @@
+mod MethodLemmas
+pub mod SortLemmas
+mod KnownLemmas
+pub mod CallLemmas

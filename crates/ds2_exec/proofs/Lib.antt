@@ -1,0 +1,10 @@
+pub mod Leading
+pub mod FileSteps
+pub mod TableSteps
+pub mod OutputSteps
+pub mod ReferenceSteps
+pub mod CodeSteps
+pub mod SinkSteps
+pub mod ProgramSteps
+pub mod RunSteps
+pub mod ExecSteps

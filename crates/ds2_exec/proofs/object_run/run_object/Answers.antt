@@ -1,0 +1,62 @@
+use Rattle.std.proofs.Common.{List, refl, sym, subst, ◌≡◌, ◌∙◌, true}
+use Rattle.std.specs.List.{AllByRecursion}
+use Rattle.ds2_code.specs.declared.parts.StagedParts.{StagedParts}
+use Rattle.ds2_object.specs.ObjectSpelling.{object_linked}
+use Rattle.ds2_exec.specs.CodeRuns.{StandsAlone}
+use Rattle.ds2_exec.specs.TableReads.{AreTablesRead}
+use Rattle.ds2_exec.proofs.CodeSteps.{built_alone, object_links}
+use Rattle.ds2_exec.proofs.ExecSteps.{inputs_are, inputs_differ, object_is, object_then, object_unnamed, object_unread, outputs_not_there, outputs_there}
+use Rattle.ds2_exec.proofs.object_run.run_object.Goals as goal
+
+pub read_tables-requires : goal.read_tables-requires
+read_tables-requires g c = record {
+  apart = inputs_differ c.as_slice-codes.result.now c.as_slice.result.now
+      (c.as_slice.ensures ∙ inputs_are c.as_slice-codes.result.now c.as_slice-references.result.now c.in_ok-names.names (c.as_slice-references.ensures ∙ c.in_ok-named.ensures) c.in_ok-names.ensures);
+}
+
+pub run_programs-requires-clause-alone : goal.run_programs-requires-clause-alone
+run_programs-requires-clause-alone g c = subst (λ (cs : List StagedParts). AllByRecursion StandsAlone cs) (sym (c.as_slice-codes.ensures ∙ c.programs.ensures.value)) (built_alone c.args.object.now c.requires.built)
+
+pub run_programs-requires-clause-linked : goal.run_programs-requires-clause-linked
+run_programs-requires-clause-linked g c =
+    object_links c.as_slice-codes.result.now c.as_slice-references.result.now c.as_slice.result.now c.as_slice-2.result.now
+    (subst (λ (cs : List StagedParts). object_linked cs ≡ true) (sym (c.as_slice-codes.ensures ∙ c.programs.ensures.value)) c.programs.ensures.linked)
+    (c.as_slice-references.ensures ∙ c.in_ok-named.ensures)
+    (c.as_slice.ensures ∙ inputs_are c.as_slice-codes.result.now c.as_slice-references.result.now c.in_ok-names.names (c.as_slice-references.ensures ∙ c.in_ok-named.ensures) c.in_ok-names.ensures)
+    (subst (λ read. AreTablesRead c.as_slice-references.result.now c.as_slice.result.now read) (sym c.as_slice-2.ensures) c.in_ok-stored.ensures.kept.0)
+
+pub returns-in_err-named-clause-does : goal.returns-in_err-named-clause-does
+returns-in_err-named-clause-does g c =
+    object_unnamed c.args.object.now c.args.budget c.args.log.now c.args.log.now (g.S.Store.files c.args.store.now) (g.S.Store.files c.args.store.now) c.from_residual.result c.from_residual.ensures.1 refl
+
+pub returns-in_err-names-clause-does : goal.returns-in_err-names-clause-does
+returns-in_err-names-clause-does g c =
+    object_unnamed c.args.object.now c.args.budget c.args.log.now c.args.log.now (g.S.Store.files c.args.store.now) (g.S.Store.files c.args.store.now) c.from_residual-in_err-names.result c.from_residual-in_err-names.ensures.1 refl
+
+pub returns-in_err-stored-clause-does : goal.returns-in_err-stored-clause-does
+returns-in_err-stored-clause-does g c =
+    object_is c.as_slice-codes.result.now c.args.object.now c.args.budget (g.S.Store.files c.args.store.now) c.args.log.now (g.S.Store.files c.read_tables.new.store) c.read_tables.new.log c.from_residual-in_err-stored.result (c.as_slice-codes.ensures ∙ c.programs.ensures.value)
+    (object_unread c.as_slice-codes.result.now c.args.budget c.as_slice-references.result.now c.as_slice.result.now c.args.log.now c.read_tables.new.log (g.S.Store.files c.args.store.now) (g.S.Store.files c.read_tables.new.store) c.in_err-stored.field-0.0
+    c.from_residual-in_err-stored.result (c.as_slice-references.ensures ∙ c.in_ok-named.ensures)
+    (c.as_slice.ensures ∙ inputs_are c.as_slice-codes.result.now c.as_slice-references.result.now c.in_ok-names.names (c.as_slice-references.ensures ∙ c.in_ok-named.ensures) c.in_ok-names.ensures)
+    c.from_residual-in_err-stored.ensures.1 c.in_err-stored.ensures.loads)
+
+pub returns-in_err-ask_outputs-clause-does : goal.returns-in_err-ask_outputs-clause-does
+returns-in_err-ask_outputs-clause-does g c =
+    object_is c.as_slice-codes.result.now c.args.object.now c.args.budget (g.S.Store.files c.args.store.now) c.args.log.now (g.S.Store.files c.ask_outputs.new.store) c.ask_outputs.new.log c.from_residual-in_err-ask_outputs.result (c.as_slice-codes.ensures ∙ c.programs.ensures.value)
+    (object_then c.as_slice-codes.result.now c.args.budget c.as_slice-references.result.now c.as_slice.result.now c.in_ok-stored.stored c.args.log.now c.read_tables.new.log c.ask_outputs.new.log (g.S.Store.files c.args.store.now) (g.S.Store.files c.read_tables.new.store)
+    (g.S.Store.files c.ask_outputs.new.store) c.from_residual-in_err-ask_outputs.result (c.as_slice-references.ensures ∙ c.in_ok-named.ensures)
+    (c.as_slice.ensures ∙ inputs_are c.as_slice-codes.result.now c.as_slice-references.result.now c.in_ok-names.names (c.as_slice-references.ensures ∙ c.in_ok-named.ensures) c.in_ok-names.ensures)
+    c.in_ok-stored.ensures.loads
+    (outputs_there c.as_slice-codes.result.now c.args.budget c.in_ok-stored.stored c.read_tables.new.log c.ask_outputs.new.log (g.S.Store.files c.read_tables.new.store) (g.S.Store.files c.ask_outputs.new.store) c.in_err-ask_outputs.field-0.0
+    c.from_residual-in_err-ask_outputs.result c.from_residual-in_err-ask_outputs.ensures.1 c.in_err-ask_outputs.ensures.asks))
+
+pub returns-clause-does : goal.returns-clause-does
+returns-clause-does g c =
+    object_is c.as_slice-codes.result.now c.args.object.now c.args.budget (g.S.Store.files c.args.store.now) c.args.log.now (g.S.Store.files c.run_programs.new.store) c.run_programs.new.log c.run_programs.result (c.as_slice-codes.ensures ∙ c.programs.ensures.value)
+    (object_then c.as_slice-codes.result.now c.args.budget c.as_slice-references.result.now c.as_slice.result.now c.in_ok-stored.stored c.args.log.now c.read_tables.new.log c.run_programs.new.log (g.S.Store.files c.args.store.now) (g.S.Store.files c.read_tables.new.store)
+    (g.S.Store.files c.run_programs.new.store) c.run_programs.result (c.as_slice-references.ensures ∙ c.in_ok-named.ensures)
+    (c.as_slice.ensures ∙ inputs_are c.as_slice-codes.result.now c.as_slice-references.result.now c.in_ok-names.names (c.as_slice-references.ensures ∙ c.in_ok-named.ensures) c.in_ok-names.ensures)
+    c.in_ok-stored.ensures.loads
+    (outputs_not_there c.as_slice-codes.result.now c.args.budget c.in_ok-stored.stored c.as_slice-2.result.now c.read_tables.new.log c.ask_outputs.new.log c.run_programs.new.log (g.S.Store.files c.read_tables.new.store) (g.S.Store.files c.ask_outputs.new.store)
+    (g.S.Store.files c.run_programs.new.store) c.run_programs.result c.as_slice-2.ensures c.in_ok-ask_outputs.ensures.asks c.run_programs.ensures.does))

@@ -1,0 +1,2 @@
+pub mod MisplacedLemmas
+pub mod MisplacedRows

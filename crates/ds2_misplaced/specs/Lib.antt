@@ -1,0 +1,2 @@
+-- What is misplaced in one part of a unit, calls of `setparms` aside.
+pub mod MisplacedParts

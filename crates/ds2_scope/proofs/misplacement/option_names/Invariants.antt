@@ -1,6 +1,0 @@
-use Rattle.std.proofs.Common.{◌≡◌, ◌++◌, drop}
-use Rattle.ds2_scope.specs.MisplacedParts.{option_names}
-use Rattle.ds2_scope.proofs.misplacement.option_names.Given as goal
-
-abbrev pub invariant-options : goal.invariant-options
-invariant-options l = l.names ++ option_names (drop l.option-index l.options) ≡ option_names l.options

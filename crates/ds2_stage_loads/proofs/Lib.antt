@@ -1,0 +1,2 @@
+pub mod CursorSteps
+pub mod OpenCursors

@@ -1,0 +1,3 @@
+pub mod Grains
+pub mod StageCursors
+pub mod GroupedLoads

@@ -1,0 +1,290 @@
+-- From a source that was loaded to what its command leaves.
+use Rattle.std.proofs.Common.{◌≡◌, ◌⊎◌, ◌∙◌, IsErrAnd, IsTrue, inl, inr, ℕ, List, [], ◌∷◌, ◌++◌, flat_map, map, Option, Some, None, IfSome, Result, Ok, Err, refl, sym, ap, subst}
+use Rattle.ds2_outside.specs.Files.{Files}
+use Rattle.ds2_object.specs.declared.refusal.ObjectRefusal.TheVariants.{BadMagic}
+use Rattle.ds2_compile.specs.AnswersOfTexts.{SourcesRead}
+use Rattle.ds2_compile.specs.ProgramTree.{ProgramTree}
+use Rattle.ds2_compile.specs.StagedParts.{StagedParts}
+use Rattle.ds2_answer.specs.declared.command_line.CommandLine.{CommandLine}
+use Rattle.ds2_answer.specs.declared.command_line.CommandLine.TheVariants.{Run, Compile, Exec, Check}
+use Rattle.ds2_answer.specs.declared.status.Status.{Status}
+use Rattle.ds2_answer.specs.declared.status.Status.TheVariants as ended
+use Rattle.ds2_answer.specs.CommandPlans.{plan_of_command}
+use Rattle.ds2_answer.specs.HeldTables.{NamedTable, held_from_store}
+use Rattle.ds2_answer.specs.Lines.{object_line, usage_line}
+use Rattle.ds2_answer.specs.ObjectPlans.{ObjectReading, outputs_of_code, run_of_code}
+use Rattle.ds2_answer.specs.Plan.{Plan, Stops, Logs, ReadsFile, AsksFor, WritesFile, each_in_turn}
+use Rattle.ds2_answer.specs.ProgramPlans.{programs_plan}
+use Rattle.ds2_answer.specs.SourcePlans.{SourceCommand, compile_programs_of, object_bytes, object_file, outputs_of_program, run_programs_of, runs_of_programs, source_plan, store_object}
+use Rattle.ds2_answer.specs.StoredCodes.{CodesDoAsPrograms, HaveCodes}
+use Rattle.ds2_answer.specs.TablePlans.{OutputNamed, Presence, none_made, outputs_then, present_in}
+use Rattle.ds2_exec.specs.FileReads.{OverSomeFiles}
+use Rattle.ds2_exec.specs.Halts.{Follows, FollowsAll, HaltsPlan, LeadsOn, StopsAs}
+use Rattle.ds2_exec.specs.OutputAsks.{AsksOutputs, OverAnswers}
+use Rattle.ds2_exec.specs.PlanOutcomes.{CameOfPlan, CutShort}
+use Rattle.ds2_exec.specs.declared.halt.Halt.{Halt}
+use Rattle.ds2_exec.specs.declared.halt.Halt.TheVariants.{Ended, OutOfMemory}
+use Rattle.ds2_exec.proofs.FileSteps.{line_ends, over_all}
+use Rattle.ds2_exec.proofs.Leading.{at_once, does_on, halts_with, leads_none, leads_say, no_memory}
+use Rattle.ds2_exec.proofs.OutputSteps.{answers_all}
+use Rattle.ds2_top.specs.CommandOutcomes.{DecodesUnlessHalted, DoesCommand, DoesSource, HaltsUnstored, StoresUnlessHalted, StoringCommand, checks, compiles, runs_with}
+use Rattle.ds2_top.specs.ObjectRuns.{RunsFile}
+use Rattle.ds2_top.specs.SourceLoads.{LoadsSource, RunsLoaded, WasLoaded}
+use Rattle.ds2_top.specs.SourceObjects.{BecomesPrograms, IsBeforeStoring, IsObjectOf}
+use Rattle.ds2_top.specs.declared.loaded.Loaded.{Loaded}
+use Rattle.ds2_top.proofs.FileReads.{leads_reads}
+use Rattle.ds2_top.proofs.PlanStops.{StopsAmong, behind_writes, source_stop}
+
+-- ---- a plan that writes nothing
+
+abbrev Never : Status → Type 0
+Never status = ⊥
+
+came_before : (plan : Plan) (said : List ℕ) (told : Option Files) (status : Status) (log : List ℕ) (now : Option Files) → StopsAmong IsBeforeStoring Never plan → CameOfPlan plan said told status log now
+    → IsBeforeStoring status × (now ≡ told)
+came_before (Stops s) said told status log now stops (came, answers) = (subst IsBeforeStoring (sym came.status_is) stops, came.files)
+came_before (Logs line rest) said told status log now stops came = came_before rest (said ++ line) told status log now stops came
+came_before (ReadsFile name rest) said told status log now stops (inl failed) = (subst IsBeforeStoring (sym failed.status_is) tt, failed.files)
+came_before (ReadsFile name rest) said told status log now stops (inr came) = came_before rest said told status log now stops came
+came_before (AsksFor name rest) said told status log now stops (inl failed) = (subst IsBeforeStoring (sym failed.status_is) tt, failed.files)
+came_before (AsksFor name rest) said told status log now stops (inr came) = came_before rest said told status log now stops came
+came_before (WritesFile name bytes rest) said told status log now stops came = absurd (behind_writes Never rest stops)
+
+short_before : (plan : Plan) (told now : Option Files) → StopsAmong IsBeforeStoring Never plan → CutShort plan told now → now ≡ told
+short_before (Stops s) told now stops short = short
+short_before (Logs line rest) told now stops (inl same) = same
+short_before (Logs line rest) told now stops (inr short) = short_before rest told now stops short
+short_before (ReadsFile name rest) told now stops (inl same) = same
+short_before (ReadsFile name rest) told now stops (inr short) = short_before rest told now stops short
+short_before (AsksFor name rest) told now stops (inl same) = same
+short_before (AsksFor name rest) told now stops (inr short) = short_before rest told now stops short
+short_before (WritesFile name bytes rest) told now stops short = absurd (behind_writes Never rest stops)
+
+halts_unstored : (plan : Plan) (said : List ℕ) (told : Option Files) (halt : Halt) (log : List ℕ) (now : Option Files) → StopsAmong IsBeforeStoring Never plan → HaltsPlan plan said told halt log now
+    → HaltsUnstored (Err halt) told now
+halts_unstored plan said told (Ended status) log now stops halts = came_before plan said told status log now stops halts
+halts_unstored plan said told OutOfMemory log now stops halts = short_before plan told now stops halts
+
+-- ---- storing and running
+
+-- the object was written, and the programs were run
+pub stored_then : (whole rest : Plan) (said text log : List ℕ) (told between now : Option Files) (result : Result (Unit {0}) Halt) → LeadsOn whole rest said told text between → FollowsAll rest text between result log now
+    → FollowsAll whole said told result log now
+stored_then whole rest said text log told between now result leads runs = does_on whole rest (λ (_ : Unit {0}). Stops ended.Done) said text told between result log now leads runs
+
+module _ (law : CodesDoAsPrograms) (source : List ℕ) (budget : ℕ) (object : List StagedParts) (stored : List NamedTable) where
+  abbrev codes_plan : Presence → Plan
+  codes_plan there =
+      outputs_then none_made there (flat_map outputs_of_code object) (store_object source object (programs_plan (map (run_of_code budget) object) (held_from_store stored)))
+
+  -- what codes do is what the programs do whose codes they are
+  plan_is_codes : (there : Presence) (programs : List ProgramTree) → HaveCodes programs object → run_programs_of source budget object there (held_from_store stored) programs ≡ codes_plan there
+  plan_is_codes there programs codes =
+      (λ i. outputs_then none_made there (law.outputs programs object codes i) (store_object source object (law.plan programs object budget (held_from_store stored) codes i)))
+
+  of_codes : (said log : List ℕ) (told now : Option Files) (result : Result (Unit {0}) Halt) → OverAnswers told (λ there. FollowsAll (codes_plan there) said told result log now)
+      → RunsLoaded source budget object stored said told result log now
+  of_codes said log told now result o = record {
+    there = o.there;
+    told_is = o.told_is;
+    holds = λ programs codes. subst (λ (p : Plan). FollowsAll p said told result log now) (sym (plan_is_codes o.there programs codes)) o.holds;
+  }
+
+  -- an output is there, or the question for one has failed
+  pub run_asked : (said log : List ℕ) (told now : Option Files) (halt : Halt) (result : Result (Unit {0}) Halt) → IsErrAnd result (λ e. e ≡ halt)
+      → AsksOutputs none_made (flat_map outputs_of_code object) said told (Err halt) log now → RunsLoaded source budget object stored said told result log now
+  run_asked said log told now halt (Ok value) is (same, asks) = absurd is
+  run_asked said log told now halt (Err e) is (same, asks) =
+      of_codes said log told now (Err e)
+      (record {
+        there = asks.there;
+        told_is = asks.told_is;
+        holds = subst (λ (h : Halt). HaltsPlan (codes_plan asks.there) said told h log now) (sym is)
+            (asks.holds (store_object source object (programs_plan (map (run_of_code budget) object) (held_from_store stored))));
+      })
+
+  -- no output is there, and the object was stored and its programs run
+  pub run_then : (said text log : List ℕ) (told between now : Option Files) (result : Result (Unit {0}) Halt) → AsksOutputs none_made (flat_map outputs_of_code object) said told (Ok tt) text between
+      → FollowsAll (store_object source object (programs_plan (map (run_of_code budget) object) (held_from_store stored))) text between result log now
+      → RunsLoaded source budget object stored said told result log now
+  run_then said text log told between now result (same, asks) runs =
+      let rest = store_object source object (programs_plan (map (run_of_code budget) object) (held_from_store stored)) in
+      of_codes said log told now result
+      (record {
+        there = asks.there;
+        told_is = asks.told_is;
+        holds = does_on (codes_plan asks.there) rest (λ (_ : Unit {0}). Stops ended.Done) said text told between result log now (asks.holds rest) runs;
+      })
+
+-- ---- commands on sources
+
+module _ (sources : SourcesRead) (source : List ℕ) (does : StoringCommand) where
+  -- the source was not loaded
+  pub source_ends : (said log : List ℕ) (told now : Option Files) (halt : Halt) (result : Result (Unit {0}) Halt) → IsErrAnd result (λ e. e ≡ halt) → LoadsSource (source_plan sources source) said told (Err halt) log now
+      → DoesSource sources source does said told result log now
+  source_ends said log told now halt (Ok value) is halts = absurd is
+  source_ends said log told now halt (Err e) is halts =
+      let answers = answers_all told (λ (there : Presence). Unit {0}) (λ there. tt) in
+      let go : SourceCommand = λ held programs. Stops ended.File in
+      record {
+        files = halts.files;
+        there = answers.there;
+        object = [];
+        files_told = halts.told_is;
+        there_told = answers.told_is;
+        stores = inr (subst (λ (h : Halt). HaltsUnstored (Err h) told now) (sym is)
+            (halts_unstored (source_plan sources source halts.files go) said told halt log now (source_stop IsBeforeStoring Never tt tt sources source halts.files go (λ held programs. tt)) (halts.holds go)));
+        follows = subst (λ (h : Halt). HaltsPlan (source_plan sources source halts.files (does [] answers.there)) said told h log now) (sym is) (halts.holds (does [] answers.there));
+      }
+
+  -- the source was loaded, and the rest was done
+  pub source_does : (loaded : Loaded) (said text log : List ℕ) (told between now : Option Files) (result : Result (Unit {0}) Halt) → LoadsSource (source_plan sources source) said told (Ok loaded) text between
+      → OverAnswers between (λ there. (programs : List ProgramTree) → HaveCodes programs loaded.object → FollowsAll (does loaded.object there (held_from_store loaded.stored) programs) text between result log now)
+      → DoesSource sources source does said told result log now
+  source_does loaded said text log told between now result (was, text_is, between_is) rest = record {
+    files = was.files;
+    there = rest.there;
+    object = loaded.object;
+    files_told = was.told_is;
+    there_told = subst (λ (t : Option Files). IfSome t (λ held. (name : List ℕ) → rest.there name ≡ present_in held name)) between_is rest.told_is;
+    stores = inl (record { stored = loaded.stored; programs = was.programs; becomes = was.becomes; codes = was.object.codes; valid = was.object.valid });
+    follows =
+        let go = does loaded.object rest.there in
+        let then' = go (held_from_store loaded.stored) was.programs in
+        subst (λ (p : Plan). FollowsAll p said told result log now) (sym (was.becomes.plan_is go))
+        (does_on (each_in_turn ReadsFile was.becomes.names then') then' (λ (_ : Unit {0}). Stops ended.Done) said said told told result log now (leads_reads was.becomes.names then' said told)
+        (subst (λ (t : List ℕ). FollowsAll then' t told result log now) text_is
+        (subst (λ (f : Option Files). FollowsAll then' text f result log now) between_is (rest.holds was.programs was.object.codes))));
+  }
+
+  -- the same where the rest is one plan, whatever is there
+  pub source_does_one : (loaded : Loaded) (rest : Plan) → ((there : Presence) (programs : List ProgramTree) → does loaded.object there (held_from_store loaded.stored) programs ≡ rest)
+      → (said text log : List ℕ) (told between now : Option Files) (result : Result (Unit {0}) Halt) → LoadsSource (source_plan sources source) said told (Ok loaded) text between
+      → FollowsAll rest text between result log now → DoesSource sources source does said told result log now
+  source_does_one loaded rest same said text log told between now result loads runs =
+      let answers = answers_all between (λ (there : Presence). Unit {0}) (λ there. tt) in
+      source_does loaded said text log told between now result loads
+      (record {
+        there = answers.there;
+        told_is = answers.told_is;
+        holds = λ programs codes. subst (λ (p : Plan). FollowsAll p text between result log now) (sym (same answers.there programs)) runs;
+      })
+
+-- ---- any command
+
+-- no object file is decoded
+abbrev no_objects : ObjectReading
+no_objects bytes = Err BadMagic
+
+module _ (sources : SourcesRead) (said log : List ℕ) (told now : Option Files) (result : Result (Unit {0}) Halt) where
+  pub runs_line : (source : List ℕ) (threads : Option ℕ) (budget : ℕ) → DoesSource sources source (runs_with source budget) said told result log now
+      → DoesCommand sources (Some (Run source threads budget)) said told result log now
+  runs_line source threads budget d = record {
+    object_for = no_objects;
+    files = d.files;
+    there = d.there;
+    object = d.object;
+    files_told = d.files_told;
+    there_told = d.there_told;
+    stores = d.stores;
+    decodes = tt;
+    follows = d.follows;
+  }
+
+  pub compiles_line : (source : List ℕ) → DoesSource sources source (compiles source) said told result log now → DoesCommand sources (Some (Compile source)) said told result log now
+  compiles_line source d = record {
+    object_for = no_objects;
+    files = d.files;
+    there = d.there;
+    object = d.object;
+    files_told = d.files_told;
+    there_told = d.there_told;
+    stores = d.stores;
+    decodes = tt;
+    follows = d.follows;
+  }
+
+  pub checks_line : (source : List ℕ) → DoesSource sources source checks said told result log now → DoesCommand sources (Some (Check source)) said told result log now
+  checks_line source d = record {
+    object_for = no_objects;
+    files = d.files;
+    there = d.there;
+    object = d.object;
+    files_told = d.files_told;
+    there_told = d.there_told;
+    stores = tt;
+    decodes = tt;
+    follows = d.follows;
+  }
+
+  pub execs_line : (name : List ℕ) (budget : ℕ) → RunsFile name budget said told result log now → DoesCommand sources (Some (Exec name budget)) said told result log now
+  execs_line name budget r = record {
+    object_for = r.object_for;
+    files = r.files;
+    there = r.there;
+    object = [];
+    files_told = r.files_told;
+    there_told = r.there_told;
+    stores = tt;
+    decodes = r.decodes;
+    follows = r.follows;
+  }
+
+module _ (sources : SourcesRead) where
+  over_nothing : (line : Option CommandLine) (said log : List ℕ) (told now : Option Files) (result : Result (Unit {0}) Halt)
+      → ((files : Files) (there : Presence) → FollowsAll (plan_of_command sources no_objects [] line files there) said told result log now) → line ≡ None → DoesCommand sources line said told result log now
+  over_nothing line said log told now result follows none =
+      let some = over_all told (λ (files : Files). Unit {0}) (λ files. tt) in
+      let answers = answers_all told (λ (there : Presence). Unit {0}) (λ there. tt) in
+      subst (λ (l : Option CommandLine). DoesCommand sources l said told result log now) (sym none)
+      (record {
+        object_for = no_objects;
+        files = some.files;
+        there = answers.there;
+        object = [];
+        files_told = some.told_is;
+        there_told = answers.told_is;
+        stores = tt;
+        decodes = tt;
+        follows = subst (λ (l : Option CommandLine). FollowsAll (plan_of_command sources no_objects [] l some.files answers.there) said told result log now) none (follows some.files answers.there);
+      })
+
+  -- words that are no command were refused
+  pub no_line : (line : Option CommandLine) (said log : List ℕ) (told now : Option Files) (halt : Halt) → line ≡ None → StopsAs ended.Usage usage_line said halt log → now ≡ told
+      → DoesCommand sources line said told (Err halt) log now
+  no_line line said log told now halt none stops same =
+      over_nothing line said log told now (Err halt)
+      (λ files there. subst (λ (l : Option CommandLine). HaltsPlan (plan_of_command sources no_objects [] l files there) said told halt log now) (sym none) (line_ends ended.Usage usage_line said told now halt log tt stops same)) none
+
+  -- there was no memory for the words
+  pub no_words : (line : Option CommandLine) (said log : List ℕ) (told : Option Files) (result : Result (Unit {0}) Halt) → IsErrAnd result (λ e. e ≡ OutOfMemory) → DoesCommand sources line said told result log told
+  no_words line said log told (Ok value) is = absurd is
+  no_words line said log told (Err e) is =
+      let some = over_all told (λ (files : Files). Unit {0}) (λ files. tt) in
+      let answers = answers_all told (λ (there : Presence). Unit {0}) (λ there. tt) in
+      subst (λ (h : Halt). DoesCommand sources line said told (Err h) log told) (sym is)
+      (record {
+        object_for = no_objects;
+        files = some.files;
+        there = answers.there;
+        object = [];
+        files_told = some.told_is;
+        there_told = answers.told_is;
+        stores = stores_none line;
+        decodes = decodes_none line;
+        follows = at_once (plan_of_command sources no_objects [] line some.files answers.there) told;
+      })
+    where
+      stores_none : (l : Option CommandLine) → StoresUnlessHalted sources l (OverSomeFiles.files (over_all told (λ (files : Files). Unit {0}) (λ files. tt))) [] (Err OutOfMemory) told told
+      stores_none None = tt
+      stores_none (Some (Run source threads budget)) = inr refl
+      stores_none (Some (Compile source)) = inr refl
+      stores_none (Some (Exec name budget)) = tt
+      stores_none (Some (Check source)) = tt
+
+      decodes_none : (l : Option CommandLine) → DecodesUnlessHalted no_objects l (OverSomeFiles.files (over_all told (λ (files : Files). Unit {0}) (λ files. tt))) (Err OutOfMemory) told told
+      decodes_none None = tt
+      decodes_none (Some (Run source threads budget)) = tt
+      decodes_none (Some (Compile source)) = tt
+      decodes_none (Some (Exec name budget)) = inr refl
+      decodes_none (Some (Check source)) = tt

@@ -1,0 +1,108 @@
+-- With which statuses the answers of commands stop.
+use Rattle.std.proofs.Common.{◌≡◌, ◌⊎◌, inl, inr, ◌∙◌, ℕ, List, flat_map, Option, Some, None, refl, sym, ap, subst}
+use Rattle.ds2_outside.specs.Files.{Files}
+use Rattle.ds2_compile.specs.AnswersOfTexts.{SourcesRead}
+use Rattle.ds2_compile.specs.ProgramTree.{ProgramTree}
+use Rattle.ds2_compile.specs.StagedParts.{StagedParts}
+use Rattle.ds2_answer.specs.declared.command_line.CommandLine.{CommandLine}
+use Rattle.ds2_answer.specs.declared.command_line.CommandLine.TheVariants.{Run, Compile, Exec, Check}
+use Rattle.ds2_answer.specs.declared.status.Status.{Status}
+use Rattle.ds2_answer.specs.declared.status.Status.TheVariants as ended
+use Rattle.ds2_answer.specs.CommandPlans.{plan_of_command}
+use Rattle.ds2_answer.specs.HeldTables.{HeldTables}
+use Rattle.ds2_answer.specs.ObjectPlans.{ObjectReading}
+use Rattle.ds2_answer.specs.Plan.{Stops}
+use Rattle.ds2_answer.specs.PlanSteps.{files_behind_all, status_at_end, steps_of}
+use Rattle.ds2_answer.specs.SourcePlans.{compile_programs_of, outputs_of_program, runs_of_programs, run_programs_of, store_object}
+use Rattle.ds2_answer.specs.ProgramPlans.{programs_plan}
+use Rattle.ds2_answer.specs.Status.{IsRefusal}
+use Rattle.ds2_answer.specs.TablePlans.{Presence, none_made}
+use Rattle.ds2_top.proofs.PlanStops.{StopsAmong, either_way, exec_stop, nothing_written, outputs_stop, programs_stop, source_stop}
+
+-- ---- any command
+
+-- a status of a command that is none on words
+abbrev IsNoUsage : Status → Type 0
+IsNoUsage ended.Usage = ⊥
+IsNoUsage _ = Unit {0}
+
+-- a status behind a write
+abbrev IsEnd : Status → Type 0
+IsEnd ended.Done = Unit {0}
+IsEnd ended.Fault = Unit {0}
+IsEnd _ = ⊥
+
+end_is_no_usage : (s : Status) → IsEnd s → IsNoUsage s
+end_is_no_usage ended.Done e = tt
+end_is_no_usage ended.Usage e = e
+end_is_no_usage ended.Source e = tt
+end_is_no_usage ended.File e = tt
+end_is_no_usage ended.Exists e = tt
+end_is_no_usage ended.Fault e = tt
+end_is_no_usage ended.Read e = tt
+end_is_no_usage ended.Write e = tt
+end_is_no_usage ended.Log e = tt
+end_is_no_usage ended.Object e = tt
+end_is_no_usage ended.Memory e = tt
+
+end_is_no_refusal : (s : Status) → IsRefusal s → IsEnd s → ⊥
+end_is_no_refusal ended.Done r e = r
+end_is_no_refusal ended.Usage r e = e
+end_is_no_refusal ended.Source r e = e
+end_is_no_refusal ended.File r e = e
+end_is_no_refusal ended.Exists r e = e
+end_is_no_refusal ended.Fault r e = r
+end_is_no_refusal ended.Read r e = e
+end_is_no_refusal ended.Write r e = e
+end_is_no_refusal ended.Log r e = e
+end_is_no_refusal ended.Object r e = e
+end_is_no_refusal ended.Memory r e = e
+
+run_stop : (P : Status → Type 0) → P ended.Exists → (source : List ℕ) (budget : ℕ) (object : List StagedParts) (there : Presence) (held : HeldTables) (programs : List ProgramTree)
+    → StopsAmong P IsEnd (run_programs_of source budget object there held programs)
+run_stop P exists source budget object there held programs =
+    outputs_stop P IsEnd exists none_made there (flat_map outputs_of_program programs) (store_object source object (programs_plan (runs_of_programs budget programs object) held))
+    (programs_stop IsEnd tt tt (runs_of_programs budget programs object) held)
+
+module _ (sources : SourcesRead) (object_for : ObjectReading) (object : List StagedParts) (files : Files) (there : Presence) where
+  line_stops : (line : CommandLine) → StopsAmong IsNoUsage IsEnd (plan_of_command sources object_for object (Some line) files there)
+  line_stops (Run source threads budget) =
+      source_stop IsNoUsage IsEnd tt tt sources source files (run_programs_of source budget object there) (λ held programs. run_stop IsNoUsage tt source budget object there held programs)
+  line_stops (Compile source) = source_stop IsNoUsage IsEnd tt tt sources source files (λ held programs. compile_programs_of source object) (λ held programs. tt)
+  line_stops (Exec name budget) = exec_stop IsNoUsage IsEnd tt tt tt tt tt end_is_no_usage object_for name budget files there
+  line_stops (Check source) = source_stop IsNoUsage IsEnd tt tt sources source files (λ held programs. Stops ended.Done) (λ held programs. tt)
+
+  -- words that are no command are told so, and no others
+  pub usage_only : (line : Option CommandLine) → status_at_end (plan_of_command sources object_for object line files there) ≡ ended.Usage → line ≡ None
+  usage_only None is = refl
+  usage_only (Some line) is =
+      absurd (subst IsNoUsage is (either_way IsNoUsage IsEnd IsNoUsage (plan_of_command sources object_for object (Some line) files there) (λ s p. p) end_is_no_usage (line_stops line)))
+
+  -- an answer that refuses leaves each file as it was
+  pub refusal_writes_nothing : (line : Option CommandLine) → IsRefusal (status_at_end (plan_of_command sources object_for object line files there))
+      → files_behind_all (steps_of (plan_of_command sources object_for object line files there)) files ≡ files
+  refusal_writes_nothing None r = refl
+  refusal_writes_nothing (Some line) r =
+      let plan = plan_of_command sources object_for object (Some line) files there in
+      nothing_written IsNoUsage IsEnd plan files (line_stops line) (end_is_no_refusal (status_at_end plan) r)
+
+-- ---- commands that run nothing
+
+-- a status of a command that runs no program
+abbrev IsNoFault : Status → Type 0
+IsNoFault ended.Fault = ⊥
+IsNoFault _ = Unit {0}
+
+pub compile_faults_never : (sources : SourcesRead) (object_for : ObjectReading) (object : List StagedParts) (files : Files) (there : Presence) (source : List ℕ)
+    → status_at_end (plan_of_command sources object_for object (Some (Compile source)) files there) ≡ ended.Fault → ⊥
+compile_faults_never sources object_for object files there source is =
+    subst IsNoFault is
+    (either_way IsNoFault IsNoFault IsNoFault (plan_of_command sources object_for object (Some (Compile source)) files there) (λ s p. p) (λ s p. p)
+    (source_stop IsNoFault IsNoFault tt tt sources source files (λ held programs. compile_programs_of source object) (λ held programs. tt)))
+
+pub check_faults_never : (sources : SourcesRead) (object_for : ObjectReading) (object : List StagedParts) (files : Files) (there : Presence) (source : List ℕ)
+    → status_at_end (plan_of_command sources object_for object (Some (Check source)) files there) ≡ ended.Fault → ⊥
+check_faults_never sources object_for object files there source is =
+    subst IsNoFault is
+    (either_way IsNoFault IsNoFault IsNoFault (plan_of_command sources object_for object (Some (Check source)) files there) (λ s p. p) (λ s p. p)
+    (source_stop IsNoFault IsNoFault tt tt sources source files (λ held programs. Stops ended.Done) (λ held programs. tt)))

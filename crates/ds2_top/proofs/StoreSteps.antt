@@ -1,0 +1,68 @@
+-- From the object of a source to its file.
+use Rattle.std.proofs.Common.{◌≡◌, ◌∙◌, IsErrAnd, ℕ, List, [], ◌∷◌, ◌++◌, length, Option, Some, None, Result, Ok, Err, refl, sym, ap, subst}
+use Rattle.std.specs.List.{AllByRecursion}
+use Rattle.ds2_outside.specs.Files.{Files}
+use Rattle.ds2_compile.specs.AnswersOfTexts.{SourcesRead}
+use Rattle.ds2_compile.specs.StagedParts.{StagedParts}
+use Rattle.ds2_answer.specs.declared.status.Status.TheVariants.{Done}
+use Rattle.ds2_answer.specs.HeldTables.{NamedTable}
+use Rattle.ds2_answer.specs.Lines.{object_line}
+use Rattle.ds2_answer.specs.Plan.{Plan, Stops, Logs, WritesFile}
+use Rattle.ds2_answer.specs.SourcePlans.{SourceCommand, compile_programs_of, object_bytes, object_file, store_object}
+use Rattle.ds2_exec.specs.CodeRuns.{AreLinked, StandsAlone}
+use Rattle.ds2_exec.specs.Halts.{Follows, FollowsAll, HaltsPlan, LeadsOn}
+use Rattle.ds2_exec.specs.declared.halt.Halt.{Halt}
+use Rattle.ds2_exec.specs.declared.halt.Halt.TheVariants.{OutOfMemory}
+use Rattle.ds2_exec.proofs.Leading.{does_on, halts_with, leads_none, leads_say, no_memory}
+use Rattle.ds2_top.specs.SourceLoads.{IsRunnableObject, LoadsSource}
+use Rattle.ds2_top.specs.declared.loaded.Loaded.{Loaded}
+
+-- what holds of an object holds of its codes
+pub stands_of : (object codes' : List StagedParts) (stored : List NamedTable) → codes' ≡ object → IsRunnableObject object stored → AllByRecursion StandsAlone codes'
+stands_of object codes' stored same runs = subst (λ (cs : List StagedParts). AllByRecursion StandsAlone cs) (sym same) runs.alone
+
+pub runs_of : (object codes' : List StagedParts) (stored held : List NamedTable) → codes' ≡ object → held ≡ stored → IsRunnableObject object stored → AreLinked codes' held
+runs_of object codes' stored held same held_is runs =
+    subst (λ (cs : List StagedParts). AreLinked cs held) (sym same) (subst (λ (ts : List NamedTable). AreLinked object ts) (sym held_is) runs.linked)
+
+-- the object of a source that was loaded can be run
+pub loaded_runs : (plan : Files → SourceCommand → Plan) (said : List ℕ) (told : Option Files) (loaded : Loaded) (log : List ℕ) (now : Option Files) → LoadsSource plan said told (Ok loaded) log now
+    → IsRunnableObject loaded.object loaded.stored
+loaded_runs plan said told loaded log now loads = loads.0.object.runs
+
+-- ---- the file of an object
+
+module _ (source : List ℕ) (object : List StagedParts) where
+  written_is : (file bytes : List ℕ) (rest : Plan) → file ≡ object_file source → bytes ≡ object_bytes object → WritesFile file bytes rest ≡ store_object source object rest
+  written_is file bytes rest file_is bytes_are = λ i. WritesFile (file_is i) (bytes_are i) rest
+
+  pub object_written : (file bytes said log : List ℕ) (told now : Option Files) (result : Result (Unit {0}) Halt) → file ≡ object_file source → bytes ≡ object_bytes object
+      → (rest : Plan) → Follows {T = Unit {0}} (WritesFile file bytes rest) (λ _. rest) said told result log now → Follows {T = Unit {0}} (store_object source object rest) (λ _. rest) said told result log now
+  object_written file bytes said log told now result file_is bytes_are rest does =
+      subst (λ (p : Plan). Follows {T = Unit {0}} p (λ _. rest) said told result log now) (written_is file bytes rest file_is bytes_are) does
+
+  -- the line on the object, and the end
+  abbrev pub line_behind : Plan
+  line_behind = Logs (object_line (object_file source) (length (object_bytes object))) (Stops Done)
+
+  pub written_halts : (file bytes said log : List ℕ) (told now : Option Files) (halt : Halt) (result : Result (Unit {0}) Halt) → IsErrAnd result (λ e. e ≡ halt) → file ≡ object_file source → bytes ≡ object_bytes object
+      → Follows {T = Unit {0}} (WritesFile file bytes line_behind) (λ _. line_behind) said told (Err halt) log now → FollowsAll (compile_programs_of source object) said told result log now
+  written_halts file bytes said log told now halt result is file_is bytes_are does =
+      let whole = compile_programs_of source object in
+      halts_with whole whole (λ (_ : Unit {0}). Stops Done) (λ (_ : Unit {0}). line_behind) said said told told now halt result log is (leads_none whole said told)
+      (object_written file bytes said log told now (Err halt) file_is bytes_are line_behind does)
+
+  pub line_unsaid : (file bytes said text log : List ℕ) (told now : Option Files) (result : Result (Unit {0}) Halt) → IsErrAnd result (λ e. e ≡ OutOfMemory) → file ≡ object_file source → bytes ≡ object_bytes object
+      → Follows {T = Unit {0}} (WritesFile file bytes line_behind) (λ _. line_behind) said told (Ok tt) text now → FollowsAll (compile_programs_of source object) said told result log now
+  line_unsaid file bytes said text log told now result is file_is bytes_are does =
+      does_on (compile_programs_of source object) line_behind (λ (_ : Unit {0}). Stops Done) said text told now result log now (object_written file bytes said text told now (Ok tt) file_is bytes_are line_behind does)
+      (no_memory line_behind (λ (_ : Unit {0}). Stops Done) text log now now result is refl)
+
+  pub line_said : (file bytes said text log : List ℕ) (told now : Option Files) → file ≡ object_file source → bytes ≡ object_bytes object
+      → Follows {T = Unit {0}} (WritesFile file bytes line_behind) (λ _. line_behind) said told (Ok tt) text now → (count : ℕ) → count ≡ length bytes → log ≡ text ++ object_line file count
+      → FollowsAll (compile_programs_of source object) said told (Ok tt) log now
+  line_said file bytes said text log told now file_is bytes_are does count count_is log_is =
+      let line = object_line (object_file source) (length (object_bytes object)) in
+      let said_is : log ≡ text ++ line = log_is ∙ (λ i. text ++ object_line (file_is i) (count_is i)) ∙ ap (λ (b : List ℕ). text ++ object_line (object_file source) (length b)) bytes_are in
+      does_on (compile_programs_of source object) line_behind (λ (_ : Unit {0}). Stops Done) said text told now (Ok tt) log now (object_written file bytes said text told now (Ok tt) file_is bytes_are line_behind does)
+      (subst (λ (l : List ℕ). LeadsOn line_behind (Stops Done) text now l now) (sym said_is) (leads_say line (Stops Done) text now))

@@ -1,0 +1,90 @@
+-- What a command leaves, but for the writing of the log.
+use Rattle.std.specs.Prelude.{◌≡◌, ◌⊎◌, ℕ, List, IsTrue, Option, Some, None, IfSome, Result, Ok, Err}
+use Rattle.ds2_outside.specs.Files.{Files}
+use Rattle.ds2_compile.specs.AnswersOfTexts.{SourcesRead}
+use Rattle.ds2_compile.specs.StagedParts.{StagedParts}
+use Rattle.ds2_answer.specs.declared.command_line.CommandLine.{CommandLine}
+use Rattle.ds2_answer.specs.declared.command_line.CommandLine.TheVariants.{Run, Compile, Exec, Check}
+use Rattle.ds2_answer.specs.declared.status.Status.TheVariants.{Done}
+use Rattle.ds2_answer.specs.CommandLines.{is_object_name}
+use Rattle.ds2_answer.specs.CommandPlans.{plan_of_command}
+use Rattle.ds2_answer.specs.ObjectPlans.{ObjectReading}
+use Rattle.ds2_answer.specs.Plan.{Stops}
+use Rattle.ds2_answer.specs.SourcePlans.{SourceCommand, compile_programs_of, run_programs_of, source_plan}
+use Rattle.ds2_answer.specs.TablePlans.{Presence, present_in}
+use Rattle.ds2_answer.specs.Words.{is_source}
+use Rattle.ds2_exec.specs.Halts.{FollowsAll}
+use Rattle.ds2_exec.specs.declared.halt.Halt.{Halt}
+use Rattle.ds2_exec.specs.declared.halt.Halt.TheVariants.{Ended, OutOfMemory}
+use Rattle.ds2_top.specs.DecodedFiles.{DecodesFile}
+use Rattle.ds2_top.specs.ObjectRuns.{HaltsUndecoded}
+use Rattle.ds2_top.specs.SourceObjects.{IsBeforeStoring, IsObjectOf}
+
+-- a line names a source, or `exec` an object
+abbrev pub NamesFile : CommandLine → Type 0
+NamesFile (Run source threads budget) = IsTrue (is_source source)
+NamesFile (Compile source) = IsTrue (is_source source)
+NamesFile (Exec object budget) = IsTrue (is_object_name object)
+NamesFile (Check source) = IsTrue (is_source source)
+
+-- what a command does with a source, given its object and which files are there
+abbrev pub StoringCommand : Type 0
+StoringCommand = List StagedParts → Presence → SourceCommand
+
+-- `run`
+abbrev pub runs_with : List ℕ → ℕ → StoringCommand
+runs_with source budget object there = run_programs_of source budget object there
+
+-- `compile`
+abbrev pub compiles : List ℕ → StoringCommand
+compiles source object there = λ held programs. compile_programs_of source object
+
+-- `check`
+abbrev pub checks : StoringCommand
+checks object there = λ held programs. Stops Done
+
+-- a command has ended before it stored an object, and no file has changed
+abbrev pub HaltsUnstored : Result (Unit {0}) Halt → Option Files → Option Files → Type 0
+HaltsUnstored (Ok value) told now = ⊥
+HaltsUnstored (Err (Ended status)) told now = IsBeforeStoring status × (now ≡ told)
+HaltsUnstored (Err OutOfMemory) told now = now ≡ told
+
+-- what a command on a source leaves, over the files of a store and some object, which is that of the source unless the command has ended before
+-- it stored one
+pub record DoesSource (sources : SourcesRead) (source : List ℕ) (does : StoringCommand) (said : List ℕ) (told : Option Files) (result : Result (Unit {0}) Halt) (log : List ℕ) (now : Option Files) : Type 0 where
+  pub files : Files
+  pub there : Presence
+  pub object : List StagedParts
+  pub files_told : IfSome told (λ held. held ≡ files)
+  pub there_told : IfSome told (λ held. (name : List ℕ) → there name ≡ present_in held name)
+  pub stores : IsObjectOf sources source files object ⊎ HaltsUnstored result told now
+  pub follows : FollowsAll (source_plan sources source files (does object there)) said told result log now
+
+-- what a command stores of its source
+abbrev pub StoresUnlessHalted : SourcesRead → Option CommandLine → Files → List StagedParts → Result (Unit {0}) Halt → Option Files → Option Files → Type 0
+StoresUnlessHalted sources None files object result told now = Unit {0}
+StoresUnlessHalted sources (Some (Run source threads budget)) files object result told now = IsObjectOf sources source files object ⊎ HaltsUnstored result told now
+StoresUnlessHalted sources (Some (Compile source)) files object result told now = IsObjectOf sources source files object ⊎ HaltsUnstored result told now
+StoresUnlessHalted sources (Some (Exec name budget)) files object result told now = Unit {0}
+StoresUnlessHalted sources (Some (Check source)) files object result told now = Unit {0}
+
+-- what a command decodes
+abbrev pub DecodesUnlessHalted : ObjectReading → Option CommandLine → Files → Result (Unit {0}) Halt → Option Files → Option Files → Type 0
+DecodesUnlessHalted object_for None files result told now = Unit {0}
+DecodesUnlessHalted object_for (Some (Run source threads budget)) files result told now = Unit {0}
+DecodesUnlessHalted object_for (Some (Compile source)) files result told now = Unit {0}
+DecodesUnlessHalted object_for (Some (Exec name budget)) files result told now = DecodesFile object_for name files ⊎ HaltsUndecoded result told now
+DecodesUnlessHalted object_for (Some (Check source)) files result told now = Unit {0}
+
+-- what a line of words leaves: its plan was done, or it has halted in it, over the files of a store, with the object that it stores and the file
+-- that it decodes
+pub record DoesCommand (sources : SourcesRead) (line : Option CommandLine) (said : List ℕ) (told : Option Files) (result : Result (Unit {0}) Halt) (log : List ℕ) (now : Option Files) : Type 0 where
+  pub object_for : ObjectReading
+  pub files : Files
+  pub there : Presence
+  pub object : List StagedParts
+  pub files_told : IfSome told (λ held. held ≡ files)
+  pub there_told : IfSome told (λ held. (name : List ℕ) → there name ≡ present_in held name)
+  pub stores : StoresUnlessHalted sources line files object result told now
+  pub decodes : DecodesUnlessHalted object_for line files result told now
+  pub follows : FollowsAll (plan_of_command sources object_for object line files there) said told result log now

@@ -1,0 +1,37 @@
+-- What calls leave that run an object's file.
+use Rattle.std.specs.Prelude.{◌≡◌, ◌⊎◌, ℕ, List, Option, IfSome, Result, Ok, Err}
+use Rattle.ds2_base.specs.Bytes.{Bytes}
+use Rattle.ds2_outside.specs.Files.{Files}
+use Rattle.ds2_answer.specs.ObjectPlans.{IsDecoding, ObjectReading, exec_plan, on_object}
+use Rattle.ds2_answer.specs.TablePlans.{Presence, present_in}
+use Rattle.ds2_answer.specs.declared.status.Status.TheVariants.{Read}
+use Rattle.ds2_exec.specs.Halts.{FollowsAll}
+use Rattle.ds2_exec.specs.declared.halt.Halt.{Halt}
+use Rattle.ds2_exec.specs.declared.halt.Halt.TheVariants.{Ended, OutOfMemory}
+use Rattle.ds2_top.specs.DecodedFiles.{DecodesFile}
+
+-- a command has ended before it decoded a file, and no file has changed
+abbrev pub HaltsUndecoded : Result (Unit {0}) Halt → Option Files → Option Files → Type 0
+HaltsUndecoded (Ok value) told now = ⊥
+HaltsUndecoded (Err (Ended status)) told now = (status ≡ Read) × (now ≡ told)
+HaltsUndecoded (Err OutOfMemory) told now = now ≡ told
+
+-- bytes were decoded as they should be and run, or there was no memory to decode them
+pub record RunsBytes (bytes : Bytes) (budget : ℕ) (said : List ℕ) (told : Option Files) (result : Result (Unit {0}) Halt) (log : List ℕ) (now : Option Files) : Type 0 where
+  pub object_for : ObjectReading
+  pub files : Files
+  pub there : Presence
+  pub files_told : IfSome told (λ held. held ≡ files)
+  pub there_told : IfSome told (λ held. (name : List ℕ) → there name ≡ present_in held name)
+  pub decodes : IsDecoding object_for bytes ⊎ HaltsUndecoded result told now
+  pub follows : FollowsAll (on_object (object_for bytes) budget files there) said told result log now
+
+-- a file was read, decoded as it should be and run, or the command has ended before that
+pub record RunsFile (name : List ℕ) (budget : ℕ) (said : List ℕ) (told : Option Files) (result : Result (Unit {0}) Halt) (log : List ℕ) (now : Option Files) : Type 0 where
+  pub object_for : ObjectReading
+  pub files : Files
+  pub there : Presence
+  pub files_told : IfSome told (λ held. held ≡ files)
+  pub there_told : IfSome told (λ held. (name : List ℕ) → there name ≡ present_in held name)
+  pub decodes : DecodesFile object_for name files ⊎ HaltsUndecoded result told now
+  pub follows : FollowsAll (exec_plan object_for name budget files there) said told result log now

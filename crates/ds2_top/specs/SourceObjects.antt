@@ -1,0 +1,55 @@
+-- The object that a command stores for a source.
+use Rattle.std.specs.Prelude.{◌≡◌, ◌⊎◌, ℕ, List, Option, Some, None}
+use Rattle.ds2_compile.specs.AnswersOfTexts.{SourcesRead}
+use Rattle.ds2_compile.specs.ProgramTree.{ProgramTree}
+use Rattle.ds2_outside.specs.Files.{Files}
+use Rattle.ds2_object.specs.ObjectSpelling.{IsValidObject}
+use Rattle.ds2_compile.specs.StagedParts.{StagedParts}
+use Rattle.ds2_answer.specs.declared.command_line.CommandLine.{CommandLine}
+use Rattle.ds2_answer.specs.declared.command_line.CommandLine.TheVariants.{Run, Compile, Exec, Check}
+use Rattle.ds2_answer.specs.declared.status.Status.{Status}
+use Rattle.ds2_answer.specs.declared.status.Status.TheVariants as ended
+use Rattle.ds2_answer.specs.HeldTables.{NamedTable, held_from_store}
+use Rattle.ds2_answer.specs.Plan.{Plan, ReadsFile, each_in_turn}
+use Rattle.ds2_answer.specs.SourcePlans.{SourceCommand, source_plan}
+use Rattle.ds2_answer.specs.StoredCodes.{HaveCodes}
+use Rattle.ds2_top.specs.Outside.{Outside, HoldsFiles}
+
+-- the plan of a source reads some files, and then does what the command does with these tables and programs
+pub record BecomesPrograms (plan : SourceCommand → Plan) (stored : List NamedTable) (programs : List ProgramTree) : Type 0 where
+  pub names : List (List ℕ)
+  pub plan_is : (go : SourceCommand) → plan go ≡ each_in_turn ReadsFile names (go (held_from_store stored) programs)
+
+-- an object is that of a source: it is valid code, and each of its programs means the same as the source's program at its place
+pub record IsObjectOf (sources : SourcesRead) (source : List ℕ) (files : Files) (object : List StagedParts) : Type 0 where
+  pub stored : List NamedTable
+  pub programs : List ProgramTree
+  pub becomes : BecomesPrograms (source_plan sources source files) stored programs
+  pub codes : HaveCodes programs object
+  pub valid : IsValidObject object
+
+-- a status with which a command may end before it stores an object
+abbrev pub IsBeforeStoring : Status → Type 0
+IsBeforeStoring ended.Done = ⊥
+IsBeforeStoring ended.Usage = Unit {0}
+IsBeforeStoring ended.Source = Unit {0}
+IsBeforeStoring ended.File = Unit {0}
+IsBeforeStoring ended.Exists = Unit {0}
+IsBeforeStoring ended.Fault = ⊥
+IsBeforeStoring ended.Read = Unit {0}
+IsBeforeStoring ended.Write = ⊥
+IsBeforeStoring ended.Log = ⊥
+IsBeforeStoring ended.Object = ⊥
+IsBeforeStoring ended.Memory = Unit {0}
+
+-- an object is that of the source, or the command has ended before it stored one, and each file is as it was
+abbrev pub StoresObjectOf : SourcesRead → (source : List ℕ) → Files → List StagedParts → Outside → Outside → Status → Type 0
+StoresObjectOf sources source files object before now status = IsObjectOf sources source files object ⊎ (IsBeforeStoring status × HoldsFiles files before now)
+
+-- what a line of words stores: `run` and `compile` store the object of their source, and the other commands none
+abbrev pub StoresObject : SourcesRead → Option CommandLine → Files → List StagedParts → Outside → Outside → Status → Type 0
+StoresObject sources None files object before now status = Unit {0}
+StoresObject sources (Some (Run source threads budget)) files object before now status = StoresObjectOf sources source files object before now status
+StoresObject sources (Some (Compile source)) files object before now status = StoresObjectOf sources source files object before now status
+StoresObject sources (Some (Exec name budget)) files object before now status = Unit {0}
+StoresObject sources (Some (Check source)) files object before now status = Unit {0}

@@ -1,0 +1,109 @@
+//! The commands, each but for the writing of the log.
+ghost use Rattle.std.specs.Prelude.{◌≤◌, IsTrue, Some};
+ghost use Rattle.ds2_compile.specs.AnswersOfTexts.{SourcesRead};
+ghost use Rattle.ds2_answer.specs.CommandLines.{budget_on_line, command_line_of};
+ghost use Rattle.ds2_answer.specs.SourcePlans.{compile_programs_of};
+ghost use Rattle.ds2_answer.specs.Words.{is_source};
+ghost use Rattle.ds2_answer.specs.declared.words.TheConstants.{MOST_BUDGET};
+ghost use Rattle.ds2_exec.specs.Halts.{CausedBy};
+ghost use Rattle.ds2_top.specs.CommandOutcomes.{DoesCommand, DoesSource, NamesFile, checks, compiles, runs_with};
+
+use crate::objects::exec_object;
+use crate::refusals::refuse_words;
+use crate::sources::load_source;
+use crate::storing::{run_loaded, store_loaded};
+use ds2_answer::{CommandLine, Status, read_command_line};
+use ds2_base::{Bytes, Text};
+use ds2_compile::sources_are_read;
+use ds2_exec::Halt;
+use ds2_outside::Store;
+use std::alloc::Global;
+
+// `run`: compiles a source, stores its object and runs its programs.
+fn run_source<S: Store>(
+    alloc: Global,
+    source: &Text,
+    budget: u64,
+    log: &mut Bytes,
+    store: &mut S,
+) -> Result<(), Halt>
+    requires named { IsTrue (is_source source.now) }
+    requires budget { budget ≤ MOST_BUDGET }
+    ensures does { (sources : SourcesRead) → DoesSource sources source.now (runs_with source.now budget) log.old (S.files store.old) result log.new (S.files store.new) }
+    ensures read { CausedBy Status.Read result (S.read_faults store.old) (S.read_faults store.new) }
+    ensures write { CausedBy Status.Write result (S.write_faults store.old) (S.write_faults store.new) }
+{
+    sources_are_read();
+    let loaded = load_source(alloc, source, log, store)?;
+    run_loaded(alloc, source, &loaded, budget, log, store)
+}
+
+// `compile`: compiles a source and stores its object.
+fn compile_source<S: Store>(
+    alloc: Global,
+    source: &Text,
+    log: &mut Bytes,
+    store: &mut S,
+) -> Result<(), Halt>
+    requires { IsTrue (is_source source.now) }
+    ensures does { (sources : SourcesRead) → DoesSource sources source.now (compiles source.now) log.old (S.files store.old) result log.new (S.files store.new) }
+    ensures read { CausedBy Status.Read result (S.read_faults store.old) (S.read_faults store.new) }
+    ensures write { CausedBy Status.Write result (S.write_faults store.old) (S.write_faults store.new) }
+{
+    let loaded = load_source(alloc, source, log, store)?;
+    store_loaded(alloc, source, &loaded.object, log, store)
+}
+
+// `check`: tells whether a source is refused.
+fn check_source<S: Store>(
+    alloc: Global,
+    source: &Text,
+    log: &mut Bytes,
+    store: &mut S,
+) -> Result<(), Halt>
+    requires { IsTrue (is_source source.now) }
+    ensures does { (sources : SourcesRead) → DoesSource sources source.now checks log.old (S.files store.old) result log.new (S.files store.new) }
+    ensures read { CausedBy Status.Read result (S.read_faults store.old) (S.read_faults store.new) }
+    ensures write { CausedBy Status.Write result (S.write_faults store.old) (S.write_faults store.new) }
+{
+    let _loaded = load_source(alloc, source, log, store)?;
+    Ok(())
+}
+
+// Does a command.
+fn do_command<S: Store>(
+    alloc: Global,
+    line: &CommandLine,
+    log: &mut Bytes,
+    store: &mut S,
+) -> Result<(), Halt>
+    requires named { NamesFile line.now }
+    requires budget { budget_on_line line.now ≤ MOST_BUDGET }
+    ensures does { (sources : SourcesRead) → DoesCommand sources (Some line.now) log.old (S.files store.old) result log.new (S.files store.new) }
+    ensures read { CausedBy Status.Read result (S.read_faults store.old) (S.read_faults store.new) }
+    ensures write { CausedBy Status.Write result (S.write_faults store.old) (S.write_faults store.new) }
+{
+    match line {
+        CommandLine::Run { source, budget, .. } => run_source(alloc, source, *budget, log, store),
+        CommandLine::Compile { source } => compile_source(alloc, source, log, store),
+        CommandLine::Exec { object, budget } => exec_object(alloc, object, *budget, log, store),
+        CommandLine::Check { source } => check_source(alloc, source, log, store),
+    }
+}
+
+/// Does what a line of words says, but for the writing of the log.
+pub(crate) fn run<S: Store>(
+    alloc: Global,
+    words: &[Text],
+    log: &mut Bytes,
+    store: &mut S,
+) -> Result<(), Halt>
+    ensures does { (sources : SourcesRead) → DoesCommand sources (command_line_of words.now) log.old (S.files store.old) result log.new (S.files store.new) }
+    ensures read { CausedBy Status.Read result (S.read_faults store.old) (S.read_faults store.new) }
+    ensures write { CausedBy Status.Write result (S.write_faults store.old) (S.write_faults store.new) }
+{
+    match read_command_line(alloc, words)? {
+        Some(line) => do_command(alloc, &line, log, store),
+        None => Err(refuse_words(log)),
+    }
+}

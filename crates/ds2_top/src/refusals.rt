@@ -1,0 +1,53 @@
+//! What is refused before programs run: words, sources and objects.
+ghost use Rattle.ds2_answer.specs.Lines.{object_refused_line, source_line, usage_line};
+ghost use Rattle.ds2_answer.specs.declared.kinds.SourceReason.TheVariants.{Rule};
+ghost use Rattle.ds2_exec.specs.Halts.{StopsAs};
+
+use ds2_answer::lines::{say_object_refused, say_source_refused, say_usage};
+use ds2_answer::{ObjectReason, SourceReason, Status};
+use ds2_base::{Bytes, OutOfMemory, Place};
+use ds2_compile::SourceRefusal;
+use ds2_exec::Halt;
+use std::alloc::Global;
+
+/// Says that the words are no command, which ends it.
+pub(crate) fn refuse_words(log: &mut Bytes) -> Halt
+    ensures { StopsAs Status.Usage usage_line log.old result log.new }
+{
+    match say_usage(log) {
+        Ok(()) => Halt::Ended(Status::Usage),
+        Err(OutOfMemory) => Halt::OutOfMemory,
+    }
+}
+
+/// Says that the source is refused for this reason, which ends the command.
+pub(crate) fn refuse_source(
+    alloc: Global,
+    reason: SourceReason,
+    place: Place,
+    log: &mut Bytes,
+) -> Halt
+    ensures { StopsAs Status.Source (source_line reason place) log.old result log.new }
+{
+    match say_source_refused(alloc, reason, place, log) {
+        Ok(()) => Halt::Ended(Status::Source),
+        Err(OutOfMemory) => Halt::OutOfMemory,
+    }
+}
+
+/// Says that the source breaks a rule, which ends the command.
+pub(crate) fn refuse(alloc: Global, refusal: SourceRefusal, log: &mut Bytes) -> Halt
+    ensures { StopsAs Status.Source (source_line (Rule refusal.kind) refusal.place) log.old result log.new }
+{
+    refuse_source(alloc, SourceReason::Rule(refusal.kind), refusal.place, log)
+}
+
+/// Says that the object is refused, which ends the command.
+pub(crate) fn refuse_object(alloc: Global, reason: &ObjectReason, log: &mut Bytes) -> Halt
+    ensures { StopsAs Status.Object (object_refused_line reason.now) log.old result log.new }
+{
+    match say_object_refused(alloc, reason, log) {
+        Ok(()) => Halt::Ended(Status::Object),
+        Err(OutOfMemory) => Halt::OutOfMemory,
+    }
+}

@@ -1,0 +1,120 @@
+//! What is done with the object of a source: it is stored, and its programs run.
+ghost use Rattle.std.specs.Prelude.{◌≡◌, ◌≤◌, IfOk, IsTrue, map};
+ghost use Rattle.ds2_answer.specs.HeldTables.{held_from_store};
+ghost use Rattle.ds2_answer.specs.ObjectPlans.{run_of_code};
+ghost use Rattle.ds2_answer.specs.Plan.{Plan};
+ghost use Rattle.ds2_answer.specs.ProgramPlans.{programs_plan};
+ghost use Rattle.ds2_answer.specs.SourcePlans.{compile_programs_of, object_bytes, object_file, store_object};
+ghost use Rattle.ds2_answer.specs.Words.{is_source};
+ghost use Rattle.ds2_answer.specs.declared.words.TheConstants.{MOST_BUDGET};
+ghost use Rattle.ds2_exec.specs.Halts.{CausedBy, Follows, FollowsAll};
+ghost use Rattle.ds2_top.specs.SourceLoads.{IsRunnableObject, RunsLoaded};
+
+use crate::loaded::Loaded;
+use ds2_answer::Status;
+use ds2_answer::laws::codes_do_as_programs;
+use ds2_answer::lines::say_object;
+use ds2_base::{Bytes, OutOfMemory, Text};
+use ds2_exec::{Halt, ask_outputs, run_programs, write_file};
+use ds2_object::{ObjectCode, encode};
+use ds2_outside::Store;
+use std::alloc::Global;
+
+// The name of the object's file: that of the source, with another ending.
+fn object_name(alloc: Global, source: &Text) -> Result<Text, OutOfMemory>
+    requires { IsTrue (is_source source.now) }
+    ensures { IfOk result (λ name. name ≡ object_file source.now) }
+{
+    match source.as_str().strip_suffix(".ds2") {
+        Some(stem) => Text::from_string(alloc, format!(in alloc; "{stem}.dso")?),
+        None => unreachable!(),
+    }
+}
+
+// The bytes of an object.
+fn object_bytes(alloc: Global, object: &ObjectCode) -> Result<Bytes, OutOfMemory>
+    ensures { IfOk result (λ bytes. bytes ≡ object_bytes object.now) }
+{
+    encode(alloc, object)
+}
+
+// Writes the object of a source, over what stood under its name.
+fn store_object<S: Store>(
+    alloc: Global,
+    source: &Text,
+    object: &ObjectCode,
+    log: &mut Bytes,
+    store: &mut S,
+) -> Result<(), Halt>
+    requires { IsTrue (is_source source.now) }
+    ensures does { (rest : Plan) → Follows (store_object source.now object.now rest) (λ _. rest) log.old (S.files store.old) result log.new (S.files store.new) }
+    ensures read { CausedBy Status.Read result (S.read_faults store.old) (S.read_faults store.new) }
+    ensures write { CausedBy Status.Write result (S.write_faults store.old) (S.write_faults store.new) }
+{
+    let file = object_name(alloc, source)?;
+    let bytes = object_bytes(alloc, object)?;
+    write_file(alloc, &file, &bytes, log, store)
+}
+
+// Stores the object of a source, and runs its programs.
+fn store_and_run<S: Store>(
+    alloc: Global,
+    source: &Text,
+    loaded: &Loaded,
+    budget: u64,
+    log: &mut Bytes,
+    store: &mut S,
+) -> Result<(), Halt>
+    requires named { IsTrue (is_source source.now) }
+    requires runs { IsRunnableObject loaded.now.object loaded.now.stored }
+    requires budget { budget ≤ MOST_BUDGET }
+    ensures does { FollowsAll (store_object source.now loaded.now.object (programs_plan (map (run_of_code budget) loaded.now.object) (held_from_store loaded.now.stored))) log.old (S.files store.old) result log.new (S.files store.new) }
+    ensures read { CausedBy Status.Read result (S.read_faults store.old) (S.read_faults store.new) }
+    ensures write { CausedBy Status.Write result (S.write_faults store.old) (S.write_faults store.new) }
+{
+    store_object(alloc, source, &loaded.object, log, store)?;
+    let codes = loaded.object.programs().as_slice();
+    run_programs(alloc, codes, loaded.stored.as_slice(), budget, log, store)
+}
+
+/// Unless an output is there already, stores the object of a source and runs its programs.
+pub(crate) fn run_loaded<S: Store>(
+    alloc: Global,
+    source: &Text,
+    loaded: &Loaded,
+    budget: u64,
+    log: &mut Bytes,
+    store: &mut S,
+) -> Result<(), Halt>
+    requires named { IsTrue (is_source source.now) }
+    requires runs { IsRunnableObject loaded.now.object loaded.now.stored }
+    requires budget { budget ≤ MOST_BUDGET }
+    ensures does { RunsLoaded source.now budget loaded.now.object loaded.now.stored log.old (S.files store.old) result log.new (S.files store.new) }
+    ensures read { CausedBy Status.Read result (S.read_faults store.old) (S.read_faults store.new) }
+    ensures write { CausedBy Status.Write result (S.write_faults store.old) (S.write_faults store.new) }
+{
+    codes_do_as_programs();
+    let codes = loaded.object.programs().as_slice();
+    ask_outputs(alloc, codes, log, store)?;
+    store_and_run(alloc, source, loaded, budget, log, store)
+}
+
+/// Stores the object of a source, and counts its bytes in the log.
+pub(crate) fn store_loaded<S: Store>(
+    alloc: Global,
+    source: &Text,
+    object: &ObjectCode,
+    log: &mut Bytes,
+    store: &mut S,
+) -> Result<(), Halt>
+    requires { IsTrue (is_source source.now) }
+    ensures does { FollowsAll (compile_programs_of source.now object.now) log.old (S.files store.old) result log.new (S.files store.new) }
+    ensures read { CausedBy Status.Read result (S.read_faults store.old) (S.read_faults store.new) }
+    ensures write { CausedBy Status.Write result (S.write_faults store.old) (S.write_faults store.new) }
+{
+    let file = object_name(alloc, source)?;
+    let bytes = object_bytes(alloc, object)?;
+    write_file(alloc, &file, &bytes, log, store)?;
+    say_object(alloc, &file, bytes.len() as u64, log)?;
+    Ok(())
+}
