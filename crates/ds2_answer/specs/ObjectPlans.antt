@@ -101,9 +101,9 @@ is_built_code_reading (reading.Stage threads into) = false
 is_built_code_reading reading.Once = true
 is_built_code_reading reading.Nothing = true
 
--- a program without hash objects and thread program
+-- a program without thread program
 abbrev pub is_built_code : StagedParts → Bool
-is_built_code code = (length code.program.hashes == 0) && ((length code.stages == 0) && is_built_code_reading code.program.reading)
+is_built_code code = (length code.stages == 0) && is_built_code_reading code.program.reading
 
 -- an object of a form that isn't built is refused
 abbrev pub on_built_object : Bool → List StagedParts → ℕ → Files → Presence → Plan

@@ -202,7 +202,7 @@ module _ (p : UnitTree) where
       and_from (has_cell d (program_cell p at)) (list_all (λ at. has_cell d (program_cell p at)) more) (cell_of kept d h at (program_cell p at) refl) (all_cells kept d h more)
 
   -- data that hold something are data of the code
-  held_data : (kept : Storage) (d : ProgramData) → HoldsProgram p kept d → is_data_of_code p d ≡ true
+  pub held_data : (kept : Storage) (d : ProgramData) → HoldsProgram p kept d → is_data_of_code p d ≡ true
   held_data kept d h =
       and_from (list_all (λ at. has_cell d (program_cell p at)) (cell_locations p)) (list_all (λ n. is_some (slice_get d.slots n)) (range_with_len (layout_size p) (length (code_slots p) - layout_size p)))
       (all_cells kept d h (cell_locations p))

@@ -1,2 +1,3 @@
 pub mod LocalCode
 pub mod CodeStage
+pub mod GroupsOfCode

@@ -1,2 +1,3 @@
 pub mod CodeIndependence
 pub mod CodeStates
+pub mod LocalGroups

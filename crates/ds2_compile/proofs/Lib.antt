@@ -2,6 +2,6 @@ pub mod StagedCodes
 pub mod SchemaLemmas
 pub mod Mentions
 pub mod KnownTables
-pub mod PlainPrograms
+pub mod SettledPrograms
 pub mod LinkedCodes
 pub mod CompiledOutcomes

@@ -1,16 +1,17 @@
--- The tables that a data program without instances mentions, and that its reading statement reads.
+-- The tables that a unit mentions: its reading statement reads them, and its hash objects begin with them.
 use Rattle.std.proofs.Common.{◌≡◌, ℕ, Bool, true, false, ◌||◌, List, [], ◌∷◌, ◌++◌, map, Option, Some, None, bytes_eq, refl, sym, ap, ◌∙◌}
 use Rattle.std.specs.Prelude.{cond}
 use Rattle.std.specs.List.{AllByRecursion}
 use Rattle.std.proofs.lemmas.Slice.Eq.{bytes_eq-Decides}
+use Rattle.ds2_token.specs.declared.token.Token.{Token}
 use Rattle.ds2_tree.specs.Globals.{Method, GlobalItem, Declared, Listed, Defined}
 use Rattle.ds2_tree.specs.declared.globals.Declaration.TheVariants as declaration
 use Rattle.ds2_tree.specs.declared.readings.Input as source_input
 use Rattle.ds2_tree.specs.declared.readings.Reading as source_reading
 use Rattle.ds2_meaning.specs.ProgramTree.{is_listed}
 use Rattle.ds2_names.specs.NameRules.{from_each}
-use Rattle.ds2_names.specs.SourceLimits.{first_mentions, tables_in_item}
-use Rattle.ds2_names.specs.SourceUnit.{PlacedName, placed_name, names_alone, source_instances, source_methods, spelled_name, tables_of_reading}
+use Rattle.ds2_names.specs.SourceLimits.{first_mentions, named_by_text, tables_in_item}
+use Rattle.ds2_names.specs.SourceUnit.{AnyPackage, AnyThread, HashIterator, HashObject, InstanceOf, PlacedName, SourceInstance, placed_name, names_alone, sized_table, source_instances, source_methods, spelled_name, spelled_text, tables_of_reading}
 use Rattle.ds2_names.specs.Uses.{method_named}
 
 -- ---- names that are mentioned
@@ -100,18 +101,63 @@ reads_behind : (own all : List PlacedName) (m : Option Method) → ReadsAmong al
 reads_behind own all None are = tt
 reads_behind own all (Some m) are = among_behind own all (tables_named m.reading) are
 
-pub method_reads : (globals : List GlobalItem) → source_instances globals ≡ [] → (name : List ℕ) → ReadsAmong (from_each tables_in_item globals) (method_named (source_methods globals) name)
-method_reads [] t name = tt
-method_reads (Declared (declaration.Variables v) ∷ globals) t name = method_reads globals t name
-method_reads (Declared (declaration.Instance a b c d e f) ∷ globals) t name = absurd (cc t)
-method_reads (Declared (declaration.Hash a b c d e f g h i j k) ∷ globals) t name = absurd (cc t)
-method_reads (Declared (declaration.Hiter a b c d e f g h) ∷ globals) t name = absurd (cc t)
-method_reads (Declared (declaration.Thread a b c d e) ∷ globals) t name = absurd (cc t)
-method_reads (Listed keyword names end ∷ globals) t name = method_reads globals t name
-method_reads (Defined m ∷ globals) t name =
-    by (bytes_eq (spelled_name m.name) name) (method_reads globals t name)
+pub method_reads : (globals : List GlobalItem) → (name : List ℕ) → ReadsAmong (from_each tables_in_item globals) (method_named (source_methods globals) name)
+method_reads [] name = tt
+method_reads (Declared (declaration.Variables v) ∷ globals) name = method_reads globals name
+method_reads (Declared (declaration.Instance a b c d e f) ∷ globals) name = method_reads globals name
+method_reads (Declared (declaration.Hash a b c d e f g h i j k) ∷ globals) name =
+    reads_behind (named_by_text (sized_table i)) (from_each tables_in_item globals) (method_named (source_methods globals) name) (method_reads globals name)
+method_reads (Declared (declaration.Hiter a b c d e f g h) ∷ globals) name = method_reads globals name
+method_reads (Declared (declaration.Thread a b c d e) ∷ globals) name = method_reads globals name
+method_reads (Listed keyword names end ∷ globals) name = method_reads globals name
+method_reads (Defined m ∷ globals) name =
+    by (bytes_eq (spelled_name m.name) name) (method_reads globals name)
   where
     by : (b : Bool) → ReadsAmong (from_each tables_in_item globals) (method_named (source_methods globals) name)
         → ReadsAmong (tables_named m.reading ++ from_each tables_in_item globals) (cond b (Some m) (method_named (source_methods globals) name))
     by true others = among_before (tables_named m.reading) (from_each tables_in_item globals) (among_itself (tables_named m.reading))
     by false others = reads_behind (tables_named m.reading) (from_each tables_in_item globals) (method_named (source_methods globals) name) others
+
+-- ---- the tables of hash objects
+
+-- the table of a hash object, where it has one, is listed among tables
+abbrev pub IsTableAmong : List PlacedName → Option Token → Type 0
+IsTableAmong all None = Unit {0}
+IsTableAmong all (Some t) = is_listed (names_alone all) (spelled_text t) ≡ true
+
+abbrev pub LoadsAmong : List PlacedName → InstanceOf → Type 0
+LoadsAmong all (HashObject keys items table) = IsTableAmong all table
+LoadsAmong all _ = Unit {0}
+
+-- so are those of all instances
+abbrev pub InstancesAmong : List PlacedName → List SourceInstance → Type 0
+InstancesAmong all instances = AllByRecursion (λ (i : SourceInstance). LoadsAmong all i.sort) instances
+
+table_behind : (own all : List PlacedName) (table : Option Token) → IsTableAmong all table → IsTableAmong (own ++ all) table
+table_behind own all None is = tt
+table_behind own all (Some t) is = listed_behind (spelled_text t) own all is
+
+loads_behind : (own all : List PlacedName) (sort : InstanceOf) → LoadsAmong all sort → LoadsAmong (own ++ all) sort
+loads_behind own all (AnyPackage package' arguments) is = tt
+loads_behind own all (HashObject keys items table) is = table_behind own all table is
+loads_behind own all (HashIterator hash) is = tt
+loads_behind own all (AnyThread thread) is = tt
+
+instances_behind : (own all : List PlacedName) (instances : List SourceInstance) → InstancesAmong all instances → InstancesAmong (own ++ all) instances
+instances_behind own all [] are = tt
+instances_behind own all (i ∷ instances) are = (loads_behind own all i.sort are.0, instances_behind own all instances are.1)
+
+own_table_among : (table : Option Token) (all : List PlacedName) → IsTableAmong (named_by_text table ++ all) table
+own_table_among None all = tt
+own_table_among (Some t) all = or_left (bytes_eq (spelled_text t) (spelled_text t)) (is_listed (names_alone all) (spelled_text t)) (bytes_same (spelled_text t))
+
+pub instances_load : (globals : List GlobalItem) → InstancesAmong (from_each tables_in_item globals) (source_instances globals)
+instances_load [] = tt
+instances_load (Declared (declaration.Variables v) ∷ globals) = instances_load globals
+instances_load (Declared (declaration.Instance a b c d e f) ∷ globals) = (tt, instances_load globals)
+instances_load (Declared (declaration.Hash a b c d e f g h i j k) ∷ globals) =
+    (own_table_among (sized_table i) (from_each tables_in_item globals), instances_behind (named_by_text (sized_table i)) (from_each tables_in_item globals) (source_instances globals) (instances_load globals))
+instances_load (Declared (declaration.Hiter a b c d e f g h) ∷ globals) = (tt, instances_load globals)
+instances_load (Declared (declaration.Thread a b c d e) ∷ globals) = (tt, instances_load globals)
+instances_load (Listed keyword names end ∷ globals) = instances_load globals
+instances_load (Defined m ∷ globals) = instances_behind (tables_named m.reading) (from_each tables_in_item globals) (source_instances globals) (instances_load globals)

@@ -14,24 +14,19 @@ use Rattle.ds2_elaboration.specs.Elaboration.{ProgramRefusal, elaborated_source}
 use Rattle.ds2_source.specs.InputTables.{source_inputs}
 use Rattle.ds2_source.specs.declared.kinds.SourceRefusal.{SourceRefusal}
 use Rattle.ds2_source.specs.SourceRefusals.{source_refusal_of}
-use Rattle.ds2_same_meaning.specs.UnitsRun.{IsBuiltReading}
+use Rattle.ds2_same_meaning.specs.SameAnswer.{staged_code}
 use Rattle.ds2_same_meaning.specs.SameMeaning.{MeansSame}
 use Rattle.ds2_compile.specs.declared.compiling.Compiled.{Compiled}
-
--- code can be run alone over tables: it stands on no thread program
-pub record IsRunnable (code : StagedParts) : Type 0 where
-  pub stages : code.stages ≡ []
-  pub reading : IsBuiltReading code.program.reading
 
 -- a table of the store that code names is one of these names, and has the columns of that one
 abbrev pub HasStoreTable : List (List ℕ) → TableColumns → TableReference → Type 0
 HasStoreTable names tables reference = (reference.maker == 0) ≡ true → IsTrue (is_listed names reference.name) × (reference.columns ≡ tables reference.name)
 
--- the code of a program over tables of the store with these names and columns: it means the same, it can be run, and it names no other
--- tables of the store
+-- the code of a program over tables of the store with these names and columns: it is that of the definitions and means the same, and it names
+-- no other tables of the store
 pub record IsCompiledProgram (names : List (List ℕ)) (tables : TableColumns) (p : ProgramTree) (code : StagedParts) : Type 0 where
+  pub written : code ≡ staged_code p
   pub same : MeansSame p code
-  pub runs : IsRunnable code
   pub reads : AllByRecursion (HasStoreTable names tables) (program_references code.program code.stages)
 
 -- the codes of programs, one for each, in order

@@ -17,7 +17,6 @@ pub use Rattle.ds2_names.specs.declared.schemas.NamedSchema
 pub use Rattle.ds2_same_meaning.specs.CodeTables
 pub use Rattle.ds2_same_meaning.specs.SameAnswer
 pub use Rattle.ds2_same_meaning.specs.SameMeaning
-pub use Rattle.ds2_same_meaning.specs.UnitsRun
 pub use Rattle.ds2_source.specs.Answers
 pub use Rattle.ds2_source.specs.AnswersOfTexts
 pub use Rattle.ds2_source.specs.BuiltSources

@@ -7,7 +7,6 @@ ghost use Rattle.ds2_names.specs.SourceUnit.{columns_stored};
 ghost use Rattle.ds2_code.specs.ValidCode.{IsValidStaged};
 ghost use Rattle.ds2_object.specs.ObjectSpelling.{linked_behind, object_linked};
 ghost use Rattle.ds2_same_meaning.specs.SameAnswer.{staged_code};
-ghost use Rattle.ds2_source.specs.BuiltSources.{IsDataSource};
 ghost use Rattle.ds2_source.specs.SourceTexts.{StandsInText};
 ghost use Rattle.ds2_compile.specs.CodesOfPrograms.{AreCodesOf};
 ghost use Rattle.ds2_compile.specs.CompiledSources.{IsCompiled};
@@ -19,10 +18,11 @@ use ds2_generate::generate;
 use ds2_meaning::TypedData;
 use ds2_names::Schemas;
 use ds2_object::ObjectCode;
+use ds2_same_meaning::instances::read_instances;
 use ds2_same_meaning::laws::{outputs_have_slots, typed_programs_mean_same};
 use ds2_source::SourceRefusal;
 use ds2_tree::Source;
-use ds2_typed_source::typed_programs;
+use ds2_typed_source::typed_source;
 use ds2_valid_code::ProgramCode;
 use std::alloc::Global;
 
@@ -71,18 +71,18 @@ fn object_of(codes: List<ProgramCode>) -> Result<ObjectCode, OutOfMemory>
     }
 }
 
-/// The object of a source of data programs without instances, over the columns of tables of the store, or its first refusal: of the first
-/// program that breaks a rule, that of the rules of names where it breaks one, else that of the rules of types.
+/// The object of a source, over the columns of tables of the store, or its first refusal: of the first unit that breaks a rule, that of the
+/// rules of names where it breaks one, else that of the rules of types.
 ///
-/// The code of each program means the same as the program: over any tables and with every budget both leave the same tables and lines and
-/// end alike. Each table that it reads is one of the store, or an earlier program makes it, with its columns. Wants memory too where a
-/// program passes a limit of code, such as numbers of 32 bits.
+/// The code of each data program, with that of the thread program that it reads from, means the same as the program: over any tables and with
+/// every budget both leave the same tables and lines and end alike. Each table that it reads, also by a hash object of one of its instances,
+/// is one of the store, or an earlier program makes it, with its columns. Wants memory too where a program passes a limit of code, such as
+/// numbers of 32 bits, or a second thread program behind the one that it reads from.
 pub fn compile(
     alloc: Global,
     source: &Source,
     schemas: &Schemas,
 ) -> Result<Compiled, Stop<SourceRefusal>>
-    requires domain { IsDataSource (source_tree source.now) }
     requires text { StandsInText (source_tree source.now) }
     ensures { IsCompiled (columns_stored schemas.now.tables) (source_tree source.now) result }
 {
@@ -90,9 +90,11 @@ pub fn compile(
     every_text_is_typed();
     typed_programs_mean_same();
     outputs_have_slots();
-    match typed_programs(alloc, source, schemas) {
-        Ok(programs) => {
-            let codes = program_codes(alloc, programs.as_slice())?;
+    match typed_source(alloc, source, schemas) {
+        Ok(typed) => {
+            let all = typed.programs.as_slice();
+            read_instances(all);
+            let codes = program_codes(alloc, all)?;
             Ok(Compiled {
                 object: object_of(codes)?,
             })

@@ -3,11 +3,12 @@ use Rattle.std.proofs.Common.{◌≡◌, ℕ, ◌+◌, ◌<◌, ◌≤◌, Bool,
 use Rattle.std.proofs.lemmas.List.{at_drop_more, at_drop_all}
 use Rattle.ds2_base.specs.declared.place.Place.{Place}
 use Rattle.ds2_tree.specs.declared.readings.Input.{Input}
+use Rattle.ds2_value.specs.Row.{Columns}
 use Rattle.ds2_value.specs.declared.ty.Ty.{Ty}
 use Rattle.ds2_names.specs.NameRules.{from_each}
 use Rattle.ds2_names.specs.SourceUnit.{TableColumns, PlacedName, spelled_name}
 use Rattle.ds2_elaboration.specs.SourceTypes.{ColumnTyping, Absent, Joined, Clashed, type_of_column, with_table, joined_over, clash_at_table, clashing_table}
-use Rattle.ds2_declared_types.specs.Joins.{is_clash, places_in, unjoined_over}
+use Rattle.ds2_declared_types.specs.Joins.{is_clash, places_in, typing_of_rows, clash_at_rows, clashes_over}
 
 -- a rule is broken here where none was before
 pub clash_here : (place : Place) (before behind : ColumnTyping) (result : Bool) → is_clash before ≡ false → result ≡ is_clash behind
@@ -40,7 +41,7 @@ module _ (tables : TableColumns) (declared : Option Ty) (name : List ℕ) where
   no_table_left inputs k typing l = at_drop_all (joined_over tables declared name typing) inputs k l
 
   -- behind a broken rule no other one is
-  none_behind : (inputs : List Input) → clashing_table tables declared name Clashed inputs ≡ []
+  pub none_behind : (inputs : List Input) → clashing_table tables declared name Clashed inputs ≡ []
   none_behind [] = refl
   none_behind (i ∷ inputs) = by (type_of_column name (tables (spelled_name i.table))) (none_behind inputs)
     where
@@ -87,3 +88,33 @@ module _ (tables : TableColumns) (declared : Option Ty) (name : List ℕ) where
 
   pub no_clash_left : (inputs : List Input) (k : ℕ) (typing : ColumnTyping) → length inputs ≤ k → clashing_table tables declared name typing (drop k inputs) ≡ []
   no_clash_left inputs k typing l = at_drop_all (clashing_table tables declared name typing) inputs k l
+
+-- ---- rows of a thread program before tables
+
+places_after : (stage : Option Place) (typing : ColumnTyping) (place : Place) (rest : List Place) → places_in (Some place) ≡ clash_at_rows stage typing → (is_clash typing ≡ true → rest ≡ [])
+    → places_in (Some place) ≡ clash_at_rows stage typing ++ rest
+places_after None typing place rest e h = absurd (cc e)
+places_after (Some p) Absent place rest e h = absurd (cc e)
+places_after (Some p) (Joined ty) place rest e h = absurd (cc e)
+places_after (Some p) Clashed place rest e h = e ∙ sym (ap (λ (l : List Place). (p ∷ []) ++ l) (h refl))
+
+clashed_is : (typing : ColumnTyping) → is_clash typing ≡ true → typing ≡ Clashed
+clashed_is Absent e = absurd (cc e)
+clashed_is (Joined ty) e = absurd (cc e)
+clashed_is Clashed e = refl
+
+module _ (tables : TableColumns) (inputs : List Input) (stage : Option Place) (rows : Columns) (declared : Option Ty) (name : List ℕ) where
+  -- the rows clash
+  pub rows_clash : (found : Option Place) (place : Place) → found ≡ Some place → places_in found ≡ clash_at_rows stage (typing_of_rows rows declared name)
+      → places_in (Some place) ≡ clashes_over tables inputs stage rows declared name
+  rows_clash found place e h =
+      places_after stage (typing_of_rows rows declared name) place (clashing_table tables declared name (typing_of_rows rows declared name) inputs)
+      (ap places_in (sym e) ∙ h)
+      (λ k. ap (λ (t : ColumnTyping). clashing_table tables declared name t inputs) (clashed_is (typing_of_rows rows declared name) k) ∙ none_behind tables declared name inputs)
+
+  -- they do not, so that it is the tables
+  pub tables_clash : (found : Option Place) (begun : ColumnTyping) → found ≡ None → places_in found ≡ clash_at_rows stage (typing_of_rows rows declared name)
+      → begun ≡ typing_of_rows rows declared name → clashing_table tables declared name begun inputs ≡ clashes_over tables inputs stage rows declared name
+  tables_clash found begun e h b =
+      ap (λ (t : ColumnTyping). clashing_table tables declared name t inputs) b
+      ∙ ap (λ (l : List Place). l ++ clashing_table tables declared name (typing_of_rows rows declared name) inputs) (ap places_in (sym e) ∙ h)

@@ -1,3 +1,4 @@
 pub mod NameForms
 pub mod VariableForms
 pub mod ColumnForms
+pub mod UnitReadings

@@ -1,3 +1,4 @@
 -- What the code holds of declared variables and of columns.
 pub mod Numbers
 pub mod Joins
+pub mod UnitReading

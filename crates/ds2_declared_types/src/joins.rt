@@ -2,8 +2,9 @@
 ghost use Rattle.std.specs.Prelude.{◌≡◌, ◌∷◌, [], if◌then◌else◌};
 ghost use Rattle.ds2_base.specs.declared.place.Place.{Place as PlaceOf};
 ghost use Rattle.ds2_elaboration.specs.SourceTypes.{type_of_column, is_joined_to, agrees_with_declared, agreed, with_table, clash_at_table, joined_type};
-ghost use Rattle.ds2_declared_types.specs.Joins.{column_typing_of, is_clash};
+ghost use Rattle.ds2_declared_types.specs.Joins.{clash_at_rows, column_typing_of, is_clash, places_in, typing_of_rows};
 
+use ds2_base::Place;
 use ds2_types::rules::is_one;
 use ds2_value::{Column, Ty, join_types};
 
@@ -42,7 +43,7 @@ fn is_joined_to(ty: Ty, joined: Option<Ty>) -> bool
 
 /// Whether a declared variable of a column's name has the type that it and the column join to; where none is declared any type
 /// will do.
-fn agrees(declared: Option<Ty>, ty: Ty) -> bool
+pub fn agrees(declared: Option<Ty>, ty: Ty) -> bool
     ensures { result ≡ agrees_with_declared declared ty }
 {
     match declared {
@@ -100,6 +101,26 @@ fn is_clash(typing: ColumnTyping) -> bool
         ColumnTyping::Absent => false,
         ColumnTyping::Joined(_) => false,
         ColumnTyping::Clashed => true,
+    }
+}
+
+/// What is known of the type of a column before the tables: what the rows of a thread program with these columns give.
+pub fn typing_of_rows(rows: &[Column], declared: Option<Ty>, name: &[u8]) -> ColumnTyping
+    ensures { column_typing_of result ≡ typing_of_rows rows.now declared name.now }
+{
+    with_table(declared, ColumnTyping::Absent, type_of_column(rows, name))
+}
+
+/// The place of the instance behind `set from`, where its rows do not join with a declared variable.
+pub fn clash_at_rows(stage: Option<Place>, typing: ColumnTyping) -> Option<Place>
+    ensures { places_in result ≡ clash_at_rows stage (column_typing_of typing) }
+{
+    match stage {
+        None => None,
+        Some(place) => {
+            let clashes = clashes_here(ColumnTyping::Absent, typing);
+            if clashes { Some(place) } else { None }
+        }
     }
 }
 

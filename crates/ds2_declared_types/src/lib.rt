@@ -1,8 +1,8 @@
-//! The types of what the source of a data program names: declared variables, parameters and locals, and the columns of its reading
-//! statement, which are joined over its tables.
+//! The types of what the source of a unit names: declared variables, parameters and locals, and the columns of its reading statement,
+//! which are joined over its tables or are those of a thread program.
 //!
 //! What they are is defined in `ds2_elaboration` (`SourceTypes`). [`variables`] has variables, parameters and locals with their types,
-//! [`columns`] the types that the tables of a column join to, and the tables at which they do not.
+//! [`columns`] the types that the columns of a unit are read as, and the places at which they do not join.
 #![tactic(auto)]
 
 pub mod columns;

@@ -147,8 +147,8 @@ fn parameter_variable(alloc: Global, p: &Parameter) -> Result<Variable, OutOfMem
     variable(alloc, ty, &p.name)
 }
 
-/// Parameters as variables.
-fn parameter_variables(
+/// The parameters of a thread program or of a method as variables, with their types.
+pub fn parameter_variables(
     alloc: Global,
     parameters: &[Parameter],
 ) -> Result<List<Variable>, OutOfMemory>

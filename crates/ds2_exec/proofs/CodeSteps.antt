@@ -369,9 +369,8 @@ pub built_alone : (codes' : List StagedParts) → list_all is_built_code codes' 
 built_alone [] h = tt
 built_alone (code ∷ codes') h =
     let k = both_hold (is_built_code code) (list_all is_built_code codes') h in
-    let one = both_hold (length code.program.hashes == 0) ((length code.stages == 0) && is_built_code_reading code.program.reading) k.0 in
-    let two = both_hold (length code.stages == 0) (is_built_code_reading code.program.reading) one.1 in
-    (record { stages = none_there code.stages two.0; reading = reading_runs code.program.reading two.1 }, built_alone codes' k.1)
+    let one = both_hold (length code.stages == 0) (is_built_code_reading code.program.reading) k.0 in
+    (record { stages = none_there code.stages one.0; reading = reading_runs code.program.reading one.1 }, built_alone codes' k.1)
 
 -- ---- tables of which rows are kept
 

@@ -42,17 +42,15 @@ fn is_built_reading(reading: &ReadingPart) -> bool
     }
 }
 
-// Whether a program has no hash object and no thread program.
+// Whether a program reads from no thread program.
 fn is_built_code(code: &ProgramCode) -> bool
     ensures { result ≡ is_built_code code.now }
 {
     let parts = code.parts();
-    parts.program.hashes.is_empty()
-        && parts.stages.is_empty()
-        && is_built_reading(&parts.program.reading)
+    parts.stages.is_empty() && is_built_reading(&parts.program.reading)
 }
 
-/// Whether an object is of a form that is built so far: no program has a hash object or a thread program.
+/// Whether an object is of a form that is built so far: no program reads from a thread program.
 pub fn is_built_object(object: &ObjectCode) -> bool
     ensures { result ≡ list_all is_built_code object.now }
 {

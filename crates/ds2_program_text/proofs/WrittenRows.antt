@@ -1,23 +1,15 @@
--- Tables that take rows as text, and the tables of all outputs.
-use Rattle.std.proofs.Common.{◌≡◌, ℕ, ◌+◌, List, [], ◌∷◌, ◌++◌, length, length-append, map, refl, sym, ap, ◌∙◌, arith}
+-- Tables that take rows as text.
+use Rattle.std.proofs.Common.{◌≡◌, ℕ, ◌+◌, List, [], ◌∷◌, ◌++◌, length, length-append, sym, ap, ◌∙◌, arith}
 use Rattle.csv.specs.Writing.{default_writer, row_text}
 use Rattle.ds2_value.specs.Row.{Row}
-use Rattle.ds2_value.specs.Run.{Written}
-use Rattle.ds2_code.specs.declared.parts.OutputPart.{OutputPart}
-use Rattle.ds2_code.specs.declared.parts.Slot.{Slot}
 use Rattle.ds2_csv.specs.Text.{cells_text, text}
 use Rattle.ds2_csv.proofs.Writing.{text_after}
-use Rattle.ds2_unit.specs.Outputs.{HaveRows, tables_from}
-use Rattle.ds2_same_meaning.specs.SameMeaning.{tables_of_outputs}
-use Rattle.ds2_program_text.specs.OutputHeads.{table_without_rows}
-use Rattle.ds2_program_text.specs.ProgramTexts.{written_table, made_as_text}
+use Rattle.ds2_program_text.specs.ProgramTexts.{written_table}
 use Rattle.ds2_program_text.specs.declared.written_table.WrittenTable.{WrittenTable}
 
 -- a table has taken these rows
 abbrev pub HasWritten : WrittenTable → WrittenTable → List Row → Type 0
 HasWritten from now rows = now ≡ written_table from.name from.overwrites (record { columns = from.columns; rows = rows })
-
--- ---- one row
 
 pub row_written : (from before : WrittenTable) (grown : List ℕ) (counted : ℕ) (so_far : List Row) (row : Row)
     → grown ≡ before.text ++ row_text default_writer (cells_text before.columns row) → counted ≡ before.rows + 1 → HasWritten from before so_far
@@ -28,17 +20,3 @@ row_written from before grown counted so_far row longer more taken =
     let one_more : length so_far + 1 ≡ length (so_far ++ row ∷ []) = omega (arith, length-append so_far (row ∷ [])) in
     let rows_is : counted ≡ length (so_far ++ row ∷ []) = more ∙ ap (λ (t : WrittenTable). t.rows + 1) taken ∙ one_more in
     λ i. record { name = (taken i).name; overwrites = (taken i).overwrites; columns = (taken i).columns; text = text_is i; rows = rows_is i }
-
--- ---- all outputs
-
-module _ (slots : List Slot) where
-  pub nothing_written : (number : ℕ) (outputs : List OutputPart) → HaveRows HasWritten [] number (map (table_without_rows slots) outputs) (map (table_without_rows slots) outputs)
-  nothing_written number [] = tt
-  nothing_written number (output ∷ outputs) = (refl, nothing_written (number + 1) outputs)
-
-  pub all_written : (number : ℕ) (outputs : List OutputPart) (written : List Written) (nows : List WrittenTable)
-      → HaveRows HasWritten written number (map (table_without_rows slots) outputs) nows → nows ≡ map made_as_text (tables_of_outputs outputs (tables_from slots number outputs written))
-  all_written number [] written [] h = refl
-  all_written number [] written (now ∷ nows) h = absurd h
-  all_written number (output ∷ outputs) written [] h = absurd h
-  all_written number (output ∷ outputs) written (now ∷ nows) h = λ i. h.0 i ∷ all_written (number + 1) outputs written nows h.1 i

@@ -71,20 +71,3 @@ pub fn table_without_rows(
         rows: 0,
     })
 }
-
-/// The table of each output, without rows.
-pub(crate) fn tables_without_rows(
-    alloc: Global,
-    slots: &[Slot],
-    outputs: &[OutputPart],
-) -> Result<List<WrittenTable>, OutOfMemory>
-    ensures { IfOk result (λ tables. tables ≡ map (table_without_rows slots.now) outputs.now) }
-{
-    let mut tables = List::new(alloc);
-    let mut rest = outputs;
-    'outputs: while let [first, after @ ..] = rest {
-        tables.push(table_without_rows(alloc, slots, first)?)?;
-        rest = after;
-    }
-    Ok(tables)
-}

@@ -9,15 +9,13 @@ use Rattle.ds2_meaning.specs.declared.refusals.TypeKind.TheVariants.{TypeClash}
 use Rattle.ds2_names.specs.NameRules.{from_each}
 use Rattle.ds2_names.specs.Refusals.{broken_at}
 use Rattle.ds2_names.specs.SourceUnit.{TableColumns, PlacedName, UnitSource}
-use Rattle.ds2_tree.specs.declared.readings.Input.{Input}
 use Rattle.ds2_meaning.specs.IsTyped.{type_in}
 use Rattle.ds2_meaning.specs.declared.globals.Variable.{Variable}
-use Rattle.ds2_elaboration.specs.SourceTypes.{Absent, clashing_table, clashing_tables, program_inputs, program_variables, unit_names}
+use Rattle.ds2_elaboration.specs.SourceTypes.{clashing_at, clashing_tables, program_variables, unit_names}
 use Rattle.ds2_types.specs.Judgements.{first_type_refusal, lesser_refusal}
 use Rattle.ds2_types.proofs.RefusalOrder.{least_append}
 use Rattle.ds2_program_types.specs.MethodRules.{column_rules}
 use Rattle.ds2_program_types.proofs.RuleLists.{given_of}
-use Rattle.ds2_program_types.proofs.PlainUnits.{clashes_told}
 
 broken_append : (xs ys : List Place) → broken_at TypeClash (xs ++ ys) ≡ broken_at TypeClash xs ++ broken_at TypeClash ys
 broken_append [] ys = refl
@@ -38,27 +36,24 @@ broken_both {S} {T} of_declared of_others xs ys =
     ∙ ap (λ (l : TypeRefusals). l ++ broken_at TypeClash (from_each of_others ys)) (broken_each of_declared xs)
     ∙ ap (λ (l : TypeRefusals). from_each (λ (x : S). broken_at TypeClash (of_declared x)) xs ++ l) (broken_each of_others ys)
 
-module _ (tables : TableColumns) (before : UnitsBefore) (u : UnitSource) (e : (unit_names tables before u).instances ≡ []) where
+module _ (tables : TableColumns) (before : UnitsBefore) (u : UnitSource) where
   -- the places at which columns break rules
-  abbrev pub clashes_of : List Variable → List PlacedName → List Input → List Place
-  clashes_of declared columns inputs =
-      from_each (λ (v : Variable). clashing_table tables (type_in declared v.name) v.name Absent inputs) declared
-      ++ from_each (λ (n : PlacedName). clashing_table tables (type_in declared n.name) n.name Absent inputs) columns
+  abbrev pub clashes_of : List Variable → List PlacedName → List Place
+  clashes_of declared columns =
+      from_each (λ (v : Variable). clashing_at tables before u (type_in declared v.name) v.name) declared
+      ++ from_each (λ (n : PlacedName). clashing_at tables before u (type_in declared n.name) n.name) columns
 
   -- the broken rule that is given of columns
-  pub columns_ruled : (declared : List Variable) (columns : List PlacedName) (inputs : List Input) (first second result : Option (Refusal TypeKind)) → declared ≡ program_variables u
-      → columns ≡ (unit_names tables before u).columns → inputs ≡ program_inputs tables before u → first ≡ given_of (λ (v : Variable). column_rules tables inputs declared v.name) declared
-      → second ≡ given_of (λ (n : PlacedName). column_rules tables inputs declared n.name) columns → result ≡ lesser_refusal first second
+  pub columns_ruled : (declared : List Variable) (columns : List PlacedName) (first second result : Option (Refusal TypeKind)) → declared ≡ program_variables u
+      → columns ≡ (unit_names tables before u).columns → first ≡ given_of (λ (v : Variable). column_rules tables before u declared v.name) declared
+      → second ≡ given_of (λ (n : PlacedName). column_rules tables before u declared n.name) columns → result ≡ lesser_refusal first second
       → result ≡ first_type_refusal (broken_at TypeClash (clashing_tables tables before u))
-  columns_ruled declared columns inputs first second result d k i f s r =
-      r ∙ ap (λ (o : Option (Refusal TypeKind)). lesser_refusal o second) f ∙ ap (lesser_refusal (given_of (λ (v : Variable). column_rules tables inputs declared v.name) declared)) s
+  columns_ruled declared columns first second result d k f s r =
+      r ∙ ap (λ (o : Option (Refusal TypeKind)). lesser_refusal o second) f ∙ ap (lesser_refusal (given_of (λ (v : Variable). column_rules tables before u declared v.name) declared)) s
       ∙ sym
-      (least_append (from_each (λ (v : Variable). column_rules tables inputs declared v.name) declared) (from_each (λ (n : PlacedName). column_rules tables inputs declared n.name) columns))
+      (least_append (from_each (λ (v : Variable). column_rules tables before u declared v.name) declared) (from_each (λ (n : PlacedName). column_rules tables before u declared n.name) columns))
       ∙ sym
       (ap first_type_refusal
-      (broken_both (λ (v : Variable). clashing_table tables (type_in declared v.name) v.name Absent inputs)
-      (λ (n : PlacedName). clashing_table tables (type_in declared n.name) n.name Absent inputs) declared columns))
-      ∙ ap (λ (vs : List Variable). first_type_refusal (broken_at TypeClash (clashes_of vs columns inputs))) d
-      ∙ ap (λ (ns : List PlacedName). first_type_refusal (broken_at TypeClash (clashes_of (program_variables u) ns inputs))) k
-      ∙ ap (λ (is : List Input). first_type_refusal (broken_at TypeClash (clashes_of (program_variables u) (unit_names tables before u).columns is))) i
-      ∙ ap (λ (l : List Place). first_type_refusal (broken_at TypeClash l)) (sym (clashes_told tables before u e))
+      (broken_both (λ (v : Variable). clashing_at tables before u (type_in declared v.name) v.name) (λ (n : PlacedName). clashing_at tables before u (type_in declared n.name) n.name) declared columns))
+      ∙ ap (λ (vs : List Variable). first_type_refusal (broken_at TypeClash (clashes_of vs columns))) d
+      ∙ ap (λ (ns : List PlacedName). first_type_refusal (broken_at TypeClash (clashes_of (program_variables u) ns))) k

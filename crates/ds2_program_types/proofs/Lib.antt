@@ -3,13 +3,12 @@ pub mod ColumnRules
 pub mod MethodForms
 pub mod MethodLists
 pub mod ColumnLists
-pub mod RetainedForms
 pub mod SystemForms
 pub mod RuleLists
 pub mod NameColumns
-pub mod NamesBehind
-pub mod PlainUnits
+pub mod UnitReadings
+pub mod ObjectForms
 pub mod UnitForms
 pub mod BodyForms
 pub mod PartForms
-pub mod OutputColumns
+pub mod TreeForms

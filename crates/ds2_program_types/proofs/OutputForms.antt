@@ -4,11 +4,10 @@ use Rattle.std.specs.Prelude.{not, codes, position}
 use Rattle.std.specs.List.{position_from}
 use Rattle.std.specs.Option.{option_or}
 use Rattle.std.proofs.lemmas.Iterator.Adapters.{position_from-zero}
-use Rattle.std.proofs.lemmas.List.{append-nil, map-append}
 use Rattle.ds2_tree.specs.declared.units.OutputTable.{OutputTable}
 use Rattle.ds2_names.specs.SourceUnit.{spelled_name}
 use Rattle.ds2_scope.proofs.TableLemmas.{or_none}
-use Rattle.ds2_program_types.specs.MadeOutputs.{made_among, names_made, made_if, number_behind_output, number_if_made}
+use Rattle.ds2_program_types.specs.MadeOutputs.{names_made, made_if, number_behind_output, number_if_made}
 
 -- the number of the first of these names that is this one, from a number on
 abbrev pub number_from : ℕ → List (List ℕ) → List ℕ → Option ℕ
@@ -59,32 +58,9 @@ one_more_counted number next o outputs e = by (bytes_eq (spelled_name o.table) (
     by true f = ap (λ (n : ℕ). n + length (names_made outputs)) f
     by false f = omega (arith, f)
 
--- the outputs that are made among some, and one before them
-pub made_first : (o : OutputTable) (outputs : List OutputTable) → made_among (o ∷ outputs) ≡ made_among (o ∷ []) ++ made_among outputs
-made_first o outputs = by (not (bytes_eq (spelled_name o.table) (codes "_null_")))
-  where
-    by : (b : Bool) → (if b then o ∷ made_among outputs else made_among outputs) ≡ (if b then o ∷ [] else []) ++ made_among outputs
-    by true = refl
-    by false = refl
-
--- one output more, made of one by one
-pub made_more : {A : Type 0} (form : OutputTable → A) (o : OutputTable) (outputs : List OutputTable)
-    → map form (made_among (o ∷ outputs)) ≡ map form (made_among (o ∷ [])) ++ map form (made_among outputs)
-made_more form o outputs = ap (map form) (made_first o outputs) ∙ map-append form (made_among (o ∷ [])) (made_among outputs)
-
 -- the numbers of all outputs
 pub numbers_whole : (x : Option ℕ) (count : ℕ) (left outputs : List OutputTable) (name : List ℕ) → left ≡ []
     → option_or x (number_from count (names_made left) name) ≡ number_from 0 (names_made outputs) name → x ≡ position (λ output. bytes_eq output name) (names_made outputs)
 numbers_whole x count left outputs name e h =
     sym (or_none x) ∙ sym (ap (λ (l : List OutputTable). option_or x (number_from count (names_made l) name)) e) ∙ h
     ∙ sym (position_from-zero (λ (output : List ℕ). bytes_eq output name) (names_made outputs))
-
--- an output that is not made, pushed behind others
-pub pushed_none : {A : Type 0} (form : OutputTable → A) (o : OutputTable) (old : List A) → bytes_eq (spelled_name o.table) (codes "_null_") ≡ true
-    → old ≡ old ++ map form (made_among (o ∷ []))
-pushed_none {A} form o old e = sym (append-nil old) ∙ ap (λ (b : Bool). old ++ map form (if not b then o ∷ [] else [])) (sym e)
-
--- and one that is
-pub pushed_one : {A : Type 0} (form : OutputTable → A) (o : OutputTable) (old new : List A) (own : A) → bytes_eq (spelled_name o.table) (codes "_null_") ≡ false
-    → own ≡ form o → new ≡ old ++ own ∷ [] → new ≡ old ++ map form (made_among (o ∷ []))
-pushed_one {A} form o old new own e k n = n ∙ ap (λ (x : A). old ++ x ∷ []) k ∙ ap (λ (b : Bool). old ++ map form (if not b then o ∷ [] else [])) (sym e)

@@ -1,13 +1,10 @@
 -- The outputs that a program makes, by their names.
-use Rattle.std.specs.Prelude.{◌≡◌, ℕ, ◌+◌, nat_eq, bytes_eq, codes, if◌then◌else◌, not, List, filter, map, position, Option, Some, None}
+use Rattle.std.specs.Prelude.{◌≡◌, ℕ, ◌+◌, nat_eq, bytes_eq, codes, if◌then◌else◌, List, map, position, Option, Some, None}
 use Rattle.std.specs.Cmp.Lexicographic.{pointwise}
 use Rattle.std.specs.HashMap.{HashMap, get}
 use Rattle.ds2_tree.specs.declared.units.OutputTable.{OutputTable}
 use Rattle.ds2_names.specs.SourceUnit.{spelled_name}
-
--- those of these outputs that are made; `_null_` is none
-abbrev pub made_among : List OutputTable → List OutputTable
-made_among outputs = filter (λ (o : OutputTable). not (bytes_eq (spelled_name o.table) (codes "_null_"))) outputs
+use Rattle.ds2_unit_parts.specs.TypedOutputs.{made_among}
 
 -- the names of those that are made
 abbrev pub names_made : List OutputTable → List (List ℕ)

@@ -6,10 +6,14 @@ use Rattle.ds2_base.specs.declared.place.Place.{Place}
 use Rattle.ds2_tree.specs.Globals.{Method}
 use Rattle.ds2_meaning.specs.View.{typed_method, system_tree}
 use Rattle.ds2_meaning.specs.declared.methods.SystemMethod.{SystemMethod}
-use Rattle.ds2_names.specs.SourceUnit.{TableColumns, UnitSource}
+use Rattle.ds2_names.specs.SourceUnit.{TableColumns, UnitSource, source_methods}
 use Rattle.ds2_names.specs.Uses.{method_named}
 use Rattle.ds2_elaboration.specs.ExpressionTypes.{callable_methods}
-use Rattle.ds2_elaboration.specs.ProgramTypes.{method_tree_of, body_of_method}
+use Rattle.ds2_elaboration.specs.ProgramTypes.{method_tree_of, body_of_method, scope_of_declarations}
+use Rattle.ds2_elaboration.specs.SourceTypes.{unit_names}
+use Rattle.ds2_instance_types.specs.TypedInstanceLists.{AreInstancesOf}
+use Rattle.ds2_instance_types.specs.declared.instances.TypedInstances.{TypedInstances}
+use Rattle.ds2_statement_types.specs.declared.parts.Both.{Both}
 use Rattle.ds2_program_types.specs.declared.methods.TypedMethods.{TypedMethods}
 
 -- the place that a system method keeps, where there is one
@@ -35,3 +39,9 @@ pub record AreMethodsOf (tables : TableColumns) (before : UnitsBefore) (u : Unit
   pub init : IsSystem tables before u methods (codes "init") t.init
   pub run : IsSystem tables before u methods (codes "run") t.run
   pub term : IsSystem tables before u methods (codes "term") t.term
+
+-- the instances of a program, and its methods, typed
+abbrev pub AreInstancesAndMethods : TableColumns → UnitsBefore → UnitSource → Both TypedInstances TypedMethods → Type 0
+AreInstancesAndMethods tables before u both =
+    AreInstancesOf tables before (scope_of_declarations tables before u) (unit_names tables before u).instances both.first
+    × AreMethodsOf tables before u (source_methods u.globals) both.second

@@ -1,84 +1,148 @@
-//! What a data program becomes: a typed program, or the refusal of its types.
-ghost use Rattle.std.specs.Prelude.{◌≡◌, [], IfOk, map};
+//! What a package, a thread program or a data program becomes: a typed unit, or the refusal of its types.
+ghost use Rattle.std.specs.Prelude.{◌≡◌, IfOk, Some};
+ghost use Rattle.std.specs.Option.{option_map};
 ghost use Rattle.ds2_elaboration.specs.ProgramTypes.{broken_type_rules};
-ghost use Rattle.ds2_elaboration.specs.SourceTypes.{program_variables, unit_names};
+ghost use Rattle.ds2_elaboration.specs.SourceTypes.{unit_names};
 ghost use Rattle.ds2_elaboration.specs.UnitsBefore.{UnitsBefore};
-ghost use Rattle.ds2_names.specs.SourceUnit.{columns_stored, source_instances, source_methods, unit_of_data};
-ghost use Rattle.ds2_program_types.specs.TypedMethodLists.{AreMethodsOf};
-ghost use Rattle.ds2_program_types.specs.TypedPrograms.{IsTypedData};
+ghost use Rattle.ds2_known_types.specs.TypesKnown.{TellsTypes};
+ghost use Rattle.ds2_meaning.specs.View.{over_stage, typed_thread_program, unboxed, unit_tree};
+ghost use Rattle.ds2_meaning.specs.declared.units.TypedThread.{out-TypedThread};
+ghost use Rattle.ds2_names.specs.SourceUnit.{TableColumns, columns_stored, unit_of_data, unit_of_package, unit_of_thread};
+ghost use Rattle.ds2_program_types.specs.ThreadHeads.{IsHeadOf};
+ghost use Rattle.ds2_program_types.specs.TypedPrograms.{IsStagedProgram, IsTypedData, IsTypedPackage, IsTypedThread};
 ghost use Rattle.ds2_scope.specs.UnitNames.{NamesAre};
-ghost use Rattle.ds2_tree.specs.UnitViews.{data_tree, global_tree};
+ghost use Rattle.ds2_tree.specs.UnitViews.{data_tree, package_tree, thread_tree};
+ghost use Rattle.ds2_tree.specs.Units.{Thread as ThreadSource};
 ghost use Rattle.ds2_types.specs.Judgements.{IsOutcome};
 
-use crate::column_clashes::of_columns;
-use crate::methods::{MethodsOutcome, typed_methods, under_rule};
-use crate::parts::typed_unit;
-use crate::unit_tables::{columns_among, unit_tables};
-use ds2_base::{OutOfMemory, Refusal};
-use ds2_declared_types::variables::program_variables;
-use ds2_meaning::{MentionedTable, TypeKind, TypedData, Variable};
-use ds2_names::{NamedSchema, PlacedName};
-use ds2_scope::{UnitNames, names_of_program};
-use ds2_tree::DataProgram;
+use crate::at_hand::{at_hand, unit_reading};
+use crate::packages::typed_package;
+use crate::programs::staged_program;
+use ds2_base::{List, Name, OutOfMemory, Refusal};
+use ds2_declared_types::names::name;
+use ds2_declared_types::variables::parameter_variables;
+use ds2_known_types::KnownTypes;
+use ds2_meaning::{
+    MentionedTable, Program, TypeKind, TypedData, TypedPackage, TypedThread, Variable,
+};
+use ds2_names::NamedSchema;
+use ds2_scope::{UnitNames, unit_of_data, unit_of_package, unit_of_thread};
+use ds2_tree::{DataProgram, Package, Thread};
 use std::alloc::Global;
 
 /// A typed data program, or the refusal of its types.
 pub type CheckOutcome = Result<TypedData, Refusal<TypeKind>>;
 
-/// The methods of a program with these names, or the refusal of its types.
-fn ruled_methods(
-    alloc: Global,
-    tables: &[NamedSchema],
-    program: &DataProgram,
-    names: &UnitNames,
-    declared: &[Variable],
-    columns: &[PlacedName],
-) -> Result<MethodsOutcome, OutOfMemory>
-    ensures { (before : UnitsBefore) → NamesAre names.now (unit_names (columns_stored tables.now) before (unit_of_data (data_tree program.now))) → declared.now ≡ program_variables (unit_of_data (data_tree program.now)) → columns.now ≡ (unit_names (columns_stored tables.now) before (unit_of_data (data_tree program.now))).columns → (unit_names (columns_stored tables.now) before (unit_of_data (data_tree program.now))).instances ≡ []
-        → IfOk result (IsOutcome (AreMethodsOf (columns_stored tables.now) before (unit_of_data (data_tree program.now)) (source_methods (data_tree program.now).globals)) (broken_type_rules (columns_stored tables.now) before (unit_of_data (data_tree program.now)))) }
-{
-    let clashes = of_columns(alloc, tables, program, declared, columns)?;
-    let unit = unit_tables(alloc, tables, program, names, columns)?;
-    let typed = typed_methods(alloc, &unit, program.globals.as_slice())?;
-    Ok(under_rule(clashes, typed))
-}
-
-/// What a data program with these names becomes.
-fn typed_data(
-    alloc: Global,
-    tables: &[NamedSchema],
-    made: &[MentionedTable],
-    program: &DataProgram,
-    names: &UnitNames,
-) -> Result<CheckOutcome, OutOfMemory>
-    ensures { (before : UnitsBefore) → before.names.made ≡ made.now → NamesAre names.now (unit_names (columns_stored tables.now) before (unit_of_data (data_tree program.now))) → (unit_names (columns_stored tables.now) before (unit_of_data (data_tree program.now))).instances ≡ []
-        → IfOk result (IsOutcome (IsTypedData (columns_stored tables.now) before (unit_of_data (data_tree program.now))) (broken_type_rules (columns_stored tables.now) before (unit_of_data (data_tree program.now)))) }
-{
-    let declared = program_variables(alloc, program.globals.as_slice())?;
-    let variables = declared.as_slice();
-    let columns = columns_among(names, declared.len());
-    let typed = ruled_methods(alloc, tables, program, names, variables, columns)?;
-    match typed {
-        Err(refusal) => Ok(Err(refusal)),
-        Ok(methods) => {
-            let all = names.variables.as_slice();
-            let d = typed_unit(alloc, tables, made, program, all, columns, methods)?;
-            Ok(Ok(d))
-        }
-    }
-}
-
-/// What a data program that declares no instances becomes, over the tables of the store and behind data programs that make these
-/// tables: a typed program, or the refusal of its types.
+/// What a data program of these names becomes, over the tables of the store, behind data programs that make these tables and behind packages
+/// and thread programs that are known: a typed program, or the refusal of its types.
 pub fn check(
     alloc: Global,
     tables: &[NamedSchema],
     made: &[MentionedTable],
+    names: &UnitNames,
+    known: &KnownTypes<'_>,
     program: &DataProgram,
 ) -> Result<CheckOutcome, OutOfMemory>
-    requires { source_instances (map global_tree program.now.globals) ≡ [] }
-    ensures { (before : UnitsBefore) → before.names.made ≡ made.now → IfOk result (IsOutcome (IsTypedData (columns_stored tables.now) before (unit_of_data (data_tree program.now))) (broken_type_rules (columns_stored tables.now) before (unit_of_data (data_tree program.now)))) }
+    ensures { (before : UnitsBefore) → before.names.made ≡ made.now → TellsTypes known.now before → NamesAre names.now (unit_names (columns_stored tables.now) before (unit_of_data (data_tree program.now)))
+        → IfOk result (IsOutcome (IsTypedData (columns_stored tables.now) before (unit_of_data (data_tree program.now))) (broken_type_rules (columns_stored tables.now) before (unit_of_data (data_tree program.now)))) }
 {
-    let names = names_of_program(alloc, tables, program)?;
-    typed_data(alloc, tables, made, program, &names)
+    let unit = unit_of_data(program);
+    let typed = staged_program(alloc, tables, made, names, known, unit)?;
+    Ok(typed)
+}
+
+/// What is read from, in a box.
+fn boxed(alloc: Global, stage: Option<TypedThread>) -> Result<Option<Box<TypedThread>>, OutOfMemory>
+    ensures { IfOk result (λ b. unboxed b ≡ stage) }
+{
+    match stage {
+        None => Ok(None),
+        Some(stage) => {
+            let own = Box::new(alloc, stage)?;
+            Ok(Some(own))
+        }
+    }
+}
+
+/// The name and the parameters of a thread program.
+#[derive(Drop)]
+pub struct ThreadHead {
+    pub name: Name,
+    pub parameters: List<Variable>,
+}
+
+/// The name and the parameters of a thread program.
+fn head_of(alloc: Global, unit: &Thread) -> Result<ThreadHead, OutOfMemory>
+    ensures { IfOk result (IsHeadOf (thread_tree unit.now)) }
+{
+    let own = unit_of_thread(unit);
+    let name = name(alloc, &unit.name)?;
+    let parameters = parameter_variables(alloc, own.parameters)?;
+    Ok(ThreadHead { name, parameters })
+}
+
+/// A thread program of these parts.
+fn with_head(head: ThreadHead, program: Program, stage: Option<Box<TypedThread>>) -> TypedThread
+    ensures tree { typed_thread_program result ≡ over_stage (unit_tree (Some head.name) head.parameters program) (option_map typed_thread_program (unboxed stage)) }
+    ensures program { (out-TypedThread result).program ≡ program }
+{
+    TypedThread {
+        name: head.name,
+        parameters: head.parameters,
+        program,
+        stage,
+    }
+}
+
+/// A thread program of what it becomes without its name and its parameters.
+fn thread_of(alloc: Global, head: ThreadHead, typed: TypedData) -> Result<TypedThread, OutOfMemory>
+    ensures { (tables : TableColumns) (before : UnitsBefore) (t : ThreadSource) → IsHeadOf t head → IsStagedProgram tables before (unit_of_thread t) typed
+        → IfOk result (IsTypedThread tables before (unit_of_thread t)) }
+{
+    let TypedData { program, stage } = typed;
+    let stage = boxed(alloc, stage)?;
+    Ok(with_head(head, program, stage))
+}
+
+/// What a thread program of these names becomes, as [`check`] says of a data program.
+pub fn check_thread(
+    alloc: Global,
+    tables: &[NamedSchema],
+    made: &[MentionedTable],
+    names: &UnitNames,
+    known: &KnownTypes<'_>,
+    unit: &Thread,
+) -> Result<Result<TypedThread, Refusal<TypeKind>>, OutOfMemory>
+    ensures { (before : UnitsBefore) → before.names.made ≡ made.now → TellsTypes known.now before → NamesAre names.now (unit_names (columns_stored tables.now) before (unit_of_thread (thread_tree unit.now)))
+        → IfOk result (IsOutcome (IsTypedThread (columns_stored tables.now) before (unit_of_thread (thread_tree unit.now))) (broken_type_rules (columns_stored tables.now) before (unit_of_thread (thread_tree unit.now)))) }
+{
+    let own = unit_of_thread(unit);
+    let typed = staged_program(alloc, tables, made, names, known, own)?;
+    match typed {
+        Err(refusal) => Ok(Err(refusal)),
+        Ok(program) => {
+            let head = head_of(alloc, unit)?;
+            let thread = thread_of(alloc, head, program)?;
+            Ok(Ok(thread))
+        }
+    }
+}
+
+/// What a package of these names becomes, as [`check`] says of a data program.
+pub fn check_package(
+    alloc: Global,
+    tables: &[NamedSchema],
+    made: &[MentionedTable],
+    names: &UnitNames,
+    known: &KnownTypes<'_>,
+    unit: &Package,
+) -> Result<Result<TypedPackage, Refusal<TypeKind>>, OutOfMemory>
+    ensures { (before : UnitsBefore) → before.names.made ≡ made.now → TellsTypes known.now before → NamesAre names.now (unit_names (columns_stored tables.now) before (unit_of_package (package_tree unit.now)))
+        → IfOk result (IsOutcome (IsTypedPackage (columns_stored tables.now) before unit.now) (broken_type_rules (columns_stored tables.now) before (unit_of_package (package_tree unit.now)))) }
+{
+    let own = unit_of_package(unit);
+    let read = unit_reading(alloc, known, own)?;
+    let hand = at_hand(tables, names, own, &read);
+    let typed = typed_package(alloc, made, known, hand, unit)?;
+    Ok(typed)
 }

@@ -1,4 +1,4 @@
-//! The methods of a program, typed.
+//! The methods of a data program or a thread program, typed.
 ghost use Rattle.std.specs.Prelude.{◌≡◌, ◌++◌, ◌∷◌, [], true, false, List as Items, Some, IfOk, map};
 ghost use Rattle.std.specs.Option.{option_or};
 ghost use Rattle.ds2_elaboration.specs.UnitsBefore.{UnitsBefore};

@@ -1,18 +1,22 @@
-//! The numbers of the outputs that a program makes.
-ghost use Rattle.std.specs.Prelude.{◌≡◌, ◌+◌, ℕ, List as Items, IfOk, OnOk, Some, length, nat_eq};
+//! The numbers of the outputs that a unit makes.
+ghost use Rattle.std.specs.Prelude.{◌≡◌, ◌+◌, ◌∷◌, [], ℕ, List as Items, IfOk, OnOk, Some, length, nat_eq};
 ghost use Rattle.std.specs.Cmp.Lexicographic.{pointwise};
 ghost use Rattle.std.specs.HashMap.{get};
 ghost use Rattle.std.specs.Option.{option_or};
+ghost use Rattle.ds2_elaboration.specs.ProgramTypes.{made_names};
+ghost use Rattle.ds2_names.specs.SourceUnit.{spelled_name, OfThread};
 ghost use Rattle.ds2_program_types.specs.MadeOutputs.{made_if, number_behind_output, number_if_made, names_made, HasNumbers};
+ghost use Rattle.ds2_scope.specs.CodeUnits.{unit_source};
 
 use ds2_base::{Bytes, OutOfMemory};
-use ds2_scope::spelled_name;
+use ds2_scope::{Unit, UnitKind, spelled_name};
 use ds2_statement_types::method_scope::OutputNumbers;
+use ds2_token::Token;
 use ds2_tree::OutputTable;
 use std::alloc::Global;
 use std::collections::HashMap;
 
-/// The outputs that a program makes: their numbers, from 0, by their names, and how many there are.
+/// The outputs that a unit makes: their numbers, from 0, by their names, and how many there are.
 #[derive(Drop)]
 pub struct MadeOutputs {
     pub numbers: OutputNumbers,
@@ -59,7 +63,7 @@ fn note(
 }
 
 /// Those of these outputs that a program makes; of one name the first counts.
-pub fn made_outputs(alloc: Global, outputs: &[OutputTable]) -> Result<MadeOutputs, OutOfMemory>
+fn made_outputs(alloc: Global, outputs: &[OutputTable]) -> Result<MadeOutputs, OutOfMemory>
     ensures numbers { IfOk result (λ made. HasNumbers made.numbers (names_made outputs.now)) }
     ensures count { IfOk result (λ made. made.count ≡ length (names_made outputs.now)) }
 {
@@ -69,4 +73,58 @@ pub fn made_outputs(alloc: Global, outputs: &[OutputTable]) -> Result<MadeOutput
         count = note(alloc, &mut numbers, count, o)?;
     }
     Ok(MadeOutputs { numbers, count })
+}
+
+/// No output.
+fn no_outputs(alloc: Global) -> MadeOutputs
+    ensures numbers { HasNumbers result.numbers [] }
+    ensures count { result.count ≡ 0 }
+{
+    MadeOutputs {
+        numbers: HashMap::new(alloc),
+        count: 0,
+    }
+}
+
+/// The one output of a thread program of this name.
+fn one_output(alloc: Global, own: &Token) -> Result<MadeOutputs, OutOfMemory>
+    ensures numbers { IfOk result (λ made. HasNumbers made.numbers (spelled_name own.now ∷ [])) }
+    ensures count { IfOk result (λ made. made.count ≡ 1) }
+{
+    let name = spelled_name(alloc, own)?;
+    let mut numbers: OutputNumbers = HashMap::new(alloc);
+    numbers.insert(name, 0)?;
+    Ok(MadeOutputs { numbers, count: 1 })
+}
+
+/// The output of a thread program, which has its name.
+fn thread_output(alloc: Global, unit: Unit<'_>) -> Result<MadeOutputs, OutOfMemory>
+    ensures numbers { IfOk result (λ made. HasNumbers made.numbers (made_names OfThread (unit_source unit.entry))) }
+    ensures count { IfOk result (λ made. made.count ≡ length (made_names OfThread (unit_source unit.entry))) }
+{
+    match unit.name {
+        None => Ok(no_outputs(alloc)),
+        Some(own) => {
+            let made = one_output(alloc, own)?;
+            Ok(made)
+        }
+    }
+}
+
+/// The outputs of a unit: those that a data program makes, the one of a thread program, and none of a package.
+pub fn unit_numbers(alloc: Global, unit: Unit<'_>) -> Result<MadeOutputs, OutOfMemory>
+    ensures numbers { IfOk result (λ made. HasNumbers made.numbers (made_names (unit_source unit.entry).kind (unit_source unit.entry))) }
+    ensures count { IfOk result (λ made. made.count ≡ length (made_names (unit_source unit.entry).kind (unit_source unit.entry))) }
+{
+    match unit.kind {
+        UnitKind::Package => Ok(no_outputs(alloc)),
+        UnitKind::Thread => {
+            let made = thread_output(alloc, unit)?;
+            Ok(made)
+        }
+        UnitKind::Data => {
+            let made = made_outputs(alloc, unit.outputs)?;
+            Ok(made)
+        }
+    }
 }

@@ -1,34 +1,31 @@
 //! A typed program, out of its parts.
-ghost use Rattle.std.specs.Prelude.{◌≡◌, [], None as Nothing, IfOk, map};
-ghost use Rattle.ds2_elaboration.specs.ProgramTypes.{made_output, made_outputs};
-ghost use Rattle.ds2_elaboration.specs.SourceTypes.{unit_names};
+ghost use Rattle.std.specs.Prelude.{◌≡◌, IfOk, false};
+ghost use Rattle.ds2_elaboration.specs.ProgramTypes.{scope_of_declarations, unit_outputs};
 ghost use Rattle.ds2_elaboration.specs.UnitsBefore.{UnitsBefore};
-ghost use Rattle.ds2_meaning.specs.ProgramTree.{OverTables};
-ghost use Rattle.ds2_meaning.specs.View.{typed_data_program, unit_tree};
-ghost use Rattle.ds2_names.specs.SourceUnit.{columns_stored, source_methods, unit_of_data, vector_names};
-ghost use Rattle.ds2_program_types.specs.ProgramParts.{ArePartsOf, IsMadeOf};
+ghost use Rattle.ds2_instance_types.specs.TypedInstanceLists.{AreInstancesOf};
+ghost use Rattle.ds2_names.specs.SourceUnit.{is_package, source_methods};
+ghost use Rattle.ds2_program_types.specs.ProgramParts.{ArePartsOf, IsMadeOf, statement_read};
 ghost use Rattle.ds2_program_types.specs.TypedMethodLists.{AreMethodsOf};
-ghost use Rattle.ds2_program_types.specs.TypedPrograms.{IsTypedData};
-ghost use Rattle.ds2_tree.specs.UnitViews.{data_tree};
+ghost use Rattle.ds2_program_types.specs.TypedPrograms.{IsProgramOf};
+ghost use Rattle.ds2_program_types.specs.UnitsAtHand.{IsAtHand, columns_at_hand, names_at_hand, source_at_hand};
 
+use crate::at_hand::UnitAtHand;
 use crate::methods::TypedMethods;
-use crate::outputs::outputs;
-use crate::reading::read_statement;
-use crate::retained::retained;
 use crate::unit_tables::vector_variables;
 use ds2_base::{List, Name, OutOfMemory};
 use ds2_declared_types::columns::columns_over;
 use ds2_declared_types::variables::program_variables;
+use ds2_instance_types::TypedInstances;
 use ds2_meaning::{
-    MentionedTable, OutputTable as TypedOutput, Program, Reading as TypedReading, TypedData,
-    Variable,
+    MentionedTable, OutputTable as TypedOutput, Program, Reading as TypedReading, Variable,
 };
-use ds2_names::{NamedSchema, PlacedName};
-use ds2_scope::{reading_of_run, tables_of};
-use ds2_tree::DataProgram;
+use ds2_scope::reading_of_run;
+use ds2_unit_parts::outputs::unit_outputs;
+use ds2_unit_parts::reading::read_statement;
+use ds2_unit_parts::retained::retained;
 use std::alloc::Global;
 
-/// The parts of a typed program but for its methods.
+/// The parts of a typed program but for its instances and methods.
 #[derive(Drop)]
 pub struct ProgramParts {
     /// The declared variables.
@@ -41,9 +38,9 @@ pub struct ProgramParts {
     pub outputs: List<TypedOutput>,
 }
 
-/// A program of these parts and methods.
-fn program_of(alloc: Global, parts: ProgramParts, methods: TypedMethods) -> Program
-    ensures { IsMadeOf result parts methods }
+/// A program of these parts, instances and methods.
+fn program_of(parts: ProgramParts, typed: TypedInstances, methods: TypedMethods) -> Program
+    ensures { IsMadeOf result parts typed methods }
 {
     let ProgramParts {
         declared,
@@ -52,16 +49,18 @@ fn program_of(alloc: Global, parts: ProgramParts, methods: TypedMethods) -> Prog
         reading,
         outputs,
     } = parts;
+    let TypedInstances {
+        instances,
+        hashes,
+        iterators,
+        threads,
+    } = typed;
     let TypedMethods {
         methods,
         init,
         run,
         term,
     } = methods;
-    let instances = List::new(alloc);
-    let hashes = List::new(alloc);
-    let iterators = List::new(alloc);
-    let threads = List::new(alloc);
     Program {
         declared,
         columns,
@@ -79,51 +78,46 @@ fn program_of(alloc: Global, parts: ProgramParts, methods: TypedMethods) -> Prog
     }
 }
 
-/// A data program that reads from no thread program.
-fn over_tables(program: Program) -> TypedData
-    ensures tree { typed_data_program result ≡ OverTables (unit_tree Nothing [] program) }
-    ensures program { result.program ≡ program }
-{
-    TypedData {
-        program,
-        stage: None,
-    }
-}
-
-/// The outputs of a program, over the variables of its vector.
+/// The outputs of a unit, over the variables of its vector.
 fn program_outputs(
     alloc: Global,
-    tables: &[NamedSchema],
-    program: &DataProgram,
-    names: &[PlacedName],
-    columns: &[PlacedName],
+    unit: UnitAtHand<'_, '_>,
 ) -> Result<List<TypedOutput>, OutOfMemory>
-    ensures { (before : UnitsBefore) → names.now ≡ vector_names (unit_names (columns_stored tables.now) before (unit_of_data (data_tree program.now))) → columns.now ≡ (unit_names (columns_stored tables.now) before (unit_of_data (data_tree program.now))).columns → (unit_names (columns_stored tables.now) before (unit_of_data (data_tree program.now))).instances ≡ []
-        → IfOk result (λ all. all ≡ map (made_output (columns_stored tables.now) before (unit_of_data (data_tree program.now))) (made_outputs (unit_of_data (data_tree program.now)))) }
+    ensures { (before : UnitsBefore) → IsAtHand before unit.entry
+        → IfOk result (λ all. all ≡ unit_outputs (columns_at_hand unit.entry) before (source_at_hand unit.entry) (source_at_hand unit.entry).kind) }
 {
-    let vector = vector_variables(alloc, tables, program, columns)?;
-    outputs(alloc, program, vector.as_slice(), names)
+    let vector = vector_variables(alloc, unit)?;
+    let names = unit.names.variables.as_slice();
+    unit_outputs(alloc, unit.unit, vector.as_slice(), names)
 }
 
-/// The parts of a program but for its methods.
+/// What a program with `run` reads, behind data programs that make these tables.
+fn program_reading(
+    alloc: Global,
+    made: &[MentionedTable],
+    unit: UnitAtHand<'_, '_>,
+) -> Result<TypedReading, OutOfMemory>
+    ensures { (before : UnitsBefore) → before.names.made ≡ made.now → IsAtHand before unit.entry
+        → IfOk result (λ r. r ≡ statement_read (columns_at_hand unit.entry) before (source_at_hand unit.entry)) }
+{
+    let source = reading_of_run(alloc, unit.unit.globals)?;
+    read_statement(alloc, unit.from.tables, made, unit.from.rows, source)
+}
+
+/// The parts of a typed program but for its instances and methods.
 fn program_parts(
     alloc: Global,
-    tables: &[NamedSchema],
     made: &[MentionedTable],
-    program: &DataProgram,
-    names: &[PlacedName],
-    columns: &[PlacedName],
+    unit: UnitAtHand<'_, '_>,
 ) -> Result<ProgramParts, OutOfMemory>
-    ensures { (before : UnitsBefore) → before.names.made ≡ made.now → names.now ≡ vector_names (unit_names (columns_stored tables.now) before (unit_of_data (data_tree program.now))) → columns.now ≡ (unit_names (columns_stored tables.now) before (unit_of_data (data_tree program.now))).columns → (unit_names (columns_stored tables.now) before (unit_of_data (data_tree program.now))).instances ≡ []
-        → IfOk result (ArePartsOf (columns_stored tables.now) before (unit_of_data (data_tree program.now))) }
+    ensures { (before : UnitsBefore) → before.names.made ≡ made.now → IsAtHand before unit.entry
+        → IfOk result (ArePartsOf (columns_at_hand unit.entry) before (source_at_hand unit.entry)) }
 {
-    let globals = program.globals.as_slice();
-    let outputs = program_outputs(alloc, tables, program, names, columns)?;
-    let source = reading_of_run(alloc, globals)?;
-    let read = columns_over(alloc, tables, tables_of(source), columns)?;
-    let reading = read_statement(alloc, tables, made, &[], source)?;
-    let declared = program_variables(alloc, globals)?;
-    let kept = retained(alloc, globals)?;
+    let outputs = program_outputs(alloc, unit)?;
+    let read = columns_over(alloc, unit.from, unit.columns)?;
+    let reading = program_reading(alloc, made, unit)?;
+    let declared = program_variables(alloc, unit.unit.globals)?;
+    let kept = retained(alloc, unit.unit.globals)?;
     Ok(ProgramParts {
         declared,
         columns: read,
@@ -133,19 +127,19 @@ fn program_parts(
     })
 }
 
-/// A typed program of typed methods.
-pub fn typed_unit(
+/// A typed program of typed instances and methods.
+pub fn with_parts(
     alloc: Global,
-    tables: &[NamedSchema],
     made: &[MentionedTable],
-    program: &DataProgram,
-    names: &[PlacedName],
-    columns: &[PlacedName],
+    unit: UnitAtHand<'_, '_>,
+    instances: TypedInstances,
     methods: TypedMethods,
-) -> Result<TypedData, OutOfMemory>
-    ensures { (before : UnitsBefore) → before.names.made ≡ made.now → names.now ≡ vector_names (unit_names (columns_stored tables.now) before (unit_of_data (data_tree program.now))) → columns.now ≡ (unit_names (columns_stored tables.now) before (unit_of_data (data_tree program.now))).columns → (unit_names (columns_stored tables.now) before (unit_of_data (data_tree program.now))).instances ≡ []
-        → AreMethodsOf (columns_stored tables.now) before (unit_of_data (data_tree program.now)) (source_methods (data_tree program.now).globals) methods → IfOk result (IsTypedData (columns_stored tables.now) before (unit_of_data (data_tree program.now))) }
+) -> Result<Program, OutOfMemory>
+    ensures { (before : UnitsBefore) → before.names.made ≡ made.now → IsAtHand before unit.entry → is_package (source_at_hand unit.entry).kind ≡ false
+        → AreInstancesOf (columns_at_hand unit.entry) before (scope_of_declarations (columns_at_hand unit.entry) before (source_at_hand unit.entry)) (names_at_hand before unit.entry).instances instances
+        → AreMethodsOf (columns_at_hand unit.entry) before (source_at_hand unit.entry) (source_methods (source_at_hand unit.entry).globals) methods
+        → IfOk result (IsProgramOf (columns_at_hand unit.entry) before (source_at_hand unit.entry)) }
 {
-    let parts = program_parts(alloc, tables, made, program, names, columns)?;
-    Ok(over_tables(program_of(alloc, parts, methods)))
+    let parts = program_parts(alloc, made, unit)?;
+    Ok(program_of(parts, instances, methods))
 }

@@ -1,98 +1,79 @@
-//! The tables in which the statements of a program's methods look up names.
-ghost use Rattle.std.specs.Prelude.{◌≡◌, [], IfOk, drop};
-ghost use Rattle.ds2_names.specs.SourceUnit.{columns_stored, names_alone, unit_of_data};
-ghost use Rattle.ds2_scope.specs.UnitNames.{NamesAre};
-ghost use Rattle.ds2_tree.specs.UnitViews.{data_tree};
-ghost use Rattle.ds2_elaboration.specs.SourceTypes.{parameter_variables, unit_names, unjoined_columns, vector_variables};
+//! The tables in which the statements of a unit's methods look up names.
+ghost use Rattle.std.specs.Prelude.{◌≡◌, IfOk, not};
+ghost use Rattle.ds2_elaboration.specs.SourceTypes.{parameter_variables, unjoined_columns, vector_variables};
 ghost use Rattle.ds2_elaboration.specs.UnitsBefore.{UnitsBefore};
+ghost use Rattle.ds2_known_types.specs.TypesKnown.{TellsTypes};
+ghost use Rattle.ds2_names.specs.SourceUnit.{is_package, names_alone};
+ghost use Rattle.ds2_program_types.specs.UnitScopes.{AreUnitTables};
+ghost use Rattle.ds2_program_types.specs.UnitsAtHand.{IsAtHand, columns_at_hand, names_at_hand, source_at_hand};
+ghost use Rattle.ds2_scope.specs.CodeUnits.{unit_kind};
 ghost use Rattle.ds2_type_tables.specs.Bys.{HasBys};
 ghost use Rattle.ds2_type_tables.specs.Globals.{HasGlobals};
-ghost use Rattle.ds2_program_types.specs.UnitScopes.{AreUnitTables};
 
-use crate::output_numbers::made_outputs;
+use crate::at_hand::UnitAtHand;
+use crate::output_numbers::unit_numbers;
 use ds2_base::{List, OutOfMemory};
 use ds2_declared_types::columns::{columns_over, unjoined_over};
 use ds2_declared_types::names::names_alone;
-use ds2_declared_types::variables::program_variables;
+use ds2_declared_types::variables::{parameter_variables, program_variables};
 use ds2_expression_walk::scopes::{KnownBys, KnownMethods, KnownNames, KnownObjects};
+use ds2_known_types::KnownTypes;
 use ds2_meaning::Variable;
-use ds2_names::{NamedSchema, PlacedName};
-use ds2_scope::{UnitNames, reading_of_run, tables_of};
+use ds2_scope::{UnitKind, UnitNames};
 use ds2_statement_types::method_scope::OutputNumbers;
-use ds2_tree::DataProgram;
 use ds2_type_tables::bys::bys;
 use ds2_type_tables::globals::globals;
 use ds2_type_tables::methods::methods;
-use ds2_type_tables::objects::no_objects;
+use ds2_type_tables::objects::objects;
 use std::alloc::Global;
 
-/// What the names of a program stand for in each of its methods, but for parameters and locals.
+/// What the names of a unit stand for in each of its methods, but for parameters and locals.
 #[derive(Drop)]
 pub struct UnitTables {
     pub globals: KnownNames,
     pub bys: KnownBys,
     pub methods: KnownMethods,
+    /// The objects that a method may call something on.
     pub objects: KnownObjects,
+    /// Those that `init` may.
+    pub init_objects: KnownObjects,
     pub outputs: OutputNumbers,
     /// How many outputs there are.
     pub output_count: u32,
 }
 
-/// The columns of the reading statement that are not declared: the names of a program behind those of its declared variables.
-pub fn columns_among(names: &UnitNames, declared: usize) -> &[PlacedName]
-    ensures { result.now ≡ drop declared names.now.variables }
-{
-    let all = names.variables.as_slice();
-    if declared <= all.len() {
-        all.split_at(declared).1
-    } else {
-        &[]
-    }
-}
-
-/// The declared variables and the columns of a program, in the order of the vector.
+/// The declared variables and the columns of a unit, in the order of the vector.
 pub fn vector_variables(
     alloc: Global,
-    tables: &[NamedSchema],
-    program: &DataProgram,
-    columns: &[PlacedName],
+    unit: UnitAtHand<'_, '_>,
 ) -> Result<List<Variable>, OutOfMemory>
-    ensures { (before : UnitsBefore) → columns.now ≡ (unit_names (columns_stored tables.now) before (unit_of_data (data_tree program.now))).columns → (unit_names (columns_stored tables.now) before (unit_of_data (data_tree program.now))).instances ≡ []
-        → IfOk result (λ variables. variables ≡ vector_variables (columns_stored tables.now) before (unit_of_data (data_tree program.now))) }
+    ensures { (before : UnitsBefore) → IsAtHand before unit.entry → IfOk result (λ variables. variables ≡ vector_variables (columns_at_hand unit.entry) before (source_at_hand unit.entry)) }
 {
-    let globals = program.globals.as_slice();
-    let reading = reading_of_run(alloc, globals)?;
-    let mut variables = program_variables(alloc, globals)?;
-    let more = columns_over(alloc, tables, tables_of(reading), columns)?;
+    let mut variables = program_variables(alloc, unit.unit.globals)?;
+    let more = columns_over(alloc, unit.from, unit.columns)?;
     variables.append_list(more)?;
     Ok(variables)
 }
 
-/// The table of the variables of a program: declared variables, columns and `in=` flags.
-fn unit_globals(
-    alloc: Global,
-    tables: &[NamedSchema],
-    program: &DataProgram,
-    names: &UnitNames,
-    columns: &[PlacedName],
-) -> Result<KnownNames, OutOfMemory>
-    ensures { (before : UnitsBefore) → NamesAre names.now (unit_names (columns_stored tables.now) before (unit_of_data (data_tree program.now))) → columns.now ≡ (unit_names (columns_stored tables.now) before (unit_of_data (data_tree program.now))).columns → (unit_names (columns_stored tables.now) before (unit_of_data (data_tree program.now))).instances ≡ []
-        → IfOk result (λ t. HasGlobals t (unjoined_columns (columns_stored tables.now) before (unit_of_data (data_tree program.now))) (vector_variables (columns_stored tables.now) before (unit_of_data (data_tree program.now))) (parameter_variables (unit_of_data (data_tree program.now))) (names_alone (unit_names (columns_stored tables.now) before (unit_of_data (data_tree program.now))).flags)) }
+/// The table of the variables of a unit: declared variables, columns, parameters of a thread program and `in=` flags.
+fn unit_globals(alloc: Global, unit: UnitAtHand<'_, '_>) -> Result<KnownNames, OutOfMemory>
+    ensures { (before : UnitsBefore) → IsAtHand before unit.entry
+        → IfOk result (λ t. HasGlobals t (unjoined_columns (columns_at_hand unit.entry) before (source_at_hand unit.entry)) (vector_variables (columns_at_hand unit.entry) before (source_at_hand unit.entry)) (parameter_variables (source_at_hand unit.entry)) (names_alone (names_at_hand before unit.entry).flags)) }
 {
-    let reading = reading_of_run(alloc, program.globals.as_slice())?;
-    let unjoined = unjoined_over(alloc, tables, tables_of(reading), columns)?;
-    let variables = vector_variables(alloc, tables, program, columns)?;
-    let flags = names_alone(alloc, names.flags.as_slice())?;
+    let unjoined = unjoined_over(alloc, unit.from, unit.columns)?;
+    let variables = vector_variables(alloc, unit)?;
+    let parameters = parameter_variables(alloc, unit.unit.parameters)?;
+    let flags = names_alone(alloc, unit.names.flags.as_slice())?;
     globals(
         alloc,
         variables.as_slice(),
         unjoined.as_slice(),
-        &[],
+        parameters.as_slice(),
         flags.as_slice(),
     )
 }
 
-/// The table of the BY variables of a program.
+/// The table of the BY variables of a unit.
 fn unit_bys(alloc: Global, names: &UnitNames) -> Result<KnownBys, OutOfMemory>
     ensures { IfOk result (λ t. HasBys t (names_alone names.now.bys)) }
 {
@@ -100,26 +81,39 @@ fn unit_bys(alloc: Global, names: &UnitNames) -> Result<KnownBys, OutOfMemory>
     bys(alloc, by_names.as_slice())
 }
 
-/// The tables of a program with these names, over the tables of the store.
+/// Whether a unit is a program, which has system methods.
+fn is_program(kind: UnitKind) -> bool
+    ensures { result ≡ not (is_package (unit_kind kind)) }
+{
+    match kind {
+        UnitKind::Package => false,
+        UnitKind::Thread => true,
+        UnitKind::Data => true,
+    }
+}
+
+/// The tables of a unit, behind packages and thread programs that are known.
 pub fn unit_tables(
     alloc: Global,
-    tables: &[NamedSchema],
-    program: &DataProgram,
-    names: &UnitNames,
-    columns: &[PlacedName],
+    known: &KnownTypes<'_>,
+    unit: UnitAtHand<'_, '_>,
 ) -> Result<UnitTables, OutOfMemory>
-    ensures { (before : UnitsBefore) → NamesAre names.now (unit_names (columns_stored tables.now) before (unit_of_data (data_tree program.now))) → columns.now ≡ (unit_names (columns_stored tables.now) before (unit_of_data (data_tree program.now))).columns → (unit_names (columns_stored tables.now) before (unit_of_data (data_tree program.now))).instances ≡ []
-        → IfOk result (λ t. AreUnitTables (columns_stored tables.now) before (unit_of_data (data_tree program.now)) t) }
+    ensures { (before : UnitsBefore) → TellsTypes known.now before → IsAtHand before unit.entry
+        → IfOk result (λ t. AreUnitTables (columns_at_hand unit.entry) before (source_at_hand unit.entry) t) }
 {
-    let globals = unit_globals(alloc, tables, program, names, columns)?;
-    let bys = unit_bys(alloc, names)?;
-    let methods = methods(alloc, program.globals.as_slice())?;
-    let made = made_outputs(alloc, program.outputs.as_slice())?;
+    let globals = unit_globals(alloc, unit)?;
+    let bys = unit_bys(alloc, unit.names)?;
+    let methods = methods(alloc, unit.unit.kind, unit.unit.globals)?;
+    let made = unit_numbers(alloc, unit.unit)?;
+    let called = objects(alloc, known, unit.instances, false)?;
+    let in_init = is_program(unit.unit.kind);
+    let called_in_init = objects(alloc, known, unit.instances, in_init)?;
     Ok(UnitTables {
         globals,
         bys,
         methods,
-        objects: no_objects(alloc),
+        objects: called,
+        init_objects: called_in_init,
         outputs: made.numbers,
         output_count: made.count,
     })

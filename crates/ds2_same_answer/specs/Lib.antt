@@ -1,1 +1,2 @@
 pub mod SameAnswer
+pub mod SameLoads

@@ -1,8 +1,9 @@
 -- What a program's code leaves on one thread, and what the program means.
 use Rattle.std.specs.Prelude.{◌≡◌, ℕ, List, [], ◌∷◌, map, None}
+use Rattle.std.specs.List.{AllByRecursion}
 use Rattle.ds2_table.specs.OneThread.{StageAnswer, Answer}
 use Rattle.ds2_table.specs.Table.{Contents}
-use Rattle.ds2_meaning.specs.IsTyped.{thread_parameters, IsTypedUnit, ReadsNoStage}
+use Rattle.ds2_meaning.specs.IsTyped.{thread_parameters, IsTypedProgram}
 use Rattle.ds2_meaning.specs.ProgramMeaning.{program_answer}
 use Rattle.ds2_meaning.specs.ProgramTree.{UnitTree, ProgramTree, OverTables, OverStage, reader_of}
 use Rattle.ds2_meaning.specs.Reading.{TableRows}
@@ -21,6 +22,21 @@ code_of_stages (OverStage p stage) = program_code (reader_of stage) ∷ code_of_
 -- the code of a program with that of the thread programs that it reads from
 abbrev pub staged_code : ProgramTree → StagedParts
 staged_code p = record { program = program_code (reader_of p); stages = code_of_stages p }
+
+-- a program and the thread programs that it reads from, the nearest one first
+abbrev pub programs_in_chain : ProgramTree → List UnitTree
+programs_in_chain (OverTables p) = p ∷ []
+programs_in_chain (OverStage p stage) = p ∷ programs_in_chain stage
+
+-- each instance of a thread program that a program declares has a name, and so in the thread programs that it reads from
+abbrev pub HasNamedInstances : ProgramTree → Type 0
+HasNamedInstances p = AllByRecursion (λ (unit : UnitTree). thread_parameters unit.threads [] ≡ None) (programs_in_chain p)
+
+-- code can be written for a program and for the thread programs that it reads from: it is typed, and their instances of thread programs have
+-- names
+pub record IsTranslatable (p : ProgramTree) : Type 0 where
+  pub typed : IsTypedProgram p
+  pub instances : HasNamedInstances p
 
 -- these tables, by their numbers in code, have the rows of the tables that a program mentions
 abbrev pub HaveRowsMentioned : ProgramTree → TableRows → List Contents → Type 0
@@ -49,6 +65,6 @@ AnswersAsMeant p =
     (tables : TableRows) (contents : List Contents) (budget grain : ℕ) → HaveRowsMentioned p tables contents
     → AreLikeAnswers (code_answer (staged_code p) contents budget grain) (program_answer p [] tables budget grain)
 
--- so does that of each typed program that reads tables or nothing, whose instances of thread programs have names
+-- so does that of each typed program, over tables or with the thread programs that it reads from, whose instances of thread programs have names
 abbrev pub TypedProgramsAnswerAlike : Type 0
-TypedProgramsAnswerAlike = (p : UnitTree) → IsTypedUnit p → ReadsNoStage p.reading → thread_parameters p.threads [] ≡ None → AnswersAsMeant (OverTables p)
+TypedProgramsAnswerAlike = (p : ProgramTree) → IsTranslatable p → AnswersAsMeant p

@@ -1,3 +1,4 @@
+pub mod NamedInstances
 pub mod TablesAlike
 pub mod OutputsAlike
 pub mod SamePrograms

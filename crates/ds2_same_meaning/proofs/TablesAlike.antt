@@ -1,16 +1,18 @@
 -- The code of a program mentions the tables that the program mentions, with their columns.
 use Rattle.std.proofs.Common.{◌≡◌, List, [], ◌∷◌, ◌++◌, map, flat_map, Option, Some, None, refl, sym, ap, ◌∙◌}
 use Rattle.std.proofs.lemmas.List.{map-append}
+use Rattle.ds2_value.specs.Row.{Columns}
 use Rattle.ds2_meaning.specs.declared.hashes.DeclaredHash.{DeclaredHash}
 use Rattle.ds2_meaning.specs.declared.hashes.LoadedTable.{LoadedTable}
 use Rattle.ds2_meaning.specs.declared.readings.Input.{Input}
+use Rattle.ds2_meaning.specs.declared.readings.MentionedTable.{MentionedTable}
 use Rattle.ds2_meaning.specs.declared.readings.Reading.{Reading}
 use Rattle.ds2_meaning.specs.declared.readings.Reading.TheVariants as read
-use Rattle.ds2_meaning.specs.IsTyped.{ReadsNoStage}
+use Rattle.ds2_meaning.specs.IsTyped.{ReadsNoStage, IsTypedProgram}
 use Rattle.ds2_meaning.specs.Location.{Home}
-use Rattle.ds2_meaning.specs.ProgramTree.{InstanceTree, UnitTree, OverTables}
+use Rattle.ds2_meaning.specs.ProgramTree.{InstanceTree, UnitTree, ProgramTree, OverTables, OverStage, reader_of}
 use Rattle.ds2_meaning.specs.Reading.{inputs_of}
-use Rattle.ds2_meaning.specs.TableLaws.{tables_read, tables_loaded, tables_loaded_by, tables_mentioned}
+use Rattle.ds2_meaning.specs.TableLaws.{tables_read, tables_loaded, tables_loaded_by, tables_at_opening, tables_mentioned}
 use Rattle.ds2_code.specs.declared.parts.HashPart.{HashPart}
 use Rattle.ds2_code.specs.declared.parts.HashTable.{HashTable}
 use Rattle.ds2_code.specs.declared.parts.ReadPart.{ReadPart}
@@ -18,7 +20,8 @@ use Rattle.ds2_code.specs.declared.parts.TableReference.{TableReference}
 use Rattle.ds2_program_code.specs.CodeParts.{hash_part, hash_parts, input_part, reading_part}
 use Rattle.ds2_program_code.specs.ProgramCode.{program_code}
 use Rattle.ds2_code_answer.specs.CodeTables.{with_loaded_table, hash_references, reading_references, program_references, columns_named}
-use Rattle.ds2_same_meaning.specs.SameMeaning.{table_referred, columns_read, columns_loaded, columns_loaded_by, columns_mentioned}
+use Rattle.ds2_same_answer.specs.SameAnswer.{code_of_stages}
+use Rattle.ds2_same_meaning.specs.SameMeaning.{table_referred, columns_read, columns_loaded, columns_loaded_by, columns_at_opening, columns_mentioned}
 
 -- the tables of hash objects before those of others
 references_before : (xs ys : List HashPart) → hash_references (xs ++ ys) ≡ hash_references xs ++ hash_references ys
@@ -57,12 +60,10 @@ module _ (p : UnitTree) where
         ∙ ap (λ r. r ++ map value (hash_references more)) (of_home None p.objects.hashes)
         ∙ ap (λ r. loads p.objects.hashes ++ r) (of_instances p.instances)
 
-    all_tables : (reads : List A) → map value (reading_references (reading_part p p.reading)) ≡ reads
-        → map value (program_references (program_code p) []) ≡ (loads p.objects.hashes ++ loads_by p.instances) ++ reads
-    all_tables reads e =
-        map-append value (hash_references (hash_parts p)) (reading_references (reading_part p p.reading))
-        ∙ ap (λ r. r ++ map value (reading_references (reading_part p p.reading))) at_opening
-        ∙ ap (λ r. (loads p.objects.hashes ++ loads_by p.instances) ++ r) e
+    -- those of the hash objects stand before others
+    all_tables : (others : List TableReference) (read : List A) → map value others ≡ read → map value (hash_references (hash_parts p) ++ others) ≡ (loads p.objects.hashes ++ loads_by p.instances) ++ read
+    all_tables others read e =
+        map-append value (hash_references (hash_parts p)) others ∙ ap (λ r. r ++ map value others) at_opening ∙ ap (λ r. (loads p.objects.hashes ++ loads_by p.instances) ++ r) e
 
   -- ---- names and makers
 
@@ -86,8 +87,8 @@ module _ (p : UnitTree) where
   reading_referred (read.Merge inputs bys retains) none = inputs_referred inputs
   reading_referred (read.From instance workers columns) none = absurd none
 
-  pub same_tables : ReadsNoStage p.reading → map table_referred (program_references (program_code p) []) ≡ tables_mentioned (OverTables p)
-  same_tables reads = all_tables table_referred tables_loaded tables_loaded_by home_referred refl (λ i instances. refl) (tables_read p.reading) (reading_referred p.reading reads)
+  opening_referred : (others : List TableReference) (read : List MentionedTable) → map table_referred others ≡ read → map table_referred (hash_references (hash_parts p) ++ others) ≡ tables_at_opening p ++ read
+  opening_referred others read e = all_tables table_referred tables_loaded tables_loaded_by home_referred refl (λ i instances. refl) others read e
 
   -- ---- columns
 
@@ -111,6 +112,15 @@ module _ (p : UnitTree) where
   reading_named (read.Merge inputs bys retains) none = inputs_named inputs
   reading_named (read.From instance workers columns) none = absurd none
 
-  pub same_columns : ReadsNoStage p.reading → map columns_named (program_references (program_code p) []) ≡ columns_mentioned (OverTables p)
-  same_columns reads =
-      all_tables columns_named columns_loaded columns_loaded_by home_named refl (λ i instances. refl) (map columns_read (inputs_of p.reading)) (reading_named p.reading reads)
+  opening_named : (others : List TableReference) (read : List Columns) → map columns_named others ≡ read → map columns_named (hash_references (hash_parts p) ++ others) ≡ columns_at_opening p ++ read
+  opening_named others read e = all_tables columns_named columns_loaded columns_loaded_by home_named refl (λ i instances. refl) others read e
+
+-- ---- a program with the thread programs that it reads from
+
+pub same_tables : (p : ProgramTree) → IsTypedProgram p → map table_referred (program_references (program_code (reader_of p)) (code_of_stages p)) ≡ tables_mentioned p
+same_tables (OverTables p) typed = opening_referred p (reading_references (reading_part p p.reading)) (tables_read p.reading) (reading_referred p p.reading typed.1)
+same_tables (OverStage p stage) typed = opening_referred p (program_references (program_code (reader_of stage)) (code_of_stages stage)) (tables_mentioned stage) (same_tables stage typed.2)
+
+pub same_columns : (p : ProgramTree) → IsTypedProgram p → map columns_named (program_references (program_code (reader_of p)) (code_of_stages p)) ≡ columns_mentioned p
+same_columns (OverTables p) typed = opening_named p (reading_references (reading_part p p.reading)) (map columns_read (inputs_of p.reading)) (reading_named p p.reading typed.1)
+same_columns (OverStage p stage) typed = opening_named p (program_references (program_code (reader_of stage)) (code_of_stages stage)) (columns_mentioned stage) (same_columns stage typed.2)

@@ -1,13 +1,13 @@
 -- When code means the same as a program.
-use Rattle.std.specs.Prelude.{◌≡◌, ℕ, List, [], ◌∷◌, ◌++◌, map, Option, Some, None}
-use Rattle.std.specs.List.{AllByRecursion}
+use Rattle.std.specs.Prelude.{◌≡◌, ℕ, List, [], ◌∷◌, ◌++◌, length, map, Option, Some, None}
+use Rattle.std.specs.List.{AllByRecursion, AllZip}
 use Rattle.ds2_value.specs.Row.{Columns}
 use Rattle.ds2_value.specs.Run.{Written}
 use Rattle.ds2_table.specs.Table.{Contents}
-use Rattle.ds2_meaning.specs.IsTyped.{IsTypedUnit, ReadsNoStage, thread_parameters}
+use Rattle.ds2_meaning.specs.IsTyped.{IsTypedUnit}
 use Rattle.ds2_meaning.specs.ProgramMeaning.{MadeTable, program_answer, tables_made}
 use Rattle.ds2_meaning.specs.ProgramTree.{InstanceTree, UnitTree, ProgramTree, OverTables, OverStage, reader_of}
-use Rattle.ds2_meaning.specs.Reading.{TableRows, inputs_of}
+use Rattle.ds2_meaning.specs.Reading.{TableRows, inputs_of, bys_of}
 use Rattle.ds2_meaning.specs.TableLaws.{tables_mentioned}
 use Rattle.ds2_meaning.specs.declared.globals.OutputColumn.{OutputColumn}
 use Rattle.ds2_meaning.specs.declared.globals.OutputTable.{OutputTable}
@@ -19,12 +19,14 @@ use Rattle.ds2_layout.specs.Layout.{program_slots, source_slot}
 use Rattle.ds2_code.specs.OperandTypes.{slot_type}
 use Rattle.ds2_code.specs.declared.parts.OutputPart.{OutputPart}
 use Rattle.ds2_code.specs.declared.parts.ProgramParts.{ProgramParts}
+use Rattle.ds2_code.specs.declared.parts.ReadingPart.{ReadingPart}
+use Rattle.ds2_code.specs.declared.parts.ReadingPart.TheVariants as reading
 use Rattle.ds2_code.specs.declared.parts.StagedParts.{StagedParts}
 use Rattle.ds2_code.specs.declared.parts.TableReference.{TableReference}
 use Rattle.ds2_code_answer.specs.CodeAnswer.{code_answer}
 use Rattle.ds2_code_answer.specs.CodeTables.{program_references, columns_named}
 use Rattle.ds2_program_code.specs.CodeParts.{code_slots}
-use Rattle.ds2_same_answer.specs.SameAnswer.{staged_code, HaveRowsMentioned, AreLikeAnswers}
+use Rattle.ds2_same_answer.specs.SameAnswer.{staged_code, programs_in_chain, IsTranslatable, HaveRowsMentioned, AreLikeAnswers}
 use Rattle.ds2_unit.specs.Outputs.{tables_written}
 use Rattle.ds2_unit_counts.specs.CountsByWay.{CountsByWay}
 
@@ -80,23 +82,31 @@ tables_of_outputs (o ∷ outputs) (table ∷ tables) = record { name = o.name; o
 abbrev pub code_tables_made : ProgramParts → List Written → List MadeTable
 code_tables_made code rows = tables_of_outputs code.outputs (tables_written code rows)
 
+-- ---- the programs of a chain
+
+-- how many BY variables a reading statement of code has
+abbrev pub number_of_bys : ReadingPart → ℕ
+number_of_bys (reading.Set reads bys) = length bys
+number_of_bys (reading.Merge reads bys retains) = length bys
+number_of_bys _ = 0
+
 -- ---- the same meaning
 
--- code means the same as a program: it answers as the program means; the way of a call tells how many instructions it executes; it
--- mentions the same tables with the same columns in the same order; of any rows it makes the same tables; and it has the name of the same
--- thread program, where it is one
+-- code means the same as a program with the thread programs that it reads from: it answers as the program means; in each of its programs the
+-- way of a call tells how many instructions it executes; it mentions the same tables with the same columns in the same order; of any rows it
+-- makes the same tables; each of its programs has the name of the same thread program, where it is one, and reads by as many BY variables
 pub record MeansSame (p : ProgramTree) (code : StagedParts) : Type 0 where
   pub answers : CodeAnswersAs p code
-  pub counts : CountsByWay (reader_of p) code.program
+  pub counts : AllZip CountsByWay (programs_in_chain p) (code.program ∷ code.stages)
   pub tables : map table_referred (program_references code.program code.stages) ≡ tables_mentioned p
   pub columns : map columns_named (program_references code.program code.stages) ≡ columns_mentioned p
   pub outputs : (rows : List Written) → code_tables_made code.program rows ≡ tables_made 0 (reader_of p).outputs rows
-  pub name : code.program.name ≡ (reader_of p).thread
+  pub names : map (λ (part : ProgramParts). part.name) (code.program ∷ code.stages) ≡ map (λ (unit : UnitTree). unit.thread) (programs_in_chain p)
+  pub bys : map (λ (part : ProgramParts). number_of_bys part.reading) (code.program ∷ code.stages) ≡ map (λ (unit : UnitTree). length (bys_of unit.reading)) (programs_in_chain p)
 
--- the code of each typed program that reads tables or nothing, whose instances of thread programs have names, means the same as the program
+-- the code of each typed program, over tables or with the thread programs that it reads from, means the same as the program
 abbrev pub TypedProgramsMeanSame : Type 0
-TypedProgramsMeanSame =
-    (p : UnitTree) → IsTypedUnit p → ReadsNoStage p.reading → thread_parameters p.threads [] ≡ None → MeansSame (OverTables p) (staged_code (OverTables p))
+TypedProgramsMeanSame = (p : ProgramTree) → IsTranslatable p → MeansSame p (staged_code p)
 
 -- ---- outputs as tables that later programs read
 

@@ -1,9 +1,8 @@
 //! Which sources are of a form that is built so far.
 ghost use Rattle.std.specs.Prelude.{◌≡◌, map};
-ghost use Rattle.std.specs.Bool.{OnTrue};
 ghost use Rattle.std.specs.List.{list_all};
 ghost use Rattle.ds2_tree.specs.UnitViews.{global_tree, part_tree, source_tree};
-ghost use Rattle.ds2_source.specs.BuiltSources.{is_built_global, is_built_part, is_built_source, IsDataSource};
+ghost use Rattle.ds2_source.specs.BuiltSources.{is_built_global, is_built_part, is_built_source};
 
 use ds2_tree::{Declaration, GlobalItem, Source, SourcePart};
 
@@ -16,9 +15,9 @@ fn is_built_global(global: &GlobalItem) -> bool
         GlobalItem::Method(_) => true,
         GlobalItem::Declaration(declaration) => match declaration {
             Declaration::Variables(_) => true,
-            Declaration::Instance { .. } => false,
-            Declaration::Hash { .. } => false,
-            Declaration::Hiter { .. } => false,
+            Declaration::Instance { .. } => true,
+            Declaration::Hash { .. } => true,
+            Declaration::Hiter { .. } => true,
             Declaration::Thread { .. } => false,
         },
     }
@@ -44,9 +43,9 @@ fn is_built_part(part: &SourcePart) -> bool
         SourcePart::Proc { .. } => true,
         SourcePart::Run { .. } => true,
         SourcePart::Quit { .. } => true,
-        SourcePart::Package(_) => false,
+        SourcePart::Package(unit) => are_built_globals(unit.globals.as_slice()),
         SourcePart::Thread(_) => false,
-        SourcePart::Data(program) => are_built_globals(program.globals.as_slice()),
+        SourcePart::Data(unit) => are_built_globals(unit.globals.as_slice()),
     }
 }
 
@@ -62,11 +61,10 @@ fn are_built_parts(parts: &[SourcePart]) -> bool
     true
 }
 
-/// Whether a source is of a form that is built so far. It is not exactly where it has a package, a thread program, or a declaration of
-/// either, of a hash object or of an iterator. A source that is built has data programs without instances alone.
+/// Whether a source is of a form that is built so far. It is not exactly where it has a thread program or a declaration of one (`dcl
+/// thread`).
 pub fn is_built_source(source: &Source) -> bool
     ensures built { result ≡ is_built_source (source_tree source.now) }
-    ensures data { OnTrue result (IsDataSource (source_tree source.now)) }
 {
     are_built_parts(source.parts.as_slice())
 }

@@ -1,7 +1,6 @@
 //! The tables that must come from the store.
 ghost use Rattle.std.specs.Prelude.{◌≡◌, IfOk, map};
 ghost use Rattle.ds2_tree.specs.UnitViews.{part_tree, source_tree};
-ghost use Rattle.ds2_source.specs.BuiltSources.{IsDataSource};
 ghost use Rattle.ds2_source.specs.Answers.{AnswersWith};
 ghost use Rattle.ds2_source.specs.InputTables.{source_inputs, names_or_refusal};
 
@@ -21,7 +20,6 @@ pub const MOST_TABLES: usize = 16;
 
 // The tables of the store that the parts of a source mention, each at its first mention.
 fn source_inputs(alloc: Global, parts: &[SourcePart]) -> Result<List<PlacedName>, OutOfMemory>
-    requires { IsDataSource (map part_tree parts.now) }
     ensures { IfOk result (λ tables. tables ≡ source_inputs (map part_tree parts.now)) }
 {
     let mut known: NameSet = HashSet::new(alloc);
@@ -52,10 +50,9 @@ fn names_or_refusal(alloc: Global, tables: &[PlacedName]) -> Result<List<Name>, 
     }
 }
 
-/// The tables that must come from the store for a source of data programs without instances, in the order of their first mention: those
-/// that no earlier program makes. TooManyNames comes exactly where there is a 17th, at its first mention.
+/// The tables that must come from the store for a source, in the order of their first mention by a reading statement or a hash object,
+/// also of a package: those that no earlier program makes. TooManyNames comes exactly where there is a 17th, at its first mention.
 pub fn input_names(alloc: Global, source: &Source) -> Result<List<Name>, Stop<SourceRefusal>>
-    requires { IsDataSource (source_tree source.now) }
     ensures { AnswersWith (names_or_refusal (source_inputs (source_tree source.now))) result }
 {
     let parts = source.parts.as_slice();

@@ -1,4 +1,4 @@
-//! The tables that the data programs of a source mention.
+//! The tables that the units of a source mention.
 ghost use Rattle.std.specs.Prelude.{◌≡◌, ◌∷◌, ◌++◌, ◌||◌, [], ℕ, List as Items, IfOk, OnOk, bytes_eq, if◌then◌else◌, map, nat_eq};
 ghost use Rattle.std.specs.Cmp.Lexicographic.{pointwise};
 ghost use Rattle.std.specs.HashSet.{contains};
@@ -7,15 +7,15 @@ ghost use Rattle.ds2_tree.specs.Units.{AData};
 ghost use Rattle.ds2_tree.specs.declared.readings.Input.{Input as InputTree};
 ghost use Rattle.ds2_meaning.specs.ProgramTree.{is_listed};
 ghost use Rattle.ds2_names.specs.NameRules.{from_each};
-ghost use Rattle.ds2_names.specs.SourceLimits.{tables_in_item};
-ghost use Rattle.ds2_names.specs.SourceUnit.{names_alone, placed_name, source_instances};
-ghost use Rattle.ds2_source.specs.BuiltSources.{IsDataPart};
+ghost use Rattle.ds2_names.specs.SourceLimits.{named_by_text, tables_in_item};
+ghost use Rattle.ds2_names.specs.SourceUnit.{names_alone, placed_name, sized_table};
 ghost use Rattle.ds2_source.specs.InputTables.{first_not_known, tables_in_part, names_made_by_outputs, known_behind};
 
 use ds2_base::{List, OutOfMemory};
+use ds2_calls::spelled_text;
 use ds2_names::PlacedName;
 use ds2_scope::{NameSet, add_name, placed_name, spelled_name, tables_of};
-use ds2_tree::{DataProgram, Declaration, GlobalItem, Input, OutputTable, SourcePart};
+use ds2_tree::{DataProgram, Declaration, GlobalItem, HashSize, Input, OutputTable, SourcePart};
 use std::alloc::Global;
 
 // Adds the tables of inputs.
@@ -32,13 +32,35 @@ fn push_tables(
     Ok(())
 }
 
-// Adds the tables that a part of a unit mentions that declares no instance.
+// Adds the table of a hash object, where it has one.
+fn push_hash_table(
+    alloc: Global,
+    found: &mut List<PlacedName>,
+    size: &Option<HashSize>,
+) -> Result<(), OutOfMemory>
+    ensures { OnOk result (found.new ≡ found.old ++ named_by_text (sized_table size.now)) }
+{
+    match size {
+        None => Ok(()),
+        Some(size) => match &size.table {
+            None => Ok(()),
+            Some(table) => {
+                let name = spelled_text(alloc, &table.text)?;
+                found.push(PlacedName {
+                    name,
+                    place: table.text.place,
+                })
+            }
+        },
+    }
+}
+
+// Adds the tables that a part of a unit mentions: that of a hash object, or those of a reading statement.
 fn push_mentioned(
     alloc: Global,
     found: &mut List<PlacedName>,
     global: &GlobalItem,
 ) -> Result<(), OutOfMemory>
-    requires { source_instances (global_tree global.now ∷ []) ≡ [] }
     ensures { OnOk result (found.new ≡ found.old ++ tables_in_item (global_tree global.now)) }
 {
     match global {
@@ -47,23 +69,20 @@ fn push_mentioned(
         GlobalItem::Declaration(declaration) => match declaration {
             Declaration::Variables(_) => Ok(()),
             Declaration::Instance { .. } => Ok(()),
-            Declaration::Hash { .. } => Ok(()),
+            Declaration::Hash { size, .. } => push_hash_table(alloc, found, size),
             Declaration::Hiter { .. } => Ok(()),
             Declaration::Thread { .. } => Ok(()),
         },
     }
 }
 
-// The tables that a unit mentions that declares no instances, in order.
+// The tables that the parts of a unit mention, in order.
 fn mentioned_tables(alloc: Global, globals: &[GlobalItem]) -> Result<List<PlacedName>, OutOfMemory>
-    requires { source_instances (map global_tree globals.now) ≡ [] }
     ensures { IfOk result (λ found. found ≡ from_each tables_in_item (map global_tree globals.now)) }
 {
     let mut found: List<PlacedName> = List::new(alloc);
-    let mut rest = globals;
-    'globals: while let [first, after @ ..] = rest {
-        push_mentioned(alloc, &mut found, first)?;
-        rest = after;
+    'globals: for global in globals {
+        push_mentioned(alloc, &mut found, global)?;
     }
     Ok(found)
 }
@@ -133,21 +152,34 @@ fn add_outputs(
     Ok(())
 }
 
-// Adds the tables that a program mentions that declares no instances, and then those that it makes.
+// Adds the tables that the parts of a unit mention to those that are known, and to a list those that were not, each at its first mention.
+fn add_mentioned(
+    alloc: Global,
+    known: &mut NameSet,
+    first: &mut List<PlacedName>,
+    globals: &[GlobalItem],
+) -> Result<(), OutOfMemory>
+    ensures known { OnOk result ((name : Items ℕ) → contains (pointwise nat_eq) known.new name ≡ (is_listed (names_alone (from_each tables_in_item (map global_tree globals.now))) name || contains (pointwise nat_eq) known.old name)) }
+    ensures first { OnOk result (first.new ≡ first.old ++ first_not_known (contains (pointwise nat_eq) known.old) (from_each tables_in_item (map global_tree globals.now))) }
+{
+    let tables = mentioned_tables(alloc, globals)?;
+    let all = tables.as_slice();
+    add_first_mentions(alloc, known, first, all)?;
+    Ok(())
+}
+
+// Adds the tables that a program mentions, and then those that it makes.
 fn add_program(
     alloc: Global,
     known: &mut NameSet,
     first: &mut List<PlacedName>,
     program: &DataProgram,
 ) -> Result<(), OutOfMemory>
-    requires { source_instances (map global_tree program.now.globals) ≡ [] }
     ensures known { OnOk result ((name : Items ℕ) → contains (pointwise nat_eq) known.new name ≡ known_behind (contains (pointwise nat_eq) known.old) (AData (data_tree program.now)) name) }
     ensures first { OnOk result (first.new ≡ first.old ++ first_not_known (contains (pointwise nat_eq) known.old) (tables_in_part (AData (data_tree program.now)))) }
 {
     let globals = program.globals.as_slice();
-    let tables = mentioned_tables(alloc, globals)?;
-    let all = tables.as_slice();
-    add_first_mentions(alloc, known, first, all)?;
+    add_mentioned(alloc, known, first, globals)?;
     let outputs = program.outputs.as_slice();
     add_outputs(alloc, known, outputs)?;
     Ok(())
@@ -160,19 +192,24 @@ pub(crate) fn add_part(
     first: &mut List<PlacedName>,
     part: &SourcePart,
 ) -> Result<(), OutOfMemory>
-    requires { IsDataPart (part_tree part.now) }
     ensures known { OnOk result ((name : Items ℕ) → contains (pointwise nat_eq) known.new name ≡ known_behind (contains (pointwise nat_eq) known.old) (part_tree part.now) name) }
     ensures first { OnOk result (first.new ≡ first.old ++ first_not_known (contains (pointwise nat_eq) known.old) (tables_in_part (part_tree part.now))) }
 {
     match part {
+        SourcePart::Proc { .. } => Ok(()),
+        SourcePart::Run { .. } => Ok(()),
+        SourcePart::Quit { .. } => Ok(()),
+        SourcePart::Package(unit) => {
+            add_mentioned(alloc, known, first, unit.globals.as_slice())?;
+            Ok(())
+        }
+        SourcePart::Thread(unit) => {
+            add_mentioned(alloc, known, first, unit.globals.as_slice())?;
+            Ok(())
+        }
         SourcePart::Data(program) => {
             add_program(alloc, known, first, program)?;
             Ok(())
         }
-        SourcePart::Proc { .. } => Ok(()),
-        SourcePart::Run { .. } => Ok(()),
-        SourcePart::Quit { .. } => Ok(()),
-        SourcePart::Package(_) => Ok(()),
-        SourcePart::Thread(_) => Ok(()),
     }
 }

@@ -1,2 +1,3 @@
 pub mod CursorSteps
 pub mod OpenCursors
+pub mod GroupLaws

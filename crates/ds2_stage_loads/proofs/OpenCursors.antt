@@ -1,12 +1,18 @@
 -- Places in the loads of a program, before the first load.
-use Rattle.std.proofs.Common.{◌≡◌, ℕ, zero, suc, ◌+◌, ◌<◌, Bool, true, false, List, [], ◌∷◌, ◌++◌, length, map, drop, min, Option, Some, None, refl, sym, ap, ◌∙◌, subst, append_assoc, arith}
+use Rattle.std.proofs.Common.{◌≡◌, ℕ, zero, suc, ◌+◌, ◌<◌, Bool, true, false, List, [], ◌∷◌, ◌++◌, length, map, take, drop, min, Option, Some, None, refl, sym, ap, ◌∙◌, subst, append_assoc, arith}
 use Rattle.std.specs.Prelude.{slice_get}
-use Rattle.std.specs.Option.{option_map}
-use Rattle.std.proofs.lemmas.List.{map-append, append-nil}
+use Rattle.std.specs.Option.{option_map, option_map_or}
+use Rattle.std.proofs.lemmas.List.{map-append, append-nil, length-map}
+use Rattle.ds2_value.specs.Row.{Row}
+use Rattle.ds2_value.specs.Value.{or_null}
+use Rattle.ds2_table.specs.LoadLaws.{one_after_another, AreKeys, HaveTableKeys}
 use Rattle.ds2_table.specs.Loads.{Load, KeyedLoad, keyed_load, groups}
 use Rattle.ds2_table.specs.Table.{Contents}
 use Rattle.ds2_by_order.specs.CursorState.{Cursor, cursor_at_start, next_load_of, behind_next}
 use Rattle.ds2_by_order.specs.LoadMeaning.{load_meaning}
+use Rattle.ds2_by_order.specs.ReadingKeys.{directions_of, column_of_slot, columns_of_bys, key_in_columns, keys_in_columns, keys_of_table}
+use Rattle.ds2_reading.specs.declared.reading.ByKey.{ByKey}
+use Rattle.ds2_reading.specs.declared.reading.ReadTable.{ReadTable}
 use Rattle.ds2_reading.specs.declared.load.Load.{Load as LoadInCode}
 use Rattle.ds2_reading.specs.declared.reading.Reading.{Reading}
 use Rattle.ds2_code.specs.declared.parts.ProgramParts.{ProgramParts}
@@ -20,29 +26,77 @@ use Rattle.ds2_unit.specs.StatementSource.{settings_of_statement, settings_left}
 use Rattle.ds2_unit.proofs.LoadsLeft.{first_left, none_left}
 use Rattle.ds2_stage_loads.specs.Grains.{IsGrainOf}
 use Rattle.ds2_stage_loads.specs.GroupedLoads.{settings_of_code}
-use Rattle.ds2_stage_loads.specs.StageCursors.{settings_of_numbers, settings_of_keyed, IsCursorOver, IsOpenCursor}
+use Rattle.ds2_stage_loads.specs.StageCursors.{settings_of_numbers, settings_of_keyed, in_parts, settings_in_parts, IsCursorOver, IsOpenCursor}
 use Rattle.ds2_stage_loads.specs.declared.kept_loads.KeptLoads.{KeptLoads}
 use Rattle.ds2_stage_loads.specs.declared.stage_cursor.StageCursor.{StageCursor}
 use Rattle.ds2_stage_loads.specs.declared.stage_cursor.StageCursor.TheVariants as cursor
 
+-- ---- groups divide the loads
+
+all_of_key : (columns : List ℕ) (bys : List ByKey) (slots : List ℕ) (row : Row) → columns ≡ columns_of_bys slots bys → length (key_in_columns columns row) ≡ length (directions_of bys)
+all_of_key columns bys slots row is =
+    length-map columns (λ column. or_null (slice_get row column))
+    ∙ ap length is
+    ∙ length-map bys (λ (by : ByKey). column_of_slot slots by.slot)
+    ∙ sym (length-map bys (λ (by : ByKey). by.is_descending))
+
+keys_are : (bys : List ByKey) (slots : List ℕ) (rows : List Row) → AreKeys (directions_of bys) (keys_in_columns (columns_of_bys slots bys) rows)
+keys_are bys slots [] = tt
+keys_are bys slots (row ∷ rows) = (all_of_key (columns_of_bys slots bys) bys slots row refl, keys_are bys slots rows)
+
+keys_had : (bys : List ByKey) (slots : List ℕ) (o : Option Contents) → AreKeys (directions_of bys) (option_map_or (λ (t : Contents). keys_in_columns (columns_of_bys slots bys) t.rows) o [])
+keys_had bys slots None = tt
+keys_had bys slots (Some t) = keys_are bys slots t.rows
+
+pub have_table_keys : (tables : List Contents) (bys : List ByKey) (reads : List ReadTable) → HaveTableKeys (directions_of bys) (map (keys_of_table tables bys) reads)
+have_table_keys tables bys [] = tt
+have_table_keys tables bys (read ∷ reads) = (keys_had bys read.slots (slice_get tables read.table), have_table_keys tables bys reads)
+
+take_front : {A : Type 0} (xs ys : List A) → take (length xs) (xs ++ ys) ≡ xs
+take_front [] ys = refl
+take_front (x ∷ xs) ys = ap (λ z. x ∷ z) (take_front xs ys)
+
+drop_front : {A : Type 0} (xs ys : List A) → drop (length xs) (xs ++ ys) ≡ ys
+drop_front [] ys = refl
+drop_front (x ∷ xs) ys = drop_front xs ys
+
+module _ {A : Type 0} (f : KeyedLoad → A) where
+  parts_are : (gs : List (List KeyedLoad)) → in_parts (map (λ (group : List KeyedLoad). length group) gs) (map f (one_after_another gs)) ≡ map (map f) gs
+  parts_are [] = refl
+  parts_are (group ∷ gs) =
+      let rest = map f (one_after_another gs) in
+      let both : map f (group ++ one_after_another gs) ≡ map f group ++ rest = map-append f group (one_after_another gs) in
+      let len : length group ≡ length (map f group) = sym (length-map group f) in
+      ap (λ xs. take (length group) xs ∷ in_parts (map (λ (g : List KeyedLoad). length g) gs) (drop (length group) xs)) both
+      ∙ ap (λ n. take n (map f group ++ rest) ∷ in_parts (map (λ (g : List KeyedLoad). length g) gs) (drop n (map f group ++ rest))) len
+      ∙ ap (λ xs. xs ∷ in_parts (map (λ (g : List KeyedLoad). length g) gs) (drop (length (map f group)) (map f group ++ rest))) (take_front (map f group) rest)
+      ∙ ap (λ xs. map f group ∷ in_parts (map (λ (g : List KeyedLoad). length g) gs) xs) (drop_front (map f group) rest)
+      ∙ ap (λ xs. map f group ∷ xs) (parts_are gs)
+
 -- ---- cursors
 
-module _ (statement : Reading) (grain : ℕ) (loads : List KeyedLoad) (c : Cursor) (is : c ≡ cursor_at_start (length statement.tables) (length statement.bys) grain loads) where
+module _ (statement : Reading) (grain : ℕ) (loads : List KeyedLoad) (c : Cursor) (is : c ≡ cursor_at_start (length statement.tables) (length statement.bys) grain loads)
+    (divided : one_after_another (groups grain loads) ≡ loads) where
+  in_groups : (at : TableLoad) → settings_in_parts at c ≡ map (map (settings_of_keyed at)) (groups grain loads)
+  in_groups at =
+      let lengths = map (λ (group : List KeyedLoad). length group) (groups grain loads) in
+      ap (settings_in_parts at) is
+      ∙ ap (λ (xs : List KeyedLoad). in_parts lengths (map (settings_of_keyed at) xs)) (sym divided)
+      ∙ parts_are (settings_of_keyed at) (groups grain loads)
+
   pub set_opened : IsOpenCursor statement grain loads (cursor.Set c)
-  set_opened =
-      record {
-        over = let P : Cursor → Type 0 = λ x. IsCursorOver statement (cursor.Set x) in subst P (sym is) (refl, refl);
-        left = λ at same. ap (settings_left at) is;
-        groups = λ at same. ap (λ (x : Cursor). map (map (settings_of_keyed at)) (groups x.grain x.loads)) is;
-      }
+  set_opened = record {
+    over = let P : Cursor → Type 0 = λ x. IsCursorOver statement (cursor.Set x) in subst P (sym is) (refl, refl);
+    left = λ at same. ap (settings_left at) is;
+    groups = λ at same. in_groups at;
+  }
 
   pub merge_opened : IsOpenCursor statement grain loads (cursor.Merge c)
-  merge_opened =
-      record {
-        over = let P : Cursor → Type 0 = λ x. IsCursorOver statement (cursor.Merge x) in subst P (sym is) (refl, refl);
-        left = λ at same. ap (settings_left at) is;
-        groups = λ at same. ap (λ (x : Cursor). map (map (settings_of_keyed at)) (groups x.grain x.loads)) is;
-      }
+  merge_opened = record {
+    over = let P : Cursor → Type 0 = λ x. IsCursorOver statement (cursor.Merge x) in subst P (sym is) (refl, refl);
+    left = λ at same. ap (settings_left at) is;
+    groups = λ at same. in_groups at;
+  }
 
 -- ---- kept loads
 

@@ -30,6 +30,17 @@ impl KeptLoads {
         self.given += 1;
         Some(load)
     }
+
+    /// Equal kept loads.
+    pub(crate) fn copy(&self, alloc: Global) -> Result<KeptLoads, OutOfMemory>
+        ensures { IfOk result (λ kept. kept ≡ self.now) }
+    {
+        let loads = self.loads.copy(alloc)?;
+        Ok(KeptLoads {
+            loads,
+            given: self.given,
+        })
+    }
 }
 
 /// A load that reads nothing.

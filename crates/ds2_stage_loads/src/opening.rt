@@ -16,6 +16,7 @@ use ds2_loads::{loaded_hashes, statement_over};
 use ds2_merge::{MergeCursor, MergeWalk};
 use ds2_reading::{Reading, Tables};
 use ds2_rows::SetCursor;
+use ds2_table::laws::{groups_divide_loads, loads_stand_in_by_order};
 use std::alloc::Global;
 
 /// The statement by which a program reads tables, over the numbers of its tables; it has none where the program reads no tables.
@@ -60,6 +61,8 @@ fn open_set(
     requires grain { IsGrainOf (length reading.now.bys) grain }
     ensures { IfOk result (λ cursor. IsOpenCursor reading.now grain (set_loads (directions_of reading.now.bys) (keys_of_reading tables.now reading.now)) cursor) }
 {
+    loads_stand_in_by_order();
+    groups_divide_loads();
     let cursor = SetCursor::open(alloc, reading, tables, grain)?;
     Ok(StageCursor::Set(cursor))
 }
@@ -76,6 +79,8 @@ fn open_merge(
     requires some { 1 ≤ length reading.now.bys }
     ensures { IfOk result (λ cursor. IsOpenCursor reading.now grain (merge_loads (directions_of reading.now.bys) (keys_of_reading tables.now reading.now)) cursor) }
 {
+    loads_stand_in_by_order();
+    groups_divide_loads();
     let cursor = MergeCursor::open(alloc, reading, tables, grain)?;
     Ok(StageCursor::Merge(cursor))
 }

@@ -1,5 +1,5 @@
 //! The loads of a program over its tables.
-ghost use Rattle.std.specs.Prelude.{◌≡◌, IsTrue, IfOk, length};
+ghost use Rattle.std.specs.Prelude.{◌≡◌, ◌<◌, Some, IsTrue, IfOk, length, take, slice_get};
 ghost use Rattle.ds2_reading.specs.ReadingFits.{reading_fits_tables};
 ghost use Rattle.ds2_slots.specs.LoadedHashes.{AreSlotTypesInBounds};
 ghost use Rattle.ds2_code_answer.specs.CodeLoads.{code_loads, code_reading};
@@ -93,5 +93,32 @@ impl<'a> StageLoads<'a> {
         ensures { result ≡ length (cursor_groups self.now.at self.now.cursor) }
     {
         self.cursor.groups()
+    }
+
+    /// Goes before the first load of a group, and tells how many loads it has. Takes no memory.
+    pub fn enter(&mut self, g: u64) -> u64
+        requires { g < length (cursor_groups self.old.at self.old.cursor) }
+        ensures entered { slice_get (cursor_groups self.old.at self.old.cursor) g ≡ Some (take result (cursor_left self.new.at self.new.cursor)) }
+        ensures groups { cursor_groups self.new.at self.new.cursor ≡ cursor_groups self.old.at self.old.cursor }
+    {
+        self.cursor.enter(g)
+    }
+
+    /// Equal loads, at the same load; the tables are shared.
+    pub fn copy(&self, alloc: Global) -> Result<StageLoads<'a>, OutOfMemory>
+        ensures left { IfOk result (λ loads. cursor_left loads.at loads.cursor ≡ cursor_left self.now.at self.now.cursor) }
+        ensures groups { IfOk result (λ loads. cursor_groups loads.at loads.cursor ≡ cursor_groups self.now.at self.now.cursor) }
+    {
+        let cursor = self.cursor.copy(alloc)?;
+        Ok(StageLoads {
+            at: TableLoad {
+                slots: self.at.slots,
+                reading: self.at.reading,
+                retains: self.at.retains,
+                tables: self.at.tables,
+                load: self.at.load,
+            },
+            cursor,
+        })
     }
 }

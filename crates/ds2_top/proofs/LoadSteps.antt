@@ -44,7 +44,7 @@ use Rattle.ds2_answer.specs.Status.{IsAnswerStatus}
 use Rattle.ds2_answer.specs.StoredCodes.{HaveCodes}
 use Rattle.ds2_answer.specs.TablePlans.{read_file, read_tables}
 use Rattle.ds2_answer.specs.Words.{is_source}
-use Rattle.ds2_exec.specs.CodeRuns.{AreLinked, HasColumnsStored, StandsAlone}
+use Rattle.ds2_exec.specs.CodeRuns.{AreLinked, HasColumnsStored}
 use Rattle.ds2_exec.specs.FileReads.{OverSomeFiles, ReadsWholeFile, WasFileRead}
 use Rattle.ds2_exec.specs.Halts.{HaltsAs, HaltsPlan, StopsAs}
 use Rattle.ds2_exec.specs.TableReads.{ReadsTables}
@@ -52,6 +52,7 @@ use Rattle.ds2_exec.specs.declared.halt.Halt.{Halt}
 use Rattle.ds2_exec.specs.declared.halt.Halt.TheVariants.{OutOfMemory, Ended}
 use Rattle.ds2_exec.proofs.FileSteps.{line_ends, load_then, over_all, over_map}
 use Rattle.ds2_exec.proofs.Leading.{at_once, does_on}
+use Rattle.ds2_top.proofs.PlainSources.{StandsOnTables, codes_alone, source_plain}
 use Rattle.ds2_top.specs.SourceLoads.{AreInputsRead, IsObjectOfPrograms, IsRunnableObject, LoadsSource, ReadsInputs, WasLoaded, schema_held}
 use Rattle.ds2_top.specs.SourceObjects.{BecomesPrograms}
 use Rattle.ds2_top.specs.declared.loaded.Loaded.{Loaded}
@@ -128,12 +129,6 @@ have_codes names tables [] (code ∷ object) are = are
 have_codes names tables (p ∷ programs) [] are = are
 have_codes names tables (p ∷ programs) (code ∷ object) are = (are.0.same, have_codes names tables programs object are.1)
 
-stand_alone : (names : List (List ℕ)) (tables : TableColumns) (programs : List ProgramTree) (object : List StagedParts) → AreCompiledPrograms names tables programs object → AllByRecursion StandsAlone object
-stand_alone names tables [] [] are = tt
-stand_alone names tables [] (code ∷ object) are = absurd are
-stand_alone names tables (p ∷ programs) [] are = tt
-stand_alone names tables (p ∷ programs) (code ∷ object) are = (record { stages = are.0.runs.stages; reading = are.0.runs.reading }, stand_alone names tables programs object are.1)
-
 all_append : {A : Type 0} (P : A → Type 0) (xs ys : List A) → AllByRecursion P xs → AllByRecursion P ys → AllByRecursion P (xs ++ ys)
 all_append P [] ys a b = b
 all_append P (x ∷ xs) ys a b = (a.0, all_append P xs ys a.1 b)
@@ -155,12 +150,13 @@ second_of : (a b : Bool) → IsTrue (a && b) → IsTrue b
 second_of true b h = h
 second_of false b h = absurd (cc)
 
-object_of_programs : (names : List (List ℕ)) (programs : List ProgramTree) (loaded : Loaded) → IsCompiledObject names (columns_held (held_from_store loaded.stored)) programs loaded.object → IsObjectOfPrograms programs loaded
-object_of_programs names programs loaded is = record {
+object_of_programs : (names : List (List ℕ)) (programs : List ProgramTree) (loaded : Loaded) → AllByRecursion StandsOnTables programs
+    → IsCompiledObject names (columns_held (held_from_store loaded.stored)) programs loaded.object → IsObjectOfPrograms programs loaded
+object_of_programs names programs loaded plain is = record {
   codes = have_codes names (columns_held (held_from_store loaded.stored)) programs loaded.object is.codes;
   valid = is.valid;
   runs = record {
-    alone = stand_alone names (columns_held (held_from_store loaded.stored)) programs loaded.object is.codes;
+    alone = codes_alone programs loaded.object plain (have_codes names (columns_held (held_from_store loaded.stored)) programs loaded.object is.codes) is.valid.each;
     linked = record {
       links = second_of (is_short loaded.object) (linked_behind [] loaded.object) is.valid.links;
       columns = all_columns names loaded.stored programs loaded.object is.codes;
@@ -168,7 +164,7 @@ object_of_programs names programs loaded is = record {
   };
 }
 
-module _ (names : List (List ℕ)) (parts : List SourcePart) (stored : List NamedTable) where
+module _ (names : List (List ℕ)) (parts : List SourcePart) (stored : List NamedTable) (built : is_built_source parts ≡ true) where
   abbrev outcome_over : Result (List ProgramTree) ProgramRefusal
   outcome_over = elaborated_source (columns_held (held_from_store stored)) parts
 
@@ -186,7 +182,7 @@ module _ (names : List (List ℕ)) (parts : List SourcePart) (stored : List Name
           names = [];
           plan_is = λ go. ap (λ (o : Result (List ProgramTree) ProgramRefusal). with_typed_programs o (go (held_from_store stored))) e ∙ ap (λ (ts : List NamedTable). go (held_from_store ts) programs) (sym stored_is);
         };
-        object = object_of_programs names programs loaded
+        object = object_of_programs names programs loaded (source_plain (columns_held (held_from_store stored)) parts programs built e)
             (subst (λ (ts : List NamedTable). IsCompiledObject names (columns_held (held_from_store ts)) programs loaded.object) (sym stored_is)
             (subst (λ (object : List StagedParts). IsCompiledObject names (columns_held (held_from_store stored)) programs object) object_is is));
       }
@@ -199,12 +195,12 @@ module _ (names : List (List ℕ)) (parts : List SourcePart) (stored : List Name
       (λ files go. ap (λ (o : Result (List ProgramTree) ProgramRefusal). with_typed_programs o (go (held_from_store stored))) e
       ∙ ap (λ (r : SourceRefusal). Logs (source_line (Rule r.kind) r.place) (Stops ended.Source)) (sym is)) tt stops refl
 
-module _ (tables : TableColumns) (parts : List SourcePart) (stored : List NamedTable) (same : tables ≡ columns_held (held_from_store stored)) where
+module _ (tables : TableColumns) (parts : List SourcePart) (stored : List NamedTable) (built : is_built_source parts ≡ true) (same : tables ≡ columns_held (held_from_store stored)) where
   -- a source was compiled over the tables that were read
   pub compiled_over : (loaded : Loaded) → loaded.stored ≡ stored → (compiled : Compiled) → compiled.object ≡ loaded.object → IsCompiled tables parts (Ok compiled)
       → (said : List ℕ) (told : Option Files) → LoadsSource (λ files go. with_tables parts go stored) said told (Ok loaded) said told
   compiled_over loaded stored_is compiled object_is is said told = (
-    loaded_by (names_alone (source_inputs parts)) parts stored (elaborated_source (columns_held (held_from_store stored)) parts) refl loaded stored_is compiled object_is
+    loaded_by (names_alone (source_inputs parts)) parts stored built (elaborated_source (columns_held (held_from_store stored)) parts) refl loaded stored_is compiled object_is
         (subst (λ (ts : TableColumns). IsCompiled ts parts (Ok compiled)) same is) told,
     refl,
     refl,
@@ -214,7 +210,7 @@ module _ (tables : TableColumns) (parts : List SourcePart) (stored : List NamedT
   pub refused_over : (given : SourceRefusal) (stop : Stop SourceRefusal) (said log : List ℕ) (halt : Halt) → stop ≡ Refused given → IsCompiled tables parts (Err stop)
       → StopsAs ended.Source (source_line (Rule given.kind) given.place) said halt log → (told : Option Files) → LoadsSource (λ files go. with_tables parts go stored) said told (Err halt) log told
   refused_over given stop said log halt stop_is is stops told =
-      refused_by (names_alone (source_inputs parts)) parts stored (elaborated_source (columns_held (held_from_store stored)) parts) refl given said log halt
+      refused_by (names_alone (source_inputs parts)) parts stored built (elaborated_source (columns_held (held_from_store stored)) parts) refl given said log halt
       (subst (λ (ts : TableColumns). IsCompiled ts parts (Err (Refused given))) same (subst (λ (s : Stop SourceRefusal). IsCompiled tables parts (Err s)) stop_is is)) stops told
 
 -- ---- the tables of a source

@@ -1,7 +1,7 @@
 //! From the tree of a source and the tables of the store that it reads to its object.
-ghost use Rattle.std.specs.Prelude.{◌≡◌, IfOk, map, Option};
+ghost use Rattle.std.specs.Prelude.{◌≡◌, true, IfOk, map, Option};
 ghost use Rattle.ds2_outside.specs.Files.{Files};
-ghost use Rattle.ds2_compile.specs.BuiltSources.{IsDataSource};
+ghost use Rattle.ds2_compile.specs.BuiltSources.{is_built_source};
 ghost use Rattle.ds2_compile.specs.SourceTexts.{StandsInText};
 ghost use Rattle.ds2_compile.specs.SourceUnit.{columns_stored};
 ghost use Rattle.ds2_compile.specs.UnitViews.{source_tree};
@@ -55,7 +55,7 @@ pub(crate) fn compile_over(
     stored: List<KeptTable>,
     log: &mut Bytes,
 ) -> Result<Loaded, Halt>
-    requires domain { IsDataSource (source_tree tree.now) }
+    requires domain { is_built_source (source_tree tree.now) ≡ true }
     requires text { StandsInText (source_tree tree.now) }
     ensures loads { (told : Option Files) → LoadsSource (λ files go. with_tables (source_tree tree.now) go stored) log.old told result log.new told }
     ensures unread { HaltsAs Status.Read result → ⊥ }

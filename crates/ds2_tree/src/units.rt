@@ -354,6 +354,17 @@ fn spell_part(alloc: Global, out: &mut List<Token>, part: &SourcePart) -> Added
     }
 }
 
+impl Package {
+    /// The tokens of the package, from `package` to the `;` behind `endpackage`, each with its place.
+    pub fn spelling(&self, alloc: Global) -> Result<List<Token>, OutOfMemory>
+        ensures { IfOk result (λ tokens. tokens ≡ package_spelling (package_tree self.now)) }
+    {
+        let mut out = List::new(alloc);
+        spell_package(alloc, &mut out, self)?;
+        Ok(out)
+    }
+}
+
 impl Source {
     /// The tokens of the source, each with its place.
     pub fn spelling(&self, alloc: Global) -> Result<List<Token>, OutOfMemory>

@@ -1,6 +1,6 @@
 -- Methods that can be called, one by one.
 use Rattle.std.proofs.Common.{◌≡◌, ℕ, ◌+◌, ◌||◌, Bool, true, false, if◌then◌else◌, bytes_eq, List, [], ◌∷◌, Option, Some, None, refl, sym, ap, ◌∙◌, subst}
-use Rattle.std.specs.Prelude.{nat_eq, not, is_some, position, unwrap_or}
+use Rattle.std.specs.Prelude.{nat_eq, is_some, position, unwrap_or}
 use Rattle.std.specs.List.{position_from}
 use Rattle.std.specs.Option.{option_or}
 use Rattle.std.specs.Cmp.Lexicographic.{pointwise}
@@ -11,9 +11,10 @@ use Rattle.ds2_tree.specs.Globals.{Method, GlobalItem, Declared, Listed, Defined
 use Rattle.ds2_value.specs.declared.ty.Ty.{Ty}
 use Rattle.ds2_meaning.specs.IsTyped.{type_in}
 use Rattle.ds2_meaning.specs.ProgramTree.{is_listed}
-use Rattle.ds2_names.specs.SourceUnit.{spelled_name, is_system_name, source_methods}
+use Rattle.ds2_names.specs.SourceUnit.{UnitKind, OfPackage, OfThread, OfData, spelled_name, source_methods}
 use Rattle.ds2_names.specs.Uses.{method_named}
-use Rattle.ds2_elaboration.specs.ExpressionTypes.{TypeScope, ObjectCalls, callable_methods, object_in_scope}
+use Rattle.ds2_elaboration.specs.ExpressionTypes.{TypeScope, ObjectCalls, object_in_scope}
+use Rattle.ds2_elaboration.specs.ProgramTypes.{methods_to_call}
 use Rattle.ds2_expression_walk.specs.Scopes.{IsMethodAs, AreKnownMethods, IsObjectAs, object_unless, object_in, IsScopeOf}
 use Rattle.ds2_expression_walk.specs.declared.scopes.KnownMethod.{KnownMethod}
 use Rattle.ds2_expression_walk.specs.declared.scopes.KnownName.{KnownName}
@@ -21,7 +22,7 @@ use Rattle.ds2_expression_walk.specs.declared.scopes.KnownObject.{KnownObject}
 use Rattle.ds2_expression_walk.specs.declared.scopes.Scope.{Scope}
 use Rattle.ds2_scope.proofs.TableLemmas.{or_none}
 use Rattle.ds2_type_tables.specs.Bys.{if_listed, HasBys}
-use Rattle.ds2_type_tables.specs.Callables.{known_method, known_if_named, callable_if, callable_in, number_behind_method, known_in_part, known_from, HasCallables}
+use Rattle.ds2_type_tables.specs.Callables.{known_method, known_if_named, can_be_called, callable_in, number_behind_method, known_in_part, known_from, HasCallables}
 use Rattle.ds2_type_tables.specs.Globals.{HasGlobals}
 use Rattle.ds2_type_tables.specs.Objects.{object_named, HasObjects}
 use Rattle.ds2_type_tables.specs.Tables.{local_of, HasLocals}
@@ -29,9 +30,9 @@ use Rattle.ds2_type_tables.proofs.ScopeTables.{variables_of_tables}
 
 -- ---- one part more of a unit
 
-module _ (x : Option KnownMethod) (number : ℕ) (gs : List GlobalItem) (name : List ℕ) where
+module _ (x : Option KnownMethod) (number : ℕ) (kind : UnitKind) (gs : List GlobalItem) (name : List ℕ) where
   abbrev left : ℕ → Option KnownMethod
-  left n = known_from n (callable_methods (source_methods gs)) name
+  left n = known_from n (methods_to_call kind (source_methods gs)) name
 
   nothing_more : (next : ℕ) → next ≡ number → option_or (option_or x None) (left next) ≡ option_or x (left number)
   nothing_more next e = ap (λ (y : Option KnownMethod). option_or y (left next)) (or_none x) ∙ ap (λ (n : ℕ). option_or x (left n)) e
@@ -46,22 +47,30 @@ module _ (x : Option KnownMethod) (number : ℕ) (gs : List GlobalItem) (name : 
       by true (Some k) = refl
       by false y = ap (λ (z : Option KnownMethod). option_or z (left (number + 1))) (or_none y)
 
-  callable_more : (m : Method) (next : ℕ) → next ≡ number_behind_method number (callable_if m)
-      → option_or (option_or x (known_in_part name number (callable_if m))) (left next) ≡ option_or x (known_from number (callable_methods (m ∷ source_methods gs)) name)
-  callable_more m next e = by (is_system_name (spelled_name m.name)) e
-    where
-      by : (b : Bool) → next ≡ number_behind_method number (if b then None else Some m)
-          → option_or (option_or x (known_in_part name number (if b then None else Some m))) (left next)
-          ≡ option_or x (known_from number (if not b then m ∷ callable_methods (source_methods gs) else callable_methods (source_methods gs)) name)
-      by true f = nothing_more next f
-      by false f = method_more m next f
+  -- a method that can be called, or not
+  method_if : (m : Method) (b : Bool) (next : ℕ) → next ≡ number_behind_method number (if b then Some m else None)
+      → option_or (option_or x (known_in_part name number (if b then Some m else None))) (left next)
+      ≡ option_or x (known_from number (if b then m ∷ methods_to_call kind (source_methods gs) else methods_to_call kind (source_methods gs)) name)
+  method_if m true next e = method_more m next e
+  method_if m false next e = nothing_more next e
 
-  -- one part more
-  pub one_more_callable : (g : GlobalItem) (next : ℕ) → next ≡ number_behind_method number (callable_in g)
-      → option_or (option_or x (known_in_part name number (callable_in g))) (left next) ≡ option_or x (known_from number (callable_methods (source_methods (g ∷ gs))) name)
-  one_more_callable (Declared d) next e = nothing_more next e
-  one_more_callable (Listed keyword names end) next e = nothing_more next e
-  one_more_callable (Defined m) next e = callable_more m next e
+-- the methods of a unit of a kind, one by one
+methods_with : (kind : UnitKind) (m : Method) (methods : List Method)
+    → methods_to_call kind (m ∷ methods) ≡ (if can_be_called kind m then m ∷ methods_to_call kind methods else methods_to_call kind methods)
+methods_with OfPackage m methods = refl
+methods_with OfThread m methods = refl
+methods_with OfData m methods = refl
+
+-- one part more
+pub one_more_callable : (x : Option KnownMethod) (number : ℕ) (kind : UnitKind) (gs : List GlobalItem) (name : List ℕ) (g : GlobalItem) (next : ℕ)
+    → next ≡ number_behind_method number (callable_in kind g)
+    → option_or (option_or x (known_in_part name number (callable_in kind g))) (known_from next (methods_to_call kind (source_methods gs)) name)
+    ≡ option_or x (known_from number (methods_to_call kind (source_methods (g ∷ gs))) name)
+one_more_callable x number kind gs name (Declared d) next e = nothing_more x number kind gs name next e
+one_more_callable x number kind gs name (Listed keyword names end) next e = nothing_more x number kind gs name next e
+one_more_callable x number kind gs name (Defined m) next e =
+    method_if x number kind gs name m (can_be_called kind m) next e
+    ∙ ap (λ (l : List Method). option_or x (known_from number l name)) (sym (methods_with kind m (source_methods gs)))
 
 -- ---- what the table tells
 

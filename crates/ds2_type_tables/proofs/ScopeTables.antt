@@ -25,7 +25,7 @@ parameter_is : (types : TypeScope) (name : List ℕ) (ty : Option Ty) → IsKnow
 parameter_is types name None = flag_is types name (is_listed types.flags name)
 parameter_is types name (Some ty) = record { reference = refl; ty = refl; refusal = refl }
 
-global_is : (types : TypeScope) (name : List ℕ) (ty : Option Ty)
+pub global_is : (types : TypeScope) (name : List ℕ) (ty : Option Ty)
     → IsKnownAs (known_or (column_known_as types.unjoined name ty) (known_or (parameter_known_as name (type_in types.parameters name)) (flag_of_name types.flags name))) (known_global types name ty)
 global_is types name None = parameter_is types name (type_in types.parameters name)
 global_is types name (Some ty) = record { reference = refl; ty = refl; refusal = refl }

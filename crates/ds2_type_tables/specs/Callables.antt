@@ -1,9 +1,9 @@
 -- The methods of a unit that can be called, as a table tells them.
-use Rattle.std.specs.Prelude.{◌≡◌, ℕ, ◌+◌, nat_eq, bytes_eq, if◌then◌else◌, List, [], ◌∷◌, Option, Some, None}
+use Rattle.std.specs.Prelude.{◌≡◌, ℕ, ◌+◌, Bool, true, not, nat_eq, bytes_eq, if◌then◌else◌, List, [], ◌∷◌, Option, Some, None}
 use Rattle.std.specs.Cmp.Lexicographic.{pointwise}
 use Rattle.std.specs.HashMap.{HashMap, get}
 use Rattle.ds2_tree.specs.Globals.{Method, GlobalItem, Defined}
-use Rattle.ds2_names.specs.SourceUnit.{spelled_name, is_system_name}
+use Rattle.ds2_names.specs.SourceUnit.{UnitKind, OfPackage, spelled_name, is_system_name}
 use Rattle.ds2_elaboration.specs.SourceTypes.{elaborated_parameters, returned_type}
 use Rattle.ds2_expression_walk.specs.declared.scopes.KnownMethod.{KnownMethod}
 
@@ -15,14 +15,19 @@ known_method number m = record { number = number; parameters = elaborated_parame
 abbrev pub known_if_named : List ℕ → ℕ → Method → Option KnownMethod
 known_if_named name number m = if bytes_eq (spelled_name m.name) name then Some (known_method number m) else None
 
--- a method, where it is none of `init`, `run` and `term`
-abbrev pub callable_if : Method → Option Method
-callable_if m = if is_system_name (spelled_name m.name) then None else Some m
+-- a method of a unit of this kind can be called: each of a package, and of a program all but `init`, `run` and `term`
+abbrev pub can_be_called : UnitKind → Method → Bool
+can_be_called OfPackage m = true
+can_be_called _ m = not (is_system_name (spelled_name m.name))
 
--- the method that can be called in a part of a unit, where there is one
-abbrev pub callable_in : GlobalItem → Option Method
-callable_in (Defined m) = callable_if m
-callable_in _ = None
+-- a method of a unit of this kind, where it can be called
+abbrev pub callable_if : UnitKind → Method → Option Method
+callable_if kind m = if can_be_called kind m then Some m else None
+
+-- the method that can be called in a part of a unit of this kind, where there is one
+abbrev pub callable_in : UnitKind → GlobalItem → Option Method
+callable_in kind (Defined m) = callable_if kind m
+callable_in kind _ = None
 
 -- the number behind such a method
 abbrev pub number_behind_method : ℕ → Option Method → ℕ

@@ -2,7 +2,9 @@
 ghost use Rattle.std.specs.Prelude.{◌≡◌, ℕ, List as Items, IfOk, nat_eq};
 ghost use Rattle.std.specs.Cmp.Lexicographic.{pointwise};
 ghost use Rattle.std.specs.HashMap.{get};
-ghost use Rattle.ds2_expression_walk.specs.Scopes.{known_or};
+ghost use Rattle.std.specs.Option.{option_copied};
+ghost use Rattle.ds2_elaboration.specs.ExpressionTypes.{TypeScope, global_variable};
+ghost use Rattle.ds2_expression_walk.specs.Scopes.{known_or, IsKnownAs};
 ghost use Rattle.ds2_meaning.specs.IsTyped.{type_in};
 ghost use Rattle.ds2_names.specs.SourceUnit.{PlacedName as PlacedOf};
 ghost use Rattle.ds2_type_tables.specs.Clashes.{HasClashes};
@@ -10,7 +12,7 @@ ghost use Rattle.ds2_type_tables.specs.Globals.{known_column, column_known_as, p
 
 use crate::clashes::{Clashes, clash_table, same_refusal};
 use crate::tables::add;
-use ds2_base::{List, Name, OutOfMemory};
+use ds2_base::{Bytes, List, Name, OutOfMemory};
 use ds2_expression_walk::scopes::{KnownName, KnownNames, Standing};
 use ds2_meaning::Variable;
 use ds2_names::PlacedName;
@@ -107,4 +109,11 @@ pub fn globals(
         add(alloc, &mut names, known)?;
     }
     Ok(names)
+}
+
+/// The global that a name stands for: a variable or column of the unit, else a parameter of a thread program, else a flag.
+pub fn global_named<'n>(names: &'n KnownNames, name: &Bytes) -> Option<&'n KnownName>
+    ensures { (types : TypeScope) → HasGlobals names.now types.unjoined types.variables types.parameters types.flags → IsKnownAs (option_copied result) (global_variable types name.now) }
+{
+    names.get(name)
 }

@@ -1,2 +1,4 @@
-pub mod ProgramOutcomes
+pub mod UnitOutcomes
+pub mod UnitsBehind
+pub mod TablesMade
 pub mod SourceSteps

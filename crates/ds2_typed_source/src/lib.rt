@@ -1,12 +1,11 @@
 //! The typed programs of a source.
 //!
-//! [`typed_programs`] gives what a source becomes: typed programs in order, or the first refusal. A program's names come before its types,
-//! and an earlier program before a later one, which may read the tables that earlier ones make. What that is stands in `ds2_elaboration`.
+//! [`typed_source`] gives what a source becomes: its data programs and its thread programs with their types, or the first refusal. A unit's
+//! names come before its types, and an earlier unit before a later one, which may declare instances of earlier packages and thread programs
+//! and read the tables that earlier programs make. What that is stands in `ds2_elaboration`.
 //!
 //! ```text
-//! if is_built_source(&source) {
-//!     let programs = typed_programs(alloc, &source, &schemas)?;
-//! }
+//! let typed = typed_source(alloc, &source, &schemas)?;
 //! ```
 #![tactic(auto)]
 
@@ -14,5 +13,6 @@ mod outputs;
 mod programs;
 mod refusals;
 mod typed_so_far;
+mod typed_units;
 
-pub use programs::typed_programs;
+pub use programs::{TypedSource, typed_source};

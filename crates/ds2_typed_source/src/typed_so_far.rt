@@ -1,37 +1,42 @@
-//! The programs of a source that are typed so far.
-ghost use Rattle.std.specs.Prelude.{◌≡◌, ◌∷◌, ◌++◌, [], List as Items, IfOk, OnOk, map};
-ghost use Rattle.ds2_tree.specs.Units.{SourcePart as PartTree, AData};
-ghost use Rattle.ds2_tree.specs.UnitViews.{data_tree, global_tree, part_tree, source_tree};
-ghost use Rattle.ds2_names.specs.SourceLimits.{BeforeUnit, before_all, behind_part};
-ghost use Rattle.ds2_names.specs.SourceUnit.{TableColumns, columns_stored, source_instances, unit_of_data};
+//! The units of a source that are typed so far.
+ghost use Rattle.std.specs.Prelude.{◌≡◌, ◌∷◌, ◌++◌, [], List as Items, IfOk, map, reverse as reversed};
+ghost use Rattle.ds2_tree.specs.Units.{SourcePart as PartTree, APackage, AThread, AData};
+ghost use Rattle.ds2_tree.specs.UnitViews.{data_tree, package_tree, part_tree, source_tree, thread_tree};
+ghost use Rattle.ds2_names.specs.SourceLimits.{before_all};
+ghost use Rattle.ds2_names.specs.SourceUnit.{TableColumns};
+ghost use Rattle.ds2_elaboration.specs.TypedPrograms.{StandsInSource};
 ghost use Rattle.ds2_elaboration.specs.UnitsBefore.{UnitsBefore as UnitTypes};
+ghost use Rattle.ds2_known_types.specs.TypesKnown.{TellsTypes};
 ghost use Rattle.ds2_resolve.specs.StandingBefore.{TellsOfUnits};
-ghost use Rattle.ds2_typed_source.specs.SourceOutcomes.{IsOutcomeOfProgram, program_outcome};
 ghost use Rattle.ds2_typed_source.specs.TablesBehind.{HaveOutputSchemas, last_outputs, schema_of_output, mention_of_output};
-ghost use Rattle.ds2_typed_source.specs.TypedSoFar.{DataStands, BecomesOrStops, BecomesWithRest, StandsBehindSome};
+ghost use Rattle.ds2_typed_source.specs.TypedSoFar.{BecomesOrStops, BecomesWithRest, StandsBehindSome};
 
 use crate::outputs::{schemas_before, tables_before};
-use crate::refusals::{of_names, of_types};
+use crate::programs::TypedSource;
+use crate::typed_units::{typed_package, typed_program, typed_thread};
 use ds2_base::{List, OutOfMemory, Stop};
 use ds2_elaboration::laws::{every_unit_is_typed, one_outcome};
+use ds2_known_types::KnownTypes;
 use ds2_meaning::{MentionedTable, OutputTable, TypedData};
 use ds2_names::NamedSchema;
-use ds2_program_types::check::check;
-use ds2_resolve::{UnitsBefore, resolve};
+use ds2_resolve::UnitsBefore;
 use ds2_source::SourceRefusal;
-use ds2_tree::{DataProgram, Source, SourcePart};
+use ds2_tree::{DataProgram, Package, Source, SourcePart, Thread};
 use std::alloc::Global;
 
-/// The programs of a source that are typed so far, and what the next one is read by.
+/// The units of a source that are typed so far, and what the next one is read by.
 #[derive(Drop)]
-pub(crate) struct TypedSoFar {
-    /// What stands before the next program.
+pub(crate) struct TypedSoFar<'s> {
+    /// What the names of the next unit may mean.
     pub(crate) before: UnitsBefore,
-    /// The tables that the programs make, the last program's first.
+    /// The packages and thread programs with their types.
+    pub(crate) known: KnownTypes<'s>,
+    /// The tables that the data programs make, the last program's first.
     pub(crate) made: List<MentionedTable>,
-    /// The tables that the next program may read, with their columns: those that programs make, the last program's first, and then those
-    /// of the store.
+    /// The tables that the next unit may read, with their columns: those that programs make, the last program's first, and then those of
+    /// the store.
     pub(crate) tables: List<NamedSchema>,
+    /// The data programs, in order.
     pub(crate) typed: List<TypedData>,
 }
 
@@ -50,27 +55,6 @@ fn copied(alloc: Global, tables: &[NamedSchema]) -> Result<List<NamedSchema>, Ou
     Ok(copy)
 }
 
-// What a program becomes behind others, which make these tables.
-fn typed_program(
-    alloc: Global,
-    before: &mut UnitsBefore,
-    made: &[MentionedTable],
-    tables: &[NamedSchema],
-    program: &DataProgram,
-) -> Result<TypedData, Stop<SourceRefusal>>
-    requires { source_instances (map global_tree program.now.globals) ≡ [] }
-    ensures typed { (units : UnitTypes) → TellsOfUnits before.old units.names → made.now ≡ units.names.made → IsOutcomeOfProgram (program_outcome (columns_stored tables.now) units (unit_of_data (data_tree program.now))) result }
-    ensures behind { OnOk result ((units : BeforeUnit) → TellsOfUnits before.old units → TellsOfUnits before.new (behind_part (columns_stored tables.now) (AData (data_tree program.now)) units)) }
-{
-    match resolve(alloc, tables, before, program)? {
-        Some(refusal) => Err(Stop::Refused(of_names(refusal))),
-        None => match check(alloc, tables, made, program)? {
-            Ok(typed) => Ok(typed),
-            Err(refusal) => Err(Stop::Refused(of_types(refusal))),
-        },
-    }
-}
-
 // The outputs of the last program.
 fn last_outputs(typed: &[TypedData]) -> &[OutputTable]
     ensures { result.now ≡ last_outputs typed.now }
@@ -81,22 +65,25 @@ fn last_outputs(typed: &[TypedData]) -> &[OutputTable]
     }
 }
 
-impl TypedSoFar {
-    /// No program, before a source that reads these tables of the store.
+impl<'s> TypedSoFar<'s> {
+    /// No unit, before a source that reads these tables of the store.
     pub(crate) fn new(
         alloc: Global,
         source: &Source,
         tables: &[NamedSchema],
-    ) -> Result<TypedSoFar, OutOfMemory>
+    ) -> Result<TypedSoFar<'s>, OutOfMemory>
         ensures none { IfOk result (λ t. t.typed ≡ []) }
         ensures made { IfOk result (λ t. t.made ≡ []) }
         ensures tables { IfOk result (λ t. t.tables ≡ tables.now) }
         ensures before { IfOk result (λ t. TellsOfUnits t.before (before_all (source_tree source.now))) }
+        ensures known { (units : UnitTypes) → units.packages ≡ [] → units.threads ≡ [] → IfOk result (λ t. TellsTypes t.known units) }
+        ensures threads { IfOk result (λ t. t.known.threads ≡ []) }
     {
         let before = UnitsBefore::of_source(alloc, source)?;
         let tables = copied(alloc, tables)?;
         Ok(TypedSoFar {
             before,
+            known: KnownTypes::new(alloc),
             made: List::new(alloc),
             tables,
             typed: List::new(alloc),
@@ -104,15 +91,17 @@ impl TypedSoFar {
     }
 
     // The tables of the last program, which those behind it may read.
-    fn with_tables(self, alloc: Global) -> Result<TypedSoFar, OutOfMemory>
+    fn with_tables(self, alloc: Global) -> Result<TypedSoFar<'s>, OutOfMemory>
         requires { HaveOutputSchemas (last_outputs self.typed) }
-        ensures before { IfOk result (λ t. t.before ≡ self.before) }
-        ensures made { IfOk result (λ t. t.made ≡ map (mention_of_output self.before.count) (last_outputs self.typed) ++ self.made) }
-        ensures tables { IfOk result (λ t. t.tables ≡ map schema_of_output (last_outputs self.typed) ++ self.tables) }
-        ensures typed { IfOk result (λ t. t.typed ≡ self.typed) }
+        ensures before { IfOk result (λ t. t.before ≡ self.entry.before) }
+        ensures known { IfOk result (λ t. t.known ≡ self.entry.known) }
+        ensures made { IfOk result (λ t. t.made ≡ map (mention_of_output self.entry.before.count) (last_outputs self.entry.typed) ++ self.entry.made) }
+        ensures tables { IfOk result (λ t. t.tables ≡ map schema_of_output (last_outputs self.entry.typed) ++ self.entry.tables) }
+        ensures typed { IfOk result (λ t. t.typed ≡ self.entry.typed) }
     {
         let TypedSoFar {
             before,
+            known,
             made,
             tables,
             typed,
@@ -122,55 +111,165 @@ impl TypedSoFar {
         let tables = schemas_before(alloc, outputs, tables)?;
         Ok(TypedSoFar {
             before,
+            known,
             made,
             tables,
             typed,
         })
     }
 
-    // The same behind one more program, or its first refusal.
+    /// The programs, at the end of a source.
+    pub(crate) fn ended(self) -> TypedSource
+        ensures programs { result.programs ≡ self.entry.typed }
+        ensures threads { result.threads ≡ reversed self.entry.known.threads }
+    {
+        let TypedSoFar { known, typed, .. } = self;
+        let mut threads = known.threads.into_vec();
+        threads.reverse();
+        TypedSource {
+            programs: typed,
+            threads: List::of(threads),
+        }
+    }
+
+    // The same behind one more data program, or its refusal.
     fn with_program(
         self,
         alloc: Global,
         program: &DataProgram,
-    ) -> Result<TypedSoFar, Stop<SourceRefusal>>
-        requires stands { DataStands (AData (data_tree program.now)) }
+    ) -> Result<TypedSoFar<'s>, Stop<SourceRefusal>>
+        requires stands { StandsInSource (AData (data_tree program.now)) }
         requires behind { StandsBehindSome self }
-        ensures leads { (tables : TableColumns) (parts rest : Items PartTree) → BecomesWithRest tables parts self (AData (data_tree program.now) ∷ rest) → BecomesOrStops tables parts result rest }
+        ensures leads { (tables : TableColumns) (parts rest : Items PartTree) → BecomesWithRest tables parts self.entry (AData (data_tree program.now) ∷ rest) → BecomesOrStops tables parts result rest }
         ensures behind { IfOk result StandsBehindSome }
     {
         one_outcome();
         every_unit_is_typed();
-        let mut so_far = self;
-        let typed = typed_program(
+        let TypedSoFar {
+            before,
+            known,
+            made,
+            tables,
+            typed,
+        } = self;
+        let mut names = before;
+        let mut programs = typed;
+        let own = typed_program(
             alloc,
-            &mut so_far.before,
-            so_far.made.as_slice(),
-            so_far.tables.as_slice(),
+            &mut names,
+            &known,
+            made.as_slice(),
+            tables.as_slice(),
             program,
         )?;
-        so_far.typed.push(typed)?;
-        Ok(so_far.with_tables(alloc)?)
+        programs.push(own)?;
+        let pushed = TypedSoFar {
+            before: names,
+            known,
+            made,
+            tables,
+            typed: programs,
+        };
+        let next = pushed.with_tables(alloc)?;
+        Ok(next)
     }
 
-    /// The same behind one more part of a source of data programs without instances.
+    // The same behind one more package, or its refusal.
+    fn with_package(
+        self,
+        alloc: Global,
+        unit: &'s Package,
+    ) -> Result<TypedSoFar<'s>, Stop<SourceRefusal>>
+        requires stands { StandsInSource (APackage (package_tree unit.now)) }
+        requires behind { StandsBehindSome self }
+        ensures leads { (tables : TableColumns) (parts rest : Items PartTree) → BecomesWithRest tables parts self.entry (APackage (package_tree unit.now) ∷ rest) → BecomesOrStops tables parts result rest }
+        ensures behind { IfOk result StandsBehindSome }
+    {
+        one_outcome();
+        every_unit_is_typed();
+        let TypedSoFar {
+            before,
+            known,
+            made,
+            tables,
+            typed,
+        } = self;
+        let mut names = before;
+        let own = typed_package(
+            alloc,
+            &mut names,
+            &known,
+            made.as_slice(),
+            tables.as_slice(),
+            unit,
+        )?;
+        let all = known.with_package(unit, own)?;
+        Ok(TypedSoFar {
+            before: names,
+            known: all,
+            made,
+            tables,
+            typed,
+        })
+    }
+
+    // The same behind one more thread program, or its refusal.
+    fn with_thread(
+        self,
+        alloc: Global,
+        unit: &Thread,
+    ) -> Result<TypedSoFar<'s>, Stop<SourceRefusal>>
+        requires stands { StandsInSource (AThread (thread_tree unit.now)) }
+        requires behind { StandsBehindSome self }
+        ensures leads { (tables : TableColumns) (parts rest : Items PartTree) → BecomesWithRest tables parts self.entry (AThread (thread_tree unit.now) ∷ rest) → BecomesOrStops tables parts result rest }
+        ensures behind { IfOk result StandsBehindSome }
+    {
+        one_outcome();
+        every_unit_is_typed();
+        let TypedSoFar {
+            before,
+            known,
+            made,
+            tables,
+            typed,
+        } = self;
+        let mut names = before;
+        let own = typed_thread(
+            alloc,
+            &mut names,
+            &known,
+            made.as_slice(),
+            tables.as_slice(),
+            unit,
+        )?;
+        let all = known.with_thread(own)?;
+        Ok(TypedSoFar {
+            before: names,
+            known: all,
+            made,
+            tables,
+            typed,
+        })
+    }
+
+    /// The same behind one more part of a source, or its refusal.
     pub(crate) fn with_part(
         self,
         alloc: Global,
-        part: &SourcePart,
-    ) -> Result<TypedSoFar, Stop<SourceRefusal>>
-        requires stands { DataStands (part_tree part.now) }
+        part: &'s SourcePart,
+    ) -> Result<TypedSoFar<'s>, Stop<SourceRefusal>>
+        requires stands { StandsInSource (part_tree part.now) }
         requires behind { StandsBehindSome self }
-        ensures leads { (tables : TableColumns) (parts rest : Items PartTree) → BecomesWithRest tables parts self (part_tree part.now ∷ rest) → BecomesOrStops tables parts result rest }
+        ensures leads { (tables : TableColumns) (parts rest : Items PartTree) → BecomesWithRest tables parts self.entry (part_tree part.now ∷ rest) → BecomesOrStops tables parts result rest }
         ensures behind { IfOk result StandsBehindSome }
     {
         match part {
             SourcePart::Data(program) => self.with_program(alloc, program),
+            SourcePart::Package(unit) => self.with_package(alloc, unit),
+            SourcePart::Thread(unit) => self.with_thread(alloc, unit),
             SourcePart::Proc { .. } => Ok(self),
             SourcePart::Run { .. } => Ok(self),
             SourcePart::Quit { .. } => Ok(self),
-            SourcePart::Package(_) => Ok(self),
-            SourcePart::Thread(_) => Ok(self),
         }
     }
 }

@@ -5,13 +5,13 @@ use Rattle.ds2_program_types.specs.MethodRules.{column_rules}
 use Rattle.ds2_program_types.proofs.column_clashes.of_undeclared.Goals as goal
 
 pub columns-init : goal.columns-init
-columns-init c = λ all h. refl
+columns-init c = λ before u all r h. refl
 
 pub columns-preserved : goal.columns-preserved
-columns-preserved c = λ all h.
-    one_more_ruled (λ n. column_rules (columns_stored c.args.tables.now) c.args.inputs.now all n.name) c.args.columns.now c.columns.n-index c.n-item.result c.columns.found c.in_ok-own.own
-    c.lesser-found.result (omega arith) c.n-item.is (c.columns.invariant all h) (c.in_ok-own.ensures all h) c.lesser-found.ensures
+columns-preserved c = λ before u all r h.
+    one_more_ruled (λ n. column_rules (columns_stored c.args.from.tables.now) before u all n.name) c.args.columns.now c.columns.n-index c.n-item.result c.columns.found c.in_ok-own.own
+    c.lesser-found.result (omega arith) c.n-item.is (c.columns.invariant before u all r h) (c.in_ok-own.ensures before u all r h) c.lesser-found.ensures
 
 pub returns : goal.returns
-returns c = λ all h.
-    all_ruled (λ n. column_rules (columns_stored c.args.tables.now) c.args.inputs.now all n.name) c.args.columns.now c.columns.n-index c.columns.found (omega arith) (c.columns.invariant all h)
+returns c = λ before u all r h.
+    all_ruled (λ n. column_rules (columns_stored c.args.from.tables.now) before u all n.name) c.args.columns.now c.columns.n-index c.columns.found (omega arith) (c.columns.invariant before u all r h)

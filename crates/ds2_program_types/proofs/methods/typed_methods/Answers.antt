@@ -1,6 +1,7 @@
 use Rattle.std.proofs.Common.{take, refl, arith}
 use Rattle.ds2_tree.specs.UnitViews.{global_tree}
 use Rattle.ds2_program_types.proofs.MethodLists.{methods_among, rules_among, one_more_typed, all_typed}
+use Rattle.ds2_program_types.specs.TypedMethodLists.{AreMethodsOf}
 use Rattle.ds2_program_types.proofs.methods.typed_methods.Goals as goal
 
 pub globals-init : goal.globals-init
@@ -9,8 +10,8 @@ globals-init c = λ tables before u t. (refl, c.no_methods.ensures tables before
 pub globals-preserved : goal.globals-preserved
 globals-preserved c = λ tables before u t.
     let passed = take c.globals.global-index c.args.globals.now in
-    one_more_typed global_tree tables before u c.args.globals.now c.globals.global-index c.global-item.result c.in_ok-all.all (omega arith) c.global-item.is
-    (c.in_ok-all.ensures tables before u (methods_among global_tree tables before u passed) (rules_among global_tree tables before u passed) t (c.globals.invariant tables before u t))
+    one_more_typed (AreMethodsOf tables before u) global_tree tables before u c.args.globals.now c.globals.global-index c.global-item.result c.in_ok-all.all (omega arith) c.global-item.is
+    (c.in_ok-all.ensures tables before u (methods_among (AreMethodsOf tables before u) global_tree tables before u passed) (rules_among (AreMethodsOf tables before u) global_tree tables before u passed) t (c.globals.invariant tables before u t))
 
 pub returns : goal.returns
-returns c = λ tables before u t. all_typed global_tree tables before u c.args.globals.now c.globals.global-index c.globals.all (omega arith) (c.globals.invariant tables before u t)
+returns c = λ tables before u t. all_typed (AreMethodsOf tables before u) global_tree tables before u c.args.globals.now c.globals.global-index c.globals.all (omega arith) (c.globals.invariant tables before u t)

@@ -1,16 +1,16 @@
-use Rattle.std.proofs.Common.{◌≡◌, map, ◌∙◌, subst, List}
+use Rattle.std.proofs.Common.{◌≡◌, List, ◌∙◌, subst}
 use Rattle.std.specs.Prelude.{IfOk}
-use Rattle.ds2_elaboration.specs.ProgramTypes.{made_outputs}
-use Rattle.ds2_elaboration.specs.SourceTypes.{vector_variables}
-use Rattle.ds2_names.specs.SourceUnit.{PlacedName, columns_stored, names_alone, unit_of_data}
-use Rattle.ds2_tree.specs.UnitViews.{data_tree}
-use Rattle.ds2_meaning.specs.declared.globals.Variable.{Variable}
-use Rattle.ds2_program_types.specs.TypedOutputs.{outputs_made_of}
+use Rattle.ds2_meaning.specs.declared.globals.OutputTable.{OutputTable}
+use Rattle.ds2_names.specs.SourceUnit.{names_alone}
+use Rattle.ds2_unit_parts.specs.TypedOutputs.{outputs_over}
+use Rattle.ds2_program_types.specs.UnitsAtHand.{columns_at_hand, source_at_hand}
+use Rattle.ds2_program_types.proofs.PartForms.{outputs_told}
 use Rattle.ds2_program_types.proofs.parts.program_outputs.Goals as goal
 
 pub returns : goal.returns
-returns c = λ before n k e.
-    let u = unit_of_data (data_tree c.args.program.now) in
-    subst (λ (ns : List PlacedName). IfOk c.outputs.result (λ all. all ≡ map (outputs_made_of (vector_variables (columns_stored c.args.tables.now) before u) u (names_alone ns)) (made_outputs u))) n
-    (subst (λ (vs : List Variable). IfOk c.outputs.result (λ all. all ≡ map (outputs_made_of vs u (names_alone c.args.names.now)) (made_outputs u)))
-    (c.as_slice.ensures ∙ c.in_ok-vector.ensures before k e) c.outputs.ensures)
+returns c = λ before h.
+    let u = source_at_hand c.args.unit in
+    let vector = c.as_slice.ensures ∙ c.in_ok-vector.ensures before h in
+    let names = c.as_slice-names.ensures ∙ h.names.variables in
+    subst (λ (l : List OutputTable). IfOk c.unit_outputs.result (λ all. all ≡ l)) ((λ i. outputs_over (vector i) u (names_alone (names i)) u.kind) ∙ outputs_told (columns_at_hand c.args.unit) before u u.kind)
+    c.unit_outputs.ensures

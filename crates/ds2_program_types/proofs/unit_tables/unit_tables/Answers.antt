@@ -1,19 +1,21 @@
-use Rattle.std.proofs.Common.{map, ap, ◌∙◌, subst, length}
-use Rattle.ds2_elaboration.specs.ExpressionTypes.{callable_methods}
-use Rattle.ds2_names.specs.SourceUnit.{names_alone, source_methods}
-use Rattle.ds2_tree.specs.UnitViews.{global_tree}
+use Rattle.std.proofs.Common.{Bool, subst}
+use Rattle.std.specs.Prelude.{false}
+use Rattle.ds2_names.specs.SourceUnit.{names_alone}
+use Rattle.ds2_program_types.specs.UnitsAtHand.{names_at_hand}
 use Rattle.ds2_type_tables.specs.Bys.{HasBys}
-use Rattle.ds2_type_tables.specs.Callables.{HasCallables}
-use Rattle.ds2_program_types.specs.MadeOutputs.{names_made, HasNumbers}
+use Rattle.ds2_type_tables.specs.Objects.{HasObjects, objects_called}
 use Rattle.ds2_program_types.proofs.unit_tables.unit_tables.Goals as goal
 
 pub returns : goal.returns
-returns c = λ before n k e. record {
-  globals = c.in_ok-globals.ensures before n k e;
-  bys = subst (λ l. HasBys c.in_ok-bys.bys (names_alone l)) n.bys c.in_ok-bys.ensures;
-  methods = subst (λ l. HasCallables c.in_ok-methods.methods (callable_methods (source_methods (map global_tree l)))) c.as_slice.ensures c.in_ok-methods.ensures;
-  outputs = subst (λ l. HasNumbers c.in_ok-made.made.numbers (names_made l)) c.as_slice-2.ensures c.in_ok-made.ensures.numbers;
-  count = c.in_ok-made.ensures.count ∙ ap (λ l. length (names_made l)) c.as_slice-2.ensures;
-  objects = c.no_objects.ensures;
-  instances = e;
-}
+returns c = λ before t h.
+    let in_init = subst (λ l. HasObjects c.in_ok-called_in_init.called_in_init (objects_called before c.is_program-in_init.result l)) h.instances (c.in_ok-called_in_init.ensures before t) in
+    record {
+      globals = c.in_ok-globals.ensures before h;
+      bys = subst (λ l. HasBys c.in_ok-bys.bys (names_alone l)) h.names.bys c.in_ok-bys.ensures;
+      methods = c.in_ok-methods.ensures;
+      outputs = c.in_ok-made.ensures.numbers;
+      count = c.in_ok-made.ensures.count;
+      objects = subst (λ l. HasObjects c.in_ok-called.called (objects_called before false l)) h.instances (c.in_ok-called.ensures before t);
+      init_objects =
+          subst (λ (b : Bool). HasObjects c.in_ok-called_in_init.called_in_init (objects_called before b (names_at_hand before c.args.unit).instances)) c.is_program-in_init.ensures in_init;
+    }

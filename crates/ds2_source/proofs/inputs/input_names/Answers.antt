@@ -1,14 +1,10 @@
-use Rattle.std.proofs.Common.{List, map, sym, ap, subst, ◌∙◌}
+use Rattle.std.proofs.Common.{List, map, ap, subst, ◌∙◌}
 use Rattle.ds2_tree.specs.UnitViews.{part_tree}
 use Rattle.ds2_tree.specs.declared.units.SourcePart.{SourcePart}
-use Rattle.ds2_source.specs.BuiltSources.{IsDataSource}
 use Rattle.ds2_names.specs.SourceUnit.{PlacedName}
 use Rattle.ds2_source.specs.Answers.{AnswersWith}
 use Rattle.ds2_source.specs.InputTables.{source_inputs, names_or_refusal}
 use Rattle.ds2_source.proofs.inputs.input_names.Goals as goal
-
-pub source_inputs-requires : goal.source_inputs-requires
-source_inputs-requires c = subst (λ (ps : List SourcePart). IsDataSource (map part_tree ps)) (sym c.as_slice-parts.ensures) c.requires
 
 pub returns : goal.returns
 returns c =

@@ -19,3 +19,8 @@ pub returns-in-Quit-clause-leads : goal.returns-in-Quit-clause-leads
 returns-in-Quit-clause-leads c = λ tables parts rest lead.
     past_quit tables parts c.args.self rest c.in-Quit.keyword c.in-Quit.end
     (subst (λ (p : SourcePart). BecomesWithRest tables parts c.args.self (part_tree p ∷ rest)) c.in-Quit.is lead)
+
+pub returns-in-Package-clause-leads : goal.returns-in-Package-clause-leads
+returns-in-Package-clause-leads c = λ tables parts rest lead.
+    c.with_package.ensures.leads tables parts rest
+    (subst (λ (p : SourcePart). BecomesWithRest tables parts c.args.self (part_tree p ∷ rest)) c.in-Package.is lead)

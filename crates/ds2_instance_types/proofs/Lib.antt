@@ -1,0 +1,5 @@
+pub mod ListForms
+pub mod ConstantForms
+pub mod PackageForms
+pub mod HashForms
+pub mod DeclarationForms

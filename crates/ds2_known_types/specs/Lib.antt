@@ -1,0 +1,2 @@
+-- What the code keeps of the types of units.
+pub mod TypesKnown

@@ -1,4 +1,0 @@
-use Rattle.ds2_program_types.proofs.reading.copied.Goals as goal
-
-pub returns : goal.returns
-returns c = λ i. record { name = c.in_ok-name.ensures i; maker = c.args.t.now.maker }

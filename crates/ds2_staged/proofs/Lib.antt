@@ -1,0 +1,7 @@
+pub mod TurnsInOrder
+pub mod LoadTurns
+pub mod GivenScales
+pub mod StagedCode
+pub mod ReaderAnswers
+pub mod ThreadEnds
+pub mod StagedRuns

@@ -1,0 +1,195 @@
+//! A program that reads from a thread program.
+ghost use Rattle.std.specs.Prelude.{◌≡◌, ◌+◌, ◌≤◌, [], ◌∷◌, false, IfOk, OnOk};
+ghost use Rattle.ds2_table.specs.OneThread.{Answer};
+ghost use Rattle.ds2_scales.specs.Scales.{IsDataScaled};
+ghost use Rattle.ds2_slots.specs.LoadedHashes.{AreSlotTypesInBounds};
+ghost use Rattle.ds2_machine.specs.Sink.{SinkTakes};
+ghost use Rattle.ds2_machine.specs.declared.machine.TheConstants.{MOST_BUDGET};
+ghost use Rattle.ds2_code_answer.specs.CodeLoads.{slots_of_stage};
+ghost use Rattle.ds2_unit.specs.ProgramRun.{IsRunEnd};
+ghost use Rattle.ds2_staged.specs.Turns.{HasRunThrough};
+ghost use Rattle.ds2_staged.specs.Threads.{IsThreadEnd, answer_behind, reader_answer, reader_answer_from};
+
+use crate::runs_thread::RunsThread;
+use crate::thread::ThreadEnd;
+use crate::thread_rows::ThreadRows;
+use crate::turns_end::TurnsEnd;
+use crate::units::{and_more, run_to_end};
+use ds2_base::{List, OutOfMemory, Text};
+use ds2_code::{ProgramParts, ReadingPart};
+use ds2_loads::TableRows;
+use ds2_machine::{Machine, UnitEnd, UnitSink};
+use ds2_reading::Tables;
+use ds2_unit::{RunEnd, StageNote};
+use ds2_valid_code::ProgramCode;
+use ds2_value::Ending;
+use std::alloc::Global;
+
+// The slots of the columns of the thread program that a reading reads from; none where it reads from none.
+fn thread_slots(reading: &ReadingPart) -> &[u32]
+    ensures { slots_of_stage reading.now ≡ result.now }
+{
+    match reading {
+        ReadingPart::Once => &[],
+        ReadingPart::Nothing => &[],
+        ReadingPart::Set { .. } => &[],
+        ReadingPart::Merge { .. } => &[],
+        ReadingPart::Stage { slots, .. } => slots.as_slice(),
+    }
+}
+
+// Hands lines on to a sink, in order.
+fn hand_on<S: UnitSink>(alloc: Global, lines: &[Text], sink: &mut S) -> Result<(), OutOfMemory>
+    ensures { OnOk result (SinkTakes S.has_taken sink.old sink.new [] lines.now) }
+{
+    'lines: for line in lines {
+        sink.take_line(alloc, line.as_str())?;
+    }
+    Ok(())
+}
+
+// Goes on behind a thread program, with the parts of the data program.
+fn run_behind<S: UnitSink>(
+    alloc: Global,
+    code: &ProgramCode,
+    program: &ProgramParts,
+    into: &[u32],
+    stage: &ThreadEnd,
+    machine: &mut Machine,
+    budget: u64,
+    sink: &mut S,
+) -> Result<TurnsEnd, OutOfMemory>
+    requires program { code.now.program ≡ program.now }
+    requires number { machine.old.program ≡ 0 }
+    requires types { AreSlotTypesInBounds program.now.slots }
+    requires scaled { IsDataScaled program.now machine.old.state }
+    requires budget { budget ≤ MOST_BUDGET }
+    requires ready { machine.old.spent ≡ false }
+    requires into { slots_of_stage program.now.reading ≡ into.now }
+    ensures { IfOk result (λ end. (answer : Answer) → IsThreadEnd answer stage.now → HasRunThrough S.has_taken sink.old sink.new
+        (answer_behind program.now budget machine.old.state answer) end) }
+{
+    let lines = stage.written.lines.as_slice();
+    hand_on(alloc, lines, sink)?;
+    match stage.ending {
+        Ending::Faulted { kind, place } => Ok(TurnsEnd {
+            ending: Ending::Faulted { kind, place },
+            executed: 0,
+        }),
+        Ending::Normal => {
+            let slots = program.slots.as_slice();
+            let rest = stage.written.rows.as_slice();
+            let mut source = ThreadRows {
+                slots,
+                into,
+                row: &[],
+                rest,
+            };
+            let end = run_to_end(alloc, code, machine, &mut source, budget, sink)?;
+            Ok(end)
+        }
+    }
+}
+
+/// Goes on behind a thread program: its lines come first, its fault ends the data program, and its rows are the loads of `run`.
+pub fn run_rows<S: UnitSink>(
+    alloc: Global,
+    code: &ProgramCode,
+    stage: &ThreadEnd,
+    machine: &mut Machine,
+    budget: u64,
+    sink: &mut S,
+) -> Result<TurnsEnd, OutOfMemory>
+    requires number { machine.old.program ≡ 0 }
+    requires scaled { IsDataScaled code.now.program machine.old.state }
+    requires budget { budget ≤ MOST_BUDGET }
+    requires ready { machine.old.spent ≡ false }
+    ensures { IfOk result (λ end. (answer : Answer) → IsThreadEnd answer stage.now → HasRunThrough S.has_taken sink.old sink.new
+        (answer_behind code.now.program budget machine.old.state answer) end) }
+{
+    let program = &code.parts().program;
+    let into = thread_slots(&program.reading);
+    run_behind(alloc, code, program, into, stage, machine, budget, sink)
+}
+
+/// How a program has ended that ended in its `init`: no thread program was begun.
+pub fn ended_at_init(alloc: Global, first: UnitEnd) -> RunEnd
+    ensures ending { result.ending ≡ first.ending }
+    ensures executed { result.executed ≡ first.executed }
+    ensures stages { result.stages ≡ [] }
+{
+    RunEnd {
+        ending: first.ending,
+        executed: u128::from(first.executed),
+        stages: List::new(alloc),
+    }
+}
+
+/// How a program has ended behind its thread program.
+pub fn ended_behind(
+    alloc: Global,
+    first: UnitEnd,
+    note: StageNote,
+    rest: TurnsEnd,
+) -> Result<RunEnd, OutOfMemory>
+    ensures ending { IfOk result (λ end. end.ending ≡ rest.ending) }
+    ensures executed { IfOk result (λ end. end.executed ≡ first.executed + rest.executed) }
+    ensures stages { IfOk result (λ end. end.stages ≡ note ∷ []) }
+{
+    let executed = and_more(rest.executed, first.executed)?;
+    let mut stages = List::new(alloc);
+    stages.push(note)?;
+    Ok(RunEnd {
+        ending: rest.ending,
+        executed,
+        stages,
+    })
+}
+
+// Runs a data program that reads from a thread program, from a machine for it.
+fn run_opened<R: RunsThread, S: UnitSink>(
+    alloc: Global,
+    code: &ProgramCode,
+    machine: &mut Machine,
+    budget: u64,
+    thread: &R,
+    sink: &mut S,
+) -> Result<RunEnd, OutOfMemory>
+    requires number { machine.old.program ≡ 0 }
+    requires scaled { IsDataScaled code.now.program machine.old.state }
+    requires budget { budget ≤ MOST_BUDGET }
+    requires ready { machine.old.spent ≡ false }
+    requires thread { R.ready thread.now }
+    ensures { IfOk result (λ end. IsRunEnd S.has_taken sink.old sink.new (reader_answer_from code.now.program budget (R.answer thread.now) machine.old.state) end) }
+{
+    let first = machine.call_init(alloc, code, budget, sink)?;
+    if machine.spent() {
+        return Ok(ended_at_init(alloc, first));
+    }
+    let stage = thread.run_whole(alloc, machine.stage_parameters())?;
+    let rest = run_rows(alloc, code, &stage, machine, budget, sink)?;
+    let end = ended_behind(alloc, first, stage.note, rest)?;
+    Ok(end)
+}
+
+/// Runs a data program that reads from a thread program with so many parameters: its `init`, the thread program with the parameters that
+/// were set last, null where none was, then `run` on each row of that one, and `term`. What runs the thread program is a parameter.
+///
+/// The thread program's lines go to the sink when it has ended, and its fault ends the data program.
+pub fn run_reader<R: RunsThread, S: UnitSink>(
+    alloc: Global,
+    code: &ProgramCode,
+    parameters: usize,
+    tables: &Tables,
+    budget: u64,
+    thread: &R,
+    sink: &mut S,
+) -> Result<RunEnd, OutOfMemory>
+    requires budget { budget ≤ MOST_BUDGET }
+    requires thread { R.ready thread.now }
+    ensures { IfOk result (λ end. IsRunEnd S.has_taken sink.old sink.new (reader_answer code.now.program parameters tables.now budget (R.answer thread.now)) end) }
+{
+    let rows = TableRows { tables };
+    let mut machine = Machine::open(alloc, code, 0, &[], &rows, parameters)?;
+    run_opened(alloc, code, &mut machine, budget, thread, sink)
+}

@@ -1,0 +1,11 @@
+//! How some units, one after the other, have ended.
+
+use ds2_value::Ending;
+
+/// How some units, one after the other, have ended.
+#[derive(Clone, Copy, Debug, PartialEq, Eq)]
+pub struct TurnsEnd {
+    pub ending: Ending,
+    /// How many instructions they executed together.
+    pub executed: u128,
+}

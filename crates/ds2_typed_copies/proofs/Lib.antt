@@ -1,0 +1,2 @@
+pub mod StatementTrees
+pub mod ProgramTrees

@@ -1,0 +1,3 @@
+-- What a copy is the same as.
+pub mod StatementParts
+pub mod ProgramParts

@@ -1,0 +1,4 @@
+pub mod RetainedForms
+pub mod DeclaredForms
+pub mod MadeForms
+pub mod OutputColumns

@@ -1,0 +1,3 @@
+-- The outputs that a unit makes and the names that it retains.
+pub mod RetainedNames
+pub mod TypedOutputs
