@@ -4,7 +4,7 @@
 #
 # usage: bench/instructions.sh [PROGRAM]
 #
-# Needs Python 3 and valgrind. Prints a line for each job of JOBS (all three where it is not set); a row of `merge` is one of its first table. With a folder's name in KEEP the profiles stay there.
+# Needs Python 3 and valgrind. Prints a line for each job of JOBS (all four where it is not set); a row of `merge` is one of its first table, a row of `billing` an order. With a folder's name in KEEP the profiles stay there.
 set -eu
 
 top=$(cd "$(dirname "$0")/.." && pwd)
@@ -26,7 +26,7 @@ count() { # JOB ROWS
     sed -n 's/^==.*Collected : //p' "$folder/said"
 }
 
-for job in ${JOBS:-first arith merge}; do
+for job in ${JOBS:-first arith merge billing}; do
     few=$(count "$job" 10000)
     many=$(count "$job" 60000)
     echo "$job: $(((many - few) / 50000)) instructions a row"

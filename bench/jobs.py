@@ -1,7 +1,7 @@
 #!/usr/bin/env python3
 """Times ds2 beside what its users would pick instead, in one interleaved run.
 
-usage: bench/jobs.py --product crates/ds2/out/ds2 [--jobs first arith merge] [--size S M L] [--runs 5] [--json FILE] [--md]
+usage: bench/jobs.py --product crates/ds2/out/ds2 [--jobs first arith merge billing] [--size S M L] [--runs 5] [--json FILE] [--md]
 
 A folder of jobs/ has the source, a generator of its tables with a fixed seed, the commands (job.json) and the programs of the
 peers: mawk, gawk, miller, Python, pandas, sqlite3, R's data.table and, for `merge`, sort and join, those that are found here. limits/ has the same job in C, and
@@ -14,7 +14,7 @@ import argparse, csv, hashlib, json, os, platform, shutil, signal, statistics, s
 
 HERE = os.path.dirname(os.path.abspath(__file__))
 ROWS = {'tiny': 300, 'S': 10_000, 'M': 200_000, 'L': 1_000_000}
-ORDER = ['first', 'arith', 'merge']
+ORDER = ['first', 'arith', 'merge', 'billing']
 LIMITS = ('C -O3', 'cat')
 PYTHON = '/usr/bin/python3' if os.path.exists('/usr/bin/python3') else sys.executable   # the python that is measured
 ENV = {**os.environ, 'LC_ALL': 'C', 'TZ': 'UTC'}
