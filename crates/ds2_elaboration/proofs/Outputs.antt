@@ -67,9 +67,13 @@ unnull : (b : Bool) (rest : List Place) → not b ≡ true → (if b then [] els
 unnull true rest n h = cc
 unnull false rest n h = h
 
+-- an output of this name without options
+abbrev named_alone : Token → source_output.OutputTable
+named_alone t = record { table = t; options = None }
+
 -- the output of a thread program that has this name
 abbrev own_output : Option Token → List source_output.OutputTable
-own_output name = option_map_or (λ (t : Token). record { table = t; options = None } ∷ []) name []
+own_output name = option_map_or (λ (t : Token). named_alone t ∷ []) name []
 
 -- without renamings no column clashes
 no_clash : (all : List OutputName) (names : List (List ℕ)) → from_each (clashing_name all) (map (output_name []) names) ≡ []
@@ -135,15 +139,6 @@ module _ (laws : JoinLaws) (tables : TableColumns) (before : UnitsBefore) (u : U
   sources_of OfThread = own_output u.name
   sources_of OfData = made_outputs u
 
-  made_of_own : (name : Option Token) → option_map_or (λ (t : Token). thread_output tables before u t ∷ []) name [] ≡ map (made_output tables before u) (own_output name)
-  made_of_own None = refl
-  made_of_own (Some t) = refl
-
-  made_of_sources : (kind : UnitKind) → unit_outputs tables before u kind ≡ map (made_output tables before u) (sources_of kind)
-  made_of_sources OfPackage = refl
-  made_of_sources OfThread = made_of_own u.name
-  made_of_sources OfData = refl
-
   -- the rules of an output with a name of its own
   data_holds : (outputs : List source_output.OutputTable) → AllByRecursion (λ (o : source_output.OutputTable). not (bytes_eq (spelled_name o.table) (codes "_null_")) ≡ true) outputs
       → AllByRecursion (λ (o : source_output.OutputTable). output_without_columns names_here o ≡ []) outputs
@@ -183,13 +178,32 @@ module _ (laws : JoinLaws) (tables : TableColumns) (before : UnitsBefore) (u : U
       (each_empty (clashing_columns names_here) (made_outputs u) (once laws tables before u given).columns)
       (of_kept (λ (o : source_output.OutputTable). StandInOrder (output_spelling o)) test u.outputs (outputs_in_order u.outputs given.source.outputs))
 
+  -- the output of a thread program has the columns of one that has its name
+  own_typed : (name : Option Token) → AllByRecursion OutputHolds (own_output name)
+      → AreTypedOutputs vector_here (option_map_or (λ (t : Token). thread_output tables before u t ∷ []) name [])
+  own_typed None h = tt
+  own_typed (Some t) h = (some_columns (named_alone t) h.0, output_schema (named_alone t) h.0, columns_typed (named_alone t), tt)
+
+  own_schema : (name : Option Token) → AllByRecursion OutputHolds (own_output name)
+      → AllByRecursion HasSchema (option_map_or (λ (t : Token). thread_output tables before u t ∷ []) name [])
+  own_schema None h = tt
+  own_schema (Some t) h = (output_schema (named_alone t) h.0, tt)
+
+  typed_of_kind : (kind : UnitKind) → AllByRecursion OutputHolds (sources_of kind) → AreTypedOutputs vector_here (unit_outputs tables before u kind)
+  typed_of_kind OfPackage h = tt
+  typed_of_kind OfThread h = own_typed u.name h
+  typed_of_kind OfData h = typed_outputs (made_outputs u) h
+
+  schemas_of_kind : (kind : UnitKind) → AllByRecursion OutputHolds (sources_of kind) → AllByRecursion HasSchema (unit_outputs tables before u kind)
+  schemas_of_kind OfPackage h = tt
+  schemas_of_kind OfThread h = own_schema u.name h
+  schemas_of_kind OfData h = all_schemas (made_outputs u) h
+
   pub outputs_typed : AreTypedOutputs vector_here (unit_outputs tables before u u.kind)
-  outputs_typed =
-      subst (λ (os : List typed_output.OutputTable). AreTypedOutputs vector_here os) (sym (made_of_sources u.kind)) (typed_outputs (sources_of u.kind) (sources_hold u.kind refl))
+  outputs_typed = typed_of_kind u.kind (sources_hold u.kind refl)
 
   pub output_schemas : AllByRecursion HasSchema (unit_outputs tables before u u.kind)
-  output_schemas =
-      subst (λ (os : List typed_output.OutputTable). AllByRecursion HasSchema os) (sym (made_of_sources u.kind)) (all_schemas (sources_of u.kind) (sources_hold u.kind refl))
+  output_schemas = schemas_of_kind u.kind (sources_hold u.kind refl)
 
   -- ---- distinct names
 
@@ -198,18 +212,18 @@ module _ (laws : JoinLaws) (tables : TableColumns) (before : UnitsBefore) (u : U
   made_output_names [] = refl
   made_output_names (o ∷ outputs) = ap (λ ns. spelled_name o.table ∷ ns) (made_output_names outputs)
 
-  one_name : (name : Option Token) → are_distinct (map (λ (o : source_output.OutputTable). spelled_name o.table) (own_output name)) ≡ true
+  one_name : (name : Option Token) → are_distinct (names_of_outputs (option_map_or (λ (t : Token). thread_output tables before u t ∷ []) name [])) ≡ true
   one_name None = refl
   one_name (Some t) = refl
 
-  names_of_sources : (kind : UnitKind) → are_distinct (map (λ (o : source_output.OutputTable). spelled_name o.table) (sources_of kind)) ≡ true
-  names_of_sources OfPackage = refl
-  names_of_sources OfThread = one_name u.name
-  names_of_sources OfData =
-      distinct_map (λ (o : source_output.OutputTable). spelled_name o.table) (λ (o : source_output.OutputTable). not (bytes_eq (spelled_name o.table) (codes "_null_"))) u.outputs
+  names_of_kind : (kind : UnitKind) → are_distinct (names_of_outputs (unit_outputs tables before u kind)) ≡ true
+  names_of_kind OfPackage = refl
+  names_of_kind OfThread = one_name u.name
+  names_of_kind OfData =
+      ap are_distinct (made_output_names (made_outputs u))
+      ∙ distinct_map (λ (o : source_output.OutputTable). spelled_name o.table) (λ (o : source_output.OutputTable). not (bytes_eq (spelled_name o.table) (codes "_null_"))) u.outputs
       (outputs_distinct u.outputs given.source.outputs (once laws tables before u given).outputs)
 
   -- the outputs have distinct names
   pub output_names_distinct : are_distinct (names_of_outputs (unit_outputs tables before u u.kind)) ≡ true
-  output_names_distinct =
-      ap (λ os. are_distinct (names_of_outputs os)) (made_of_sources u.kind) ∙ (ap are_distinct (made_output_names (sources_of u.kind)) ∙ names_of_sources u.kind)
+  output_names_distinct = names_of_kind u.kind

@@ -4,7 +4,7 @@ use Rattle.std.specs.List.{list_any}
 use Rattle.std.specs.Option.{option_map, option_map_or}
 use Rattle.ds2_base.specs.declared.place.Place.{Place}
 use Rattle.ds2_base.specs.declared.place.Refusal.{Refusal}
-use Rattle.ds2_token.specs.Words.{is_word}
+use Rattle.ds2_token.specs.Words.{is_word, is_table_name}
 use Rattle.ds2_token.specs.declared.token.Token.{Token}
 use Rattle.ds2_tree.specs.Expressions.{is_null_word}
 use Rattle.ds2_tree.specs.Globals.{Method}
@@ -76,6 +76,10 @@ made_names OfData u = map (λ (o : source_output.OutputTable). spelled_name o.ta
 abbrev pub type_or_bigint : Option Ty → Ty
 type_or_bigint None = BigInt
 type_or_bigint (Some ty) = ty
+
+-- the name of the table that a thread program of this name makes: the same where it is the name of a table, else `rows`
+abbrev pub table_of_thread : List ℕ → List ℕ
+table_of_thread name = if is_table_name name then name else codes "rows"
 
 -- a column of an output: its new name where it is renamed, and the type of its variable
 abbrev pub made_column : List typed.Variable → List Renaming → List ℕ → OutputColumn
@@ -363,10 +367,10 @@ module _ (tables : TableColumns) (before : UnitsBefore) (u : UnitSource) where
     columns = map (made_column (vector_variables tables before u) (renamings_of o)) (columns_left (unit_names tables before u) (options_of o.options));
   }
 
-  -- the one output of a thread program, which has its name
+  -- the one output of a thread program of this name
   abbrev pub thread_output : Token → typed_output.OutputTable
   thread_output name = record {
-    name = spelled_name name;
+    name = table_of_thread (spelled_name name);
     overwrites = false;
     columns = map (made_column (vector_variables tables before u) []) (columns_left (unit_names tables before u) []);
   }

@@ -11,7 +11,7 @@ use Rattle.ds2_meaning.specs.declared.globals.OutputTable as typed_output
 use Rattle.ds2_meaning.specs.declared.globals.Variable.{Variable}
 use Rattle.ds2_names.specs.NameRules.{from_each, is_output_column, options_of, renamings_in}
 use Rattle.ds2_names.specs.SourceUnit.{UnitKind, OfPackage, OfThread, OfData, UnitSource, spelled_name}
-use Rattle.ds2_elaboration.specs.ProgramTypes.{made_column, made_outputs, says_overwrite}
+use Rattle.ds2_elaboration.specs.ProgramTypes.{made_column, made_outputs, says_overwrite, table_of_thread}
 use Rattle.ds2_given_names.specs.OutputParts.{passes_lists}
 use Rattle.ds2_unit_parts.specs.declared.outputs.OutputParts.{OutputParts}
 
@@ -41,7 +41,7 @@ outputs_made_of variables u names o = record {
 
 -- the output of a thread program of this name
 abbrev pub output_of_thread : List Variable → UnitSource → List (List ℕ) → Token → typed_output.OutputTable
-output_of_thread variables u names name = record { name = spelled_name name; overwrites = false; columns = columns_with variables u names [] }
+output_of_thread variables u names name = record { name = table_of_thread (spelled_name name); overwrites = false; columns = columns_with variables u names [] }
 
 -- the outputs of a unit of this kind whose vector has variables of these names
 abbrev pub outputs_over : List Variable → UnitSource → List (List ℕ) → UnitKind → List typed_output.OutputTable

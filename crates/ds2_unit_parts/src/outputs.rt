@@ -4,11 +4,11 @@ ghost use Rattle.std.specs.Cmp.Lexicographic.{pointwise};
 ghost use Rattle.std.specs.HashMap.{get};
 ghost use Rattle.std.specs.List.{list_any};
 ghost use Rattle.std.specs.Option.{option_map_or};
-ghost use Rattle.ds2_elaboration.specs.ProgramTypes.{made_column, made_outputs, says_overwrite};
+ghost use Rattle.ds2_elaboration.specs.ProgramTypes.{made_column, made_outputs, says_overwrite, table_of_thread};
 ghost use Rattle.ds2_given_names.specs.OutputParts.{AreStatementLists, HasNewNames};
 ghost use Rattle.ds2_meaning.specs.declared.globals.Variable.{Variable as VariableOf};
 ghost use Rattle.ds2_names.specs.NameRules.{name_if_renamed, options_of};
-ghost use Rattle.ds2_names.specs.SourceUnit.{names_alone, UnitSource};
+ghost use Rattle.ds2_names.specs.SourceUnit.{names_alone, spelled_name, UnitSource};
 ghost use Rattle.ds2_scope.specs.CodeUnits.{unit_source};
 ghost use Rattle.ds2_token.specs.declared.token.Token.{Token as TokenOf};
 ghost use Rattle.ds2_tree.specs.declared.units.Renaming.{Renaming as RenamingOf};
@@ -23,7 +23,7 @@ use ds2_given_names::{KeepDrop, NewNames, new_names, option_lists, passes_lists,
 use ds2_meaning::{OutputColumn, OutputTable as TypedOutput, Variable};
 use ds2_names::PlacedName;
 use ds2_scope::{Unit, UnitKind, spelled_name};
-use ds2_token::Token;
+use ds2_token::{Token, is_table_name};
 use ds2_tree::{OutputOption, OutputOptions, OutputTable};
 use ds2_type_tables::locals::locals;
 use ds2_value::Ty;
@@ -241,6 +241,18 @@ fn data_outputs(
     Ok(all)
 }
 
+/// The name of the table that a thread program makes: its own where that is the name of a table, else `rows`.
+fn thread_table(alloc: Global, own: &Token) -> Result<Name, OutOfMemory>
+    ensures { IfOk result (λ name. name ≡ table_of_thread (spelled_name own.now)) }
+{
+    let letters = spelled_name(alloc, own)?;
+    if is_table_name(letters.as_slice()) {
+        name_of_bytes(alloc, letters.as_slice())
+    } else {
+        name_of_bytes(alloc, b"rows")
+    }
+}
+
 /// The output of a thread program of this name.
 fn output_of_thread(
     alloc: Global,
@@ -254,7 +266,7 @@ fn output_of_thread(
     let types = locals(alloc, vector)?;
     let statements = statement_lists(alloc, unit.globals)?;
     let columns = columns_with(alloc, &types, &statements, variables, &[])?;
-    let name = name(alloc, own)?;
+    let name = thread_table(alloc, own)?;
     Ok(TypedOutput {
         name,
         overwrites: false,
@@ -271,7 +283,7 @@ fn one_output(alloc: Global, output: TypedOutput) -> Result<List<TypedOutput>, O
     Ok(all)
 }
 
-/// The one output of a thread program, which has its name.
+/// The one output of a thread program.
 fn thread_outputs(
     alloc: Global,
     unit: Unit<'_>,
