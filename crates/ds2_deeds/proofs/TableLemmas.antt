@@ -1,7 +1,9 @@
 -- Locations that are told once.
 use Rattle.std.proofs.Common.{◌≡◌, ℕ, if◌then◌else◌, List, [], ◌∷◌, ◌++◌, Option, Some, None, refl, sym, ap, ◌∙◌}
 use Rattle.std.specs.Prelude.{is_some}
+use Rattle.ds2_meaning.specs.HashObjects.{object_at}
 use Rattle.ds2_meaning.specs.Location.{Location, is_same_location}
+use Rattle.ds2_locality.specs.Verdict.{own_object_at}
 use Rattle.ds2_placement.specs.PlacedProgram.{number_of_location}
 use Rattle.ds2_deeds.specs.NamedLocations.{with_location, with_locations}
 use Rattle.ds2_deeds.proofs.NumberLemmas.{any_numbered}
@@ -27,3 +29,12 @@ new_told ls at o e f = ap (λ (x : Option ℕ). if is_some x then ls else ls ++ 
 
 pub old_told : (ls : List Location) (at : Location) (o : Option ℕ) (n : ℕ) → o ≡ number_of_location ls at → o ≡ Some n → ls ≡ with_location ls at
 old_told ls at o n e f = ap (λ (x : Option ℕ). if is_some x then ls else ls ++ at ∷ []) (sym f) ∙ sym (told_by ls at o e)
+
+-- where there is no own hash object or iterator of a name, none is told
+pub none_told : {A : Type 0} (before : List Location) (name : List ℕ) (o : Option A) → o ≡ None → before ≡ with_locations before (own_object_at name o)
+none_told {A} before name o e = ap (λ (x : Option A). with_locations before (own_object_at name x)) (sym e)
+
+-- the own hash object or iterator of a name is told
+pub own_told : {A : Type 0} (before : List Location) (name : List ℕ) (o : Option A) (x : A) → o ≡ Some x → (grown : List Location) (at : Location) → at ≡ object_at None name
+    → grown ≡ with_location before at → grown ≡ with_locations before (own_object_at name o)
+own_told {A} before name o x e grown at is told = told ∙ ap (with_location before) is ∙ ap (λ (y : Option A). with_locations before (own_object_at name y)) (sym e)

@@ -12,7 +12,7 @@ use Rattle.ds2_layout.specs.declared.slot.LayoutSlot.{LayoutSlot}
 use Rattle.ds2_layout.specs.Layout.{program_slots, location_of_slot}
 use Rattle.ds2_layout.proofs.ReadingThread.{reader_of_thread}
 use Rattle.ds2_locality.specs.Deeds.{MethodAt, method_deeds, with_callees}
-use Rattle.ds2_locality.specs.Verdict.{JudgedThread, locations_in_order, own_objects_first}
+use Rattle.ds2_locality.specs.Verdict.{JudgedThread, locations_in_order, objects_in_order}
 use Rattle.ds2_deeds.specs.CallsByNumber.{OnceToldAreDistinct, CalleesByNumber, ReachedByNumber, program_numbers, all_by_number, rounds_of_calls}
 use Rattle.ds2_deeds.specs.CodeTrees.{nameless_tree}
 use Rattle.ds2_deeds.specs.NamedLocations.{locations_named, told_once, AreDistinct}
@@ -24,8 +24,8 @@ use Rattle.ds2_local.specs.JudgedBodies.{HoldsJudged, IsNumbered}
 use Rattle.ds2_local.specs.JudgedTrees.{judged_thread}
 
 -- the program of a thread program that is judged
-pub judged_program : (t : TypedThread) → (judged_thread t).program ≡ unit_tree (Some (out-TypedThread t).name) (out-TypedThread t).parameters (out-TypedThread t).program
-judged_program t = sym (reader_of_thread t)
+pub judged_program : (names : List (List ℕ)) (t : TypedThread) → (judged_thread names t).program ≡ unit_tree (Some (out-TypedThread t).name) (out-TypedThread t).parameters (out-TypedThread t).program
+judged_program names t = sym (reader_of_thread t)
 
 -- the name and the parameters of a thread program change no deed of a method
 deeds_same : (thread : Option (List ℕ)) (parameters : List Variable) (program : Program) (home : Home) (number : ℕ)
@@ -73,16 +73,16 @@ module _ (t : JudgedThread) (b : JudgedBodies) (numbered : IsNumbered t b.progra
       held_with (by_tree ∙ ap (λ of. map (λ (m : MethodAt). numbered_deeds (numbers_of b.numbers) (of m)) (methods_named b.numbers.methods.now)) method_deeds_held) once callees reached
 
 -- the numbers of a thread program
-pub numbered_thread : (t : TypedThread) (n : ProgramNumbers) (slots : List LayoutSlot) → slots ≡ program_slots (reader_of (typed_thread_program t))
-    → n.locations ≡ told_once (map location_of_slot slots ++ own_objects_first (nameless_tree (out-TypedThread t).program)) → n.methods ≡ methods_in_order (nameless_tree (out-TypedThread t).program)
-    → IsNumbered (judged_thread t) (out-TypedThread t).program n
-numbered_thread t n slots laid locations methods = record {
+pub numbered_thread : (names : List (List ℕ)) (t : TypedThread) (n : ProgramNumbers) (slots : List LayoutSlot) → slots ≡ program_slots (reader_of (typed_thread_program t))
+    → n.locations ≡ told_once (map location_of_slot slots ++ objects_in_order names (nameless_tree (out-TypedThread t).program)) → n.methods ≡ methods_in_order (nameless_tree (out-TypedThread t).program)
+    → IsNumbered (judged_thread names t) (out-TypedThread t).program n
+numbered_thread names t n slots laid locations methods = record {
   thread = Some (out-TypedThread t).name;
   parameters = (out-TypedThread t).parameters;
-  tree = judged_program t;
+  tree = judged_program names t;
   run_place = refl;
   term_place = refl;
-  locations = locations ∙ ap (λ l. told_once (map location_of_slot l ++ own_objects_first (nameless_tree (out-TypedThread t).program))) laid
-      ∙ ap (λ (p : UnitTree). told_once (map location_of_slot (program_slots (reader_of (typed_thread_program t))) ++ own_objects_first p)) (sym (judged_program t));
-  methods = methods ∙ ap (λ (p : UnitTree). methods_in_order p) (sym (judged_program t));
+  locations = locations ∙ ap (λ l. told_once (map location_of_slot l ++ objects_in_order names (nameless_tree (out-TypedThread t).program))) laid
+      ∙ ap (λ (p : UnitTree). told_once (map location_of_slot (program_slots (reader_of (typed_thread_program t))) ++ objects_in_order names p)) (sym (judged_program names t));
+  methods = methods ∙ ap (λ (p : UnitTree). methods_in_order p) (sym (judged_program names t));
 }

@@ -9,7 +9,8 @@ ghost use Rattle.ds2_locality.specs.Verdict.{JudgedThread, coarsest, verdict_of,
 ghost use Rattle.ds2_meaning.specs.IsTyped.{IsTypedUnit};
 ghost use Rattle.ds2_meaning.specs.ProgramMeaning.{global_name};
 ghost use Rattle.ds2_meaning.specs.Reading.{bys_of};
-ghost use Rattle.ds2_meaning.specs.View.{system_tree};
+ghost use Rattle.ds2_meaning.specs.ProgramTree.{reader_of};
+ghost use Rattle.ds2_meaning.specs.View.{system_tree, typed_thread_program};
 ghost use Rattle.ds2_local.specs.HeldWalks.{HoldsWalks};
 ghost use Rattle.ds2_local.specs.JudgedBodies.{HoldsJudged, IsNumbered};
 ghost use Rattle.ds2_local.specs.JudgedTrees.{judged_thread, place_of_system};
@@ -243,17 +244,18 @@ fn verdict_by_numbers(
 }
 
 /// The verdict on a thread program whose names and types fit; where it is local at a grain, the thread program is group independent there:
-/// its groups give the same whatever groups before have left. Wants memory too where it has more BY variables or slots than 32 bits count.
-pub fn judge(alloc: Global, thread: &TypedThread) -> Result<Verdict, OutOfMemory>
-    requires { IsTypedUnit (judged_thread thread.now).program }
-    ensures verdict { IfOk result (λ verdict. verdict ≡ verdict_of (judged_thread thread.now)) }
-    ensures independent { IfOk result (λ verdict. IsSoundAt (judged_thread thread.now).program verdict) }
+/// its groups give the same whatever groups before have left. `names` are those of its declarations of hash objects, iterators and instances,
+/// in order. Wants memory too where it has more BY variables or slots than 32 bits count.
+pub fn judge(alloc: Global, thread: &TypedThread, names: &[Name]) -> Result<Verdict, OutOfMemory>
+    requires { IsTypedUnit (reader_of (typed_thread_program thread.now)) }
+    ensures verdict { IfOk result (λ verdict. verdict ≡ verdict_of (judged_thread names.now thread.now)) }
+    ensures independent { IfOk result (λ verdict. IsSoundAt (reader_of (typed_thread_program thread.now)) verdict) }
 {
-    ds2_locality::laws::own_first_tells_all();
+    ds2_locality::laws::all_objects_are_told();
     ds2_locality::laws::local_is_independent();
     let layout = lay_out_thread(alloc, thread)?;
     let program = &thread.program;
-    let locations = locations_in_order(alloc, layout.slots.as_slice(), program)?;
+    let locations = locations_in_order(alloc, layout.slots.as_slice(), program, names)?;
     let methods = methods_in_order(alloc, program)?;
     let numbers = Numbers {
         locations: locations.as_slice(),

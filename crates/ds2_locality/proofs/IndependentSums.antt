@@ -27,7 +27,7 @@ use Rattle.ds2_locality.specs.Verdict.{own_objects_first}
 use Rattle.ds2_locality.proofs.Frame.{location_is}
 use Rattle.ds2_locality.proofs.Independent.{typed_local_independent}
 use Rattle.ds2_locality.proofs.LocalityExamples.{grain_verdicts}
-use Rattle.ds2_locality.proofs.Told.{own_first_tells_all}
+use Rattle.ds2_locality.proofs.Told.{all_objects_are_told}
 
 one_output : 0 < 1
 one_output = omega arith
@@ -77,12 +77,12 @@ typed_by_two = record {
 by_one : IsIndependentAt sums_of_a 1
 by_one =
     typed_local_independent (record { program = sums_of_a; run_place = col 5; term_place = col 9; objects = own_objects_first sums_of_a }) typed_by_one
-    (own_first_tells_all sums_of_a (col 5) (col 9)) tt 1 grain_verdicts.sum_by_a
+    (all_objects_are_told sums_of_a (col 5) (col 9) []) tt 1 grain_verdicts.sum_by_a
 
 by_two : IsIndependentAt sums_of_a_and_b 2
 by_two =
     typed_local_independent (record { program = sums_of_a_and_b; run_place = col 5; term_place = col 9; objects = own_objects_first sums_of_a_and_b }) typed_by_two
-    (own_first_tells_all sums_of_a_and_b (col 5) (col 9)) tt 2 grain_verdicts.sum_by_two
+    (all_objects_are_told sums_of_a_and_b (col 5) (col 9) []) tt 2 grain_verdicts.sum_by_two
 
 -- ---- a sum that runs on
 

@@ -1,4 +1,4 @@
--- Where the own hash objects and iterators are told, and then those of instances, all are told.
+-- In whatever order hash objects and iterators are told, all are told.
 use Rattle.std.proofs.Common.{◌≡◌, ℕ, Bool, true, false, ◌||◌, cond, List, [], ◌∷◌, ◌++◌, map, flat_map, find, bytes_eq, Some, None, is_some, refl, sym, ap, ◌∙◌, subst, if◌then◌else◌}
 use Rattle.std.specs.List.{list_any}
 use Rattle.std.proofs.lemmas.Bool.{true≢false}
@@ -8,8 +8,8 @@ use Rattle.ds2_meaning.specs.declared.hashes.DeclaredIterator.{DeclaredIterator}
 use Rattle.ds2_meaning.specs.HashObjects.{DeclaredObjects, no_objects, object_at}
 use Rattle.ds2_meaning.specs.Location.{Home, Location, is_same_location}
 use Rattle.ds2_meaning.specs.ProgramTree.{InstanceTree, UnitTree, instance_objects, objects_of}
-use Rattle.ds2_locality.specs.Soundness.{OwnFirstTellsAll}
-use Rattle.ds2_locality.specs.Verdict.{hashes_kept_at, iterators_kept_at}
+use Rattle.ds2_locality.specs.Soundness.{AllObjectsAreTold}
+use Rattle.ds2_locality.specs.Verdict.{hashes_brought, hashes_kept_at, iterators_brought, iterators_kept_at}
 use Rattle.ds2_locality.proofs.Near.{location_self}
 use Rattle.ds2_locality.proofs.Objects.{any_in_back}
 use Rattle.ds2_locality.proofs.TypedFacts.{any_front}
@@ -68,19 +68,22 @@ module _ {A : Type 0} (name_of : A → List ℕ) (things : DeclaredObjects → L
   each_told p (Some home) name found =
       any_in_back (λ other. is_same_location (object_at (Some home) name) other) (kept None (things p.objects)) (kept_by_instances p.instances) (instance_told p.instances home name found)
 
-pub own_first_tells_all : OwnFirstTellsAll
-own_first_tells_all p run_place term_place =
+pub all_objects_are_told : AllObjectsAreTold
+all_objects_are_told p run_place term_place names =
+    let named = flat_map (hashes_brought p) names ++ flat_map (iterators_brought p) names in
     let hashes = hashes_kept_at None p.objects ++ flat_map (λ (i : InstanceTree). hashes_kept_at (Some i.name) i.objects) p.instances in
     let own = iterators_kept_at None p.objects in
     let others = flat_map (λ (i : InstanceTree). iterators_kept_at (Some i.name) i.objects) p.instances in
     record {
       hashes = λ home name found.
-          any_front (λ other. is_same_location (object_at home name) other) (hashes ++ own) others
+          any_in_back (λ other. is_same_location (object_at home name) other) named ((hashes ++ own) ++ others)
+          (any_front (λ other. is_same_location (object_at home name) other) (hashes ++ own) others
           (any_front (λ other. is_same_location (object_at home name) other) hashes own
-          (each_told (λ (h : DeclaredHash). h.name) (λ (o : DeclaredObjects). o.hashes) refl p home name found));
+          (each_told (λ (h : DeclaredHash). h.name) (λ (o : DeclaredObjects). o.hashes) refl p home name found)));
       iterators = λ home name found.
-          behind hashes own others (λ other. is_same_location (object_at home name) other)
-          (each_told (λ (i : DeclaredIterator). i.name) (λ (o : DeclaredObjects). o.iterators) refl p home name found);
+          any_in_back (λ other. is_same_location (object_at home name) other) named ((hashes ++ own) ++ others)
+          (behind hashes own others (λ other. is_same_location (object_at home name) other)
+          (each_told (λ (i : DeclaredIterator). i.name) (λ (o : DeclaredObjects). o.iterators) refl p home name found));
     }
   where
     -- behind other locations

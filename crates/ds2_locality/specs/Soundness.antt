@@ -10,7 +10,7 @@ use Rattle.ds2_meaning.specs.Location.{Home, is_same_location}
 use Rattle.ds2_meaning.specs.ProgramTree.{UnitTree, objects_of}
 use Rattle.ds2_locality.specs.declared.locality.Verdict.TheVariants.{Local}
 use Rattle.ds2_locality.specs.Independence.{IsIndependentAt}
-use Rattle.ds2_locality.specs.Verdict.{JudgedThread, own_objects_first, verdict_of}
+use Rattle.ds2_locality.specs.Verdict.{JudgedThread, objects_in_order, verdict_of}
 
 -- the hash objects and iterators of a program are all told, in some order
 pub record ObjectsTold (t : JudgedThread) : Type 0 where
@@ -27,7 +27,7 @@ MergesBy _ = Unit {0}
 abbrev pub LocalIsIndependent : Type 0
 LocalIsIndependent = (t : JudgedThread) → IsTypedUnit t.program → ObjectsTold t → MergesBy t.program.reading → (grain : ℕ) → verdict_of t ≡ Local grain → IsIndependentAt t.program grain
 
--- where a program tells its own hash objects and iterators first, and then those of its instances, all are told
-abbrev pub OwnFirstTellsAll : Type 0
-OwnFirstTellsAll = (p : UnitTree) (run_place term_place : Place)
-    → ObjectsTold (record { program = p; run_place = run_place; term_place = term_place; objects = own_objects_first p })
+-- in whatever order the names of its declarations are told, all hash objects and iterators of a program are
+abbrev pub AllObjectsAreTold : Type 0
+AllObjectsAreTold = (p : UnitTree) (run_place term_place : Place) (names : List (List ℕ))
+    → ObjectsTold (record { program = p; run_place = run_place; term_place = term_place; objects = objects_in_order names p })

@@ -6,11 +6,11 @@ use Rattle.ds2_layout.specs.Layout.{program_slots, location_of_slot}
 use Rattle.ds2_meaning.specs.declared.hashes.DeclaredHash.{DeclaredHash}
 use Rattle.ds2_meaning.specs.declared.hashes.DeclaredIterator.{DeclaredIterator}
 use Rattle.ds2_meaning.specs.declared.location.Global.{Global}
-use Rattle.ds2_meaning.specs.HashObjects.{DeclaredObjects, object_at}
+use Rattle.ds2_meaning.specs.HashObjects.{DeclaredObjects, hash_named, iterator_named, object_at}
 use Rattle.ds2_meaning.specs.Location.{Home, Location}
 use Rattle.ds2_meaning.specs.Method.{MethodTree}
 use Rattle.ds2_meaning.specs.ProgramMeaning.{global_name}
-use Rattle.ds2_meaning.specs.ProgramTree.{InstanceTree, UnitTree, methods_of, program_has_output}
+use Rattle.ds2_meaning.specs.ProgramTree.{InstanceTree, UnitTree, methods_of, objects_of, program_has_output}
 use Rattle.ds2_meaning.specs.Reading.{bys_of}
 use Rattle.ds2_meaning.specs.TypedStatement.{TypedStatements, Finish, Next}
 use Rattle.ds2_locality.specs.declared.locality.Reason.{Reason}
@@ -44,6 +44,23 @@ abbrev pub own_objects_first : UnitTree → List Location
 own_objects_first p =
     hashes_kept_at None p.objects ++ flat_map (λ (i : InstanceTree). hashes_kept_at (Some i.name) i.objects) p.instances
     ++ iterators_kept_at None p.objects ++ flat_map (λ (i : InstanceTree). iterators_kept_at (Some i.name) i.objects) p.instances
+
+-- where the own hash object or iterator of a name is kept, where there is one
+abbrev pub own_object_at : {A : Type 0} → List ℕ → Option A → List Location
+own_object_at name None = []
+own_object_at name (Some x) = object_at None name ∷ []
+
+-- the hash objects that the declaration of a name brings: the own one of the name, and those of the instance of the name
+abbrev pub hashes_brought : UnitTree → List ℕ → List Location
+hashes_brought p name = own_object_at name (hash_named p.objects.hashes name) ++ hashes_kept_at (Some name) (objects_of p (Some name))
+
+-- the iterators that the declaration of a name brings
+abbrev pub iterators_brought : UnitTree → List ℕ → List Location
+iterators_brought p name = own_object_at name (iterator_named p.objects.iterators name) ++ iterators_kept_at (Some name) (objects_of p (Some name))
+
+-- the hash objects and then the iterators of a program whose declarations have these names, in order; behind them those that no name brings
+abbrev pub objects_in_order : List (List ℕ) → UnitTree → List Location
+objects_in_order names p = flat_map (hashes_brought p) names ++ flat_map (iterators_brought p) names ++ own_objects_first p
 
 -- the locations of a thread program in the order in which a method on a cycle of calls reads them: variables by their slots, then hash
 -- objects, then iterators

@@ -3,7 +3,7 @@ ghost use Rattle.ds2_locality.specs.FurtherVerdicts.{FurtherVerdicts, JobVerdict
 ghost use Rattle.ds2_locality.specs.Independence.{RunLeavesFixed, UnitsJoin, IndependentOverTables};
 ghost use Rattle.ds2_locality.specs.IndependentSums.{IndependentSums};
 ghost use Rattle.ds2_locality.specs.LocalityExamples.{GrainVerdicts, ReadVerdicts, CallVerdicts, OutsideVerdicts};
-ghost use Rattle.ds2_locality.specs.Soundness.{LocalIsIndependent, OwnFirstTellsAll};
+ghost use Rattle.ds2_locality.specs.Soundness.{AllObjectsAreTold, LocalIsIndependent};
 ghost use Rattle.ds2_locality.specs.Verdict.{CoarserHolds, LocalIsGreatest, NotLocalIsGrounded};
 
 /// `run` on the loads of a group leaves what it can't change as it was.
@@ -27,9 +27,9 @@ pub fn local_is_independent()
     ensures { LocalIsIndependent }
 {}
 
-/// A thread program whose own hash objects and iterators are told before those of its instances has told them all.
-pub fn own_first_tells_all()
-    ensures { OwnFirstTellsAll }
+/// A thread program whose hash objects and iterators are told in the order of some names of declarations has told them all.
+pub fn all_objects_are_told()
+    ensures { AllObjectsAreTold }
 {}
 
 /// Sums by groups are typed, local and so group independent; a sum that runs on is not group independent.

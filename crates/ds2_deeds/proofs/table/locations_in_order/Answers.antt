@@ -1,36 +1,24 @@
-use Rattle.std.proofs.Common.{List, [], ◌++◌, map, Some, None, ap, ◌∙◌}
+use Rattle.std.proofs.Common.{List, [], ◌++◌, map, ap, ◌∙◌}
 use Rattle.std.specs.Prelude.{flat_map}
 use Rattle.ds2_layout.specs.Layout.{location_of_slot}
-use Rattle.ds2_locality.specs.Verdict.{hashes_kept_at, iterators_kept_at, own_objects_first}
-use Rattle.ds2_meaning.specs.declared.hashes.DeclaredHash.{DeclaredHash}
-use Rattle.ds2_meaning.specs.declared.hashes.DeclaredIterator.{DeclaredIterator}
-use Rattle.ds2_meaning.specs.declared.units.Instance.{Instance}
-use Rattle.ds2_meaning.specs.ProgramTree.{InstanceTree}
-use Rattle.ds2_meaning.specs.View.{instance_tree, objects_tree}
+use Rattle.ds2_locality.specs.Verdict.{hashes_brought, iterators_brought, objects_in_order, own_objects_first}
 use Rattle.ds2_deeds.specs.declared.location.LocationName.{LocationName}
 use Rattle.ds2_deeds.specs.CodeTrees.{nameless_tree}
 use Rattle.ds2_deeds.specs.NamedLocations.{locations_named, with_locations}
-use Rattle.ds2_deeds.proofs.TableLemmas.{told_as, then_told}
+use Rattle.ds2_deeds.proofs.TableLemmas.{then_told}
 use Rattle.ds2_deeds.proofs.table.locations_in_order.Goals as goal
 
 pub returns : goal.returns
 returns c =
-    let slots = c.in_ok-add_slots.ensures ∙ ap (λ (l : List LocationName). with_locations (locations_named l) (map location_of_slot c.args.slots.now)) c.new-locations.ensures in
-    let hashes = told_as (λ (l : List DeclaredHash). hashes_kept_at None (objects_tree l [])) _ _ _ _ c.as_slice.ensures c.in_ok-add_hashes.ensures in
-    let instance_hashes = told_as (λ (l : List Instance). flat_map (λ (i : InstanceTree). hashes_kept_at (Some i.name) i.objects) (map instance_tree l)) _ _ _ _ c.as_slice-instances.ensures c.in_ok-add_instance_hashes.ensures in
-    let iterators = told_as (λ (l : List DeclaredIterator). iterators_kept_at None (objects_tree [] l)) _ _ _ _ c.as_slice-2.ensures c.in_ok-add_iterators.ensures in
-    let instance_iterators = told_as (λ (l : List Instance). flat_map (λ (i : InstanceTree). iterators_kept_at (Some i.name) i.objects) (map instance_tree l)) _ _ _ _ c.as_slice-instances.ensures c.in_ok-add_instance_iterators.ensures in
     let p = nameless_tree c.args.program.now in
+    let names = c.args.names.now in
+    let slots = c.in_ok-add_slots.ensures ∙ ap (λ (l : List LocationName). with_locations (locations_named l) (map location_of_slot c.args.slots.now)) c.new-locations.ensures in
     let first = locations_named c.add_slots.new.locations in
-    let second = locations_named c.add_hashes.new.locations in
-    let third = locations_named c.add_instance_hashes.new.locations in
-    let fourth = locations_named c.add_iterators.new.locations in
-    let last = locations_named c.add_instance_iterators.new.locations in
-    let own_hashes = hashes_kept_at None p.objects in
-    let other_hashes = flat_map (λ (i : InstanceTree). hashes_kept_at (Some i.name) i.objects) p.instances in
-    let own_iterators = iterators_kept_at None p.objects in
-    let other_iterators = flat_map (λ (i : InstanceTree). iterators_kept_at (Some i.name) i.objects) p.instances in
-    let all_hashes = then_told first own_hashes other_hashes second third hashes instance_hashes in
-    let and_iterators = then_told first (own_hashes ++ other_hashes) own_iterators third fourth all_hashes iterators in
-    let objects = then_told first (own_hashes ++ other_hashes ++ own_iterators) other_iterators fourth last and_iterators instance_iterators in
-    then_told [] (map location_of_slot c.args.slots.now) (own_objects_first p) first last slots objects
+    let second = locations_named c.add_all_declared_hashes.new.locations in
+    let third = locations_named c.add_all_declared_iterators.new.locations in
+    let last = locations_named c.add_objects.new.locations in
+    let hashes = flat_map (hashes_brought p) names in
+    let iterators = flat_map (iterators_brought p) names in
+    let declared = then_told first hashes iterators second third c.in_ok-add_all_declared_hashes.ensures c.in_ok-add_all_declared_iterators.ensures in
+    let objects = then_told first (hashes ++ iterators) (own_objects_first p) third last declared c.in_ok-add_objects.ensures in
+    then_told [] (map location_of_slot c.args.slots.now) (objects_in_order names p) first last slots objects

@@ -12,18 +12,20 @@ use Rattle.ds2_local.proofs.verdict.judge.Goals as goal
 
 pub returns-clause-verdict : goal.returns-clause-verdict
 returns-clause-verdict c =
-    let t = judged_thread c.args.thread.now in
+    let names = c.args.names.now in
+    let t = judged_thread names c.args.thread.now in
     let numbered =
-    numbered_thread c.args.thread.now _ c.as_slice.result.now (c.as_slice.ensures ∙ ap (λ (l : Layout). l.slots) c.in_ok-layout.ensures)
+    numbered_thread names c.args.thread.now _ c.as_slice.result.now (c.as_slice.ensures ∙ ap (λ (l : Layout). l.slots) c.in_ok-layout.ensures)
     (ap (λ l. locations_named l) c.as_slice-2.ensures ∙ c.in_ok-locations.ensures) (ap (λ l. methods_named l) c.as_slice-3.ensures ∙ c.in_ok-methods.ensures) in
-    c.verdict_by_numbers.ensures t numbered (cells_are_told t c.requires (c.own_first_tells_all.ensures t.program t.run_place t.term_place))
+    c.verdict_by_numbers.ensures t numbered (cells_are_told t c.requires (c.all_objects_are_told.ensures t.program t.run_place t.term_place names))
 
 pub returns-clause-independent : goal.returns-clause-independent
 returns-clause-independent c =
-    let t = judged_thread c.args.thread.now in
+    let names = c.args.names.now in
+    let t = judged_thread names c.args.thread.now in
     let numbered =
-    numbered_thread c.args.thread.now _ c.as_slice.result.now (c.as_slice.ensures ∙ ap (λ (l : Layout). l.slots) c.in_ok-layout.ensures)
+    numbered_thread names c.args.thread.now _ c.as_slice.result.now (c.as_slice.ensures ∙ ap (λ (l : Layout). l.slots) c.in_ok-layout.ensures)
     (ap (λ l. locations_named l) c.as_slice-2.ensures ∙ c.in_ok-locations.ensures) (ap (λ l. methods_named l) c.as_slice-3.ensures ∙ c.in_ok-methods.ensures) in
-    let told = c.own_first_tells_all.ensures t.program t.run_place t.term_place in
+    let told = c.all_objects_are_told.ensures t.program t.run_place t.term_place names in
     IfOk-weaker c.verdict_by_numbers.result (λ verdict. verdict ≡ verdict_of t) (λ verdict. IsSoundAt t.program verdict)
     (λ verdict e merges grain is. c.local_is_independent.ensures t c.requires told merges grain (sym e ∙ is)) (c.verdict_by_numbers.ensures t numbered (cells_are_told t c.requires told))
