@@ -200,5 +200,5 @@ module _ (open_alike : TypedProgramsOpenAlike) (run_alike : TypedUnitsRunAsMeant
       (λ next held h. behind_init p stage typed.0 typed.1 stage_typed tables behind budget grain each held next h)
 
 pub programs_answer_alike : TypedProgramsOpenAlike → TypedUnitsRunAsMeant → StageRowsSetSlots → TypedProgramsAnswerAlike
-programs_answer_alike open_alike run_alike rows_set p translatable tables contents budget grain has =
-    chain_alike open_alike run_alike rows_set p (IsTranslatable.typed translatable) (IsTranslatable.instances translatable) tables contents budget grain [] has
+programs_answer_alike open_alike run_alike rows_set p translatable values tables contents budget grain has =
+    chain_alike open_alike run_alike rows_set p (IsTranslatable.typed translatable) (IsTranslatable.instances translatable) tables contents budget grain values has

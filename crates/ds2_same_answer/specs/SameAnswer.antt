@@ -1,7 +1,8 @@
 -- What a program's code leaves on one thread, and what the program means.
 use Rattle.std.specs.Prelude.{◌≡◌, ℕ, List, [], ◌∷◌, map, None}
 use Rattle.std.specs.List.{AllByRecursion}
-use Rattle.ds2_table.specs.OneThread.{StageAnswer, Answer}
+use Rattle.ds2_value.specs.declared.value.Value.{Value}
+use Rattle.ds2_table.specs.OneThread.{StageAnswer, Answer, alone_answer}
 use Rattle.ds2_table.specs.Table.{Contents}
 use Rattle.ds2_meaning.specs.IsTyped.{thread_parameters, IsTypedProgram}
 use Rattle.ds2_meaning.specs.ProgramMeaning.{program_answer}
@@ -11,7 +12,7 @@ use Rattle.ds2_meaning.specs.TableLaws.{tables_mentioned}
 use Rattle.ds2_code.specs.declared.parts.ProgramParts.{ProgramParts}
 use Rattle.ds2_code.specs.declared.parts.StagedParts.{StagedParts}
 use Rattle.ds2_program_code.specs.ProgramCode.{program_code}
-use Rattle.ds2_code_answer.specs.CodeAnswer.{code_answer}
+use Rattle.ds2_code_answer.specs.CodeAnswer.{code_opening, code_program}
 use Rattle.ds2_code_answer.specs.CodeTables.{rows_of_each}
 
 -- the code of the thread programs that a program reads from, the nearest one first
@@ -59,11 +60,16 @@ pub record AreLikeAnswers (done meant : Answer) : Type 0 where
   pub groups : done.groups ≡ meant.groups
   pub stages : AreLikeStages done.stages meant.stages
 
--- over any tables, at every budget and grain, the code of a program answers as the program means
+-- the one-thread answer of code over its tables, with these values of its parameters
+abbrev pub code_answer_with : StagedParts → List Value → List Contents → (budget grain : ℕ) → Answer
+code_answer_with code values contents budget grain =
+    alone_answer (code_program code.program code.stages contents budget grain) (code_opening code.program code.stages contents values)
+
+-- whatever values its parameters have, over any tables, at every budget and grain, the code of a program answers as the program means
 abbrev pub AnswersAsMeant : ProgramTree → Type 0
 AnswersAsMeant p =
-    (tables : TableRows) (contents : List Contents) (budget grain : ℕ) → HaveRowsMentioned p tables contents
-    → AreLikeAnswers (code_answer (staged_code p) contents budget grain) (program_answer p [] tables budget grain)
+    (values : List Value) (tables : TableRows) (contents : List Contents) (budget grain : ℕ) → HaveRowsMentioned p tables contents
+    → AreLikeAnswers (code_answer_with (staged_code p) values contents budget grain) (program_answer p values tables budget grain)
 
 -- so does that of each typed program, over tables or with the thread programs that it reads from, whose instances of thread programs have names
 abbrev pub TypedProgramsAnswerAlike : Type 0

@@ -11,7 +11,8 @@ pub fn typed_loads_are_alike()
 }
 
 /// The code of a typed program, over tables or with the thread programs that it reads from, leaves on one thread the rows and lines, the ending,
-/// the budgets and the groups that the program means, and of each thread program its ending and groups, over any tables and for every budget.
+/// the budgets and the groups that the program means, and of each thread program its ending and groups, over any tables and for every budget,
+/// whatever values its parameters have.
 pub fn typed_programs_answer_alike()
     ensures { TypedProgramsAnswerAlike }
 {

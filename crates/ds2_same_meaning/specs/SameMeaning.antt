@@ -1,8 +1,10 @@
 -- When code means the same as a program.
-use Rattle.std.specs.Prelude.{◌≡◌, ℕ, List, [], ◌∷◌, ◌++◌, length, map, Option, Some, None}
+use Rattle.std.specs.Prelude.{◌≡◌, ℕ, List, [], ◌∷◌, ◌++◌, length, map, flat_map, Option, Some, None}
 use Rattle.std.specs.List.{AllByRecursion, AllZip}
+use Rattle.std.specs.Option.{option_map}
 use Rattle.ds2_value.specs.Row.{Columns}
 use Rattle.ds2_value.specs.Run.{Written}
+use Rattle.ds2_value.specs.declared.value.Value.{Value}
 use Rattle.ds2_table.specs.Table.{Contents}
 use Rattle.ds2_meaning.specs.IsTyped.{IsTypedUnit}
 use Rattle.ds2_meaning.specs.ProgramMeaning.{MadeTable, program_answer, tables_made}
@@ -17,6 +19,8 @@ use Rattle.ds2_meaning.specs.declared.readings.Input.{Input}
 use Rattle.ds2_meaning.specs.declared.readings.MentionedTable.{MentionedTable}
 use Rattle.ds2_layout.specs.Layout.{program_slots, source_slot}
 use Rattle.ds2_code.specs.OperandTypes.{slot_type}
+use Rattle.ds2_code.specs.declared.parts.HashPart.{HashPart}
+use Rattle.ds2_code.specs.declared.parts.HashTable.{HashTable}
 use Rattle.ds2_code.specs.declared.parts.OutputPart.{OutputPart}
 use Rattle.ds2_code.specs.declared.parts.ProgramParts.{ProgramParts}
 use Rattle.ds2_code.specs.declared.parts.ReadingPart.{ReadingPart}
@@ -24,9 +28,9 @@ use Rattle.ds2_code.specs.declared.parts.ReadingPart.TheVariants as reading
 use Rattle.ds2_code.specs.declared.parts.StagedParts.{StagedParts}
 use Rattle.ds2_code.specs.declared.parts.TableReference.{TableReference}
 use Rattle.ds2_code_answer.specs.CodeAnswer.{code_answer}
-use Rattle.ds2_code_answer.specs.CodeTables.{program_references, columns_named}
+use Rattle.ds2_code_answer.specs.CodeTables.{program_references, reading_references, columns_named}
 use Rattle.ds2_program_code.specs.CodeParts.{code_slots}
-use Rattle.ds2_same_answer.specs.SameAnswer.{staged_code, programs_in_chain, IsTranslatable, HaveRowsMentioned, AreLikeAnswers}
+use Rattle.ds2_same_answer.specs.SameAnswer.{staged_code, programs_in_chain, code_answer_with, IsTranslatable, HaveRowsMentioned, AreLikeAnswers}
 use Rattle.ds2_unit.specs.Outputs.{tables_written}
 use Rattle.ds2_unit_counts.specs.CountsByWay.{CountsByWay}
 
@@ -70,6 +74,30 @@ abbrev pub columns_mentioned : ProgramTree → List Columns
 columns_mentioned (OverTables p) = columns_at_opening p ++ map columns_read (inputs_of p.reading)
 columns_mentioned (OverStage p stage) = columns_at_opening p ++ columns_mentioned stage
 
+-- ---- the table of each hash object and of each place of a reading statement
+
+-- the table that a reference in code means, with its columns
+abbrev pub table_with_columns : TableReference → MentionedTable × Columns
+table_with_columns reference = (table_referred reference, columns_named reference)
+
+-- the table that a hash object of code begins with, where there is one
+abbrev pub table_of_hash_part : HashPart → Option (MentionedTable × Columns)
+table_of_hash_part hash = option_map (λ (loaded : HashTable). table_with_columns loaded.table) hash.loaded
+
+-- that of a declared hash object
+abbrev pub table_of_declared_hash : DeclaredHash → Option (MentionedTable × Columns)
+table_of_declared_hash hash = option_map (λ (loaded : LoadedTable). (loaded.table, loaded.columns)) hash.loaded
+
+-- the hash objects of a program, its own before those of its instances
+abbrev pub declared_hashes_of : UnitTree → List DeclaredHash
+declared_hashes_of p = p.objects.hashes ++ flat_map (λ (i : InstanceTree). i.objects.hashes) p.instances
+
+-- the code of a program names the program's tables, with their columns: each hash object begins with the same table, or with none, and at each
+-- place of the reading statement stands the same table
+pub record NamesSameTables (p : UnitTree) (code : ProgramParts) : Type 0 where
+  pub hashes : map table_of_hash_part code.hashes ≡ map table_of_declared_hash (declared_hashes_of p)
+  pub reading : map table_with_columns (reading_references code.reading) ≡ map (λ (input : Input). (input.table, input.columns)) (inputs_of p.reading)
+
 -- ---- tables that are made
 
 -- tables that outputs of code make, each with the name of its output and whether it writes over a file
@@ -90,16 +118,35 @@ number_of_bys (reading.Set reads bys) = length bys
 number_of_bys (reading.Merge reads bys retains) = length bys
 number_of_bys _ = 0
 
+-- ---- thread programs
+
+-- code means the same as a thread program with those that it reads from: whatever values its parameters have, over any tables, with every budget
+-- and at every grain it answers as the program means; and of any rows it makes the same tables
+pub record ThreadMeansSame (p : ProgramTree) (code : StagedParts) : Type 0 where
+  pub answers : (values : List Value) (tables : TableRows) (contents : List Contents) (budget grain : ℕ) → HaveRowsMentioned p tables contents
+      → AreLikeAnswers (code_answer_with code values contents budget grain) (program_answer p values tables budget grain)
+  pub outputs : (rows : List Written) → code_tables_made code.program rows ≡ tables_made 0 (reader_of p).outputs rows
+
+-- so it is with the code of each thread program that a program reads from, the nearest one first
+abbrev pub StagesMeanSame : ProgramTree → List ProgramParts → Type 0
+StagesMeanSame (OverTables p) [] = Unit {0}
+StagesMeanSame (OverTables p) (code ∷ codes) = ⊥
+StagesMeanSame (OverStage p stage) [] = ⊥
+StagesMeanSame (OverStage p stage) (code ∷ codes) = ThreadMeansSame stage (record { program = code; stages = codes }) × StagesMeanSame stage codes
+
 -- ---- the same meaning
 
--- code means the same as a program with the thread programs that it reads from: it answers as the program means; in each of its programs the
--- way of a call tells how many instructions it executes; it mentions the same tables with the same columns in the same order; of any rows it
--- makes the same tables; each of its programs has the name of the same thread program, where it is one, and reads by as many BY variables
+-- code means the same as a program with the thread programs that it reads from: it answers as the program means, and so does the code of each of
+-- those; in each of its programs the way of a call tells how many instructions it executes; it mentions the same tables with the same columns in
+-- the same order, each of its programs at the same hash objects and places of its reading statement; of any rows it makes the same tables; each
+-- of its programs has the name of the same thread program, where it is one, and reads by as many BY variables
 pub record MeansSame (p : ProgramTree) (code : StagedParts) : Type 0 where
   pub answers : CodeAnswersAs p code
+  pub stages : StagesMeanSame p code.stages
   pub counts : AllZip CountsByWay (programs_in_chain p) (code.program ∷ code.stages)
   pub tables : map table_referred (program_references code.program code.stages) ≡ tables_mentioned p
   pub columns : map columns_named (program_references code.program code.stages) ≡ columns_mentioned p
+  pub places : AllZip NamesSameTables (programs_in_chain p) (code.program ∷ code.stages)
   pub outputs : (rows : List Written) → code_tables_made code.program rows ≡ tables_made 0 (reader_of p).outputs rows
   pub names : map (λ (part : ProgramParts). part.name) (code.program ∷ code.stages) ≡ map (λ (unit : UnitTree). unit.thread) (programs_in_chain p)
   pub bys : map (λ (part : ProgramParts). number_of_bys part.reading) (code.program ∷ code.stages) ≡ map (λ (unit : UnitTree). length (bys_of unit.reading)) (programs_in_chain p)
