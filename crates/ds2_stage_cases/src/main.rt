@@ -3,19 +3,26 @@
 //! Each line of standard input has numbers: how many groups the job has, and which of them end by a fault. Standard output gets the
 //! line again and, below it, what the stage gives on each number of workers: which group faulted first, and how many instructions
 //! each answer executed, which is its group's number. A line that begins with `#` is a heading.
+//!
+//! A line that begins with `@` has two numbers in front: whoever holds the group of the first one waits until that of the second was handed
+//! in, which only another worker can do.
 #![tactic(auto)]
 
 mod sample;
 mod telling;
+mod waiting;
 
-use crate::telling::answers;
+use crate::telling::{answers, answers_at_gate};
 use std::io;
 
 fn main(rt: HostRuntime) -> anyhow::Result<()> {
     let input = io::read_to_string(rt.alloc(), rt.reader())?;
     for line in input.as_str().lines() {
         println!(rt; "{line}")?;
-        if !line.starts_with('#') && !line.is_empty() {
+        if let Some(job) = line.strip_prefix("@") {
+            let text = answers_at_gate(&rt, rt.alloc(), job)?;
+            println!(rt; "{text}")?;
+        } else if !line.starts_with('#') && !line.is_empty() {
             let text = answers(&rt, rt.alloc(), line)?;
             println!(rt; "{text}")?;
         }

@@ -3,6 +3,7 @@ ghost use Rattle.std.specs.Prelude.{◌≡◌, ◌<◌, Some, IsTrue, IfOk, leng
 ghost use Rattle.ds2_reading.specs.ReadingFits.{reading_fits_tables};
 ghost use Rattle.ds2_slots.specs.LoadedHashes.{AreSlotTypesInBounds};
 ghost use Rattle.ds2_code_answer.specs.CodeLoads.{code_loads, code_reading};
+ghost use Rattle.ds2_unit.specs.StatementSource.{current_settings};
 ghost use Rattle.ds2_unit.specs.UnitsRun.{IsBuiltReading};
 ghost use Rattle.ds2_stage_loads.specs.Grains.{IsGrainOfReading};
 ghost use Rattle.ds2_stage_loads.specs.StageCursors.{tables_over, bys_over, cursor_left, cursor_groups};
@@ -106,6 +107,7 @@ impl<'a> StageLoads<'a> {
 
     /// Equal loads, at the same load; the tables are shared.
     pub fn copy(&self, alloc: Global) -> Result<StageLoads<'a>, OutOfMemory>
+        ensures load { IfOk result (λ loads. current_settings loads.at ≡ current_settings self.now.at) }
         ensures left { IfOk result (λ loads. cursor_left loads.at loads.cursor ≡ cursor_left self.now.at self.now.cursor) }
         ensures groups { IfOk result (λ loads. cursor_groups loads.at loads.cursor ≡ cursor_groups self.now.at self.now.cursor) }
     {

@@ -1,9 +1,9 @@
 //! Values that are given for the parameters of a thread program.
-ghost use Rattle.std.specs.Prelude.{◌≡◌, IsTrue, Some};
+ghost use Rattle.std.specs.Prelude.{◌≡◌};
 ghost use Rattle.std.specs.Bool.{OnTrue};
-ghost use Rattle.ds2_value.specs.declared.ty.Ty.{Ty as TypeOf};
 ghost use Rattle.ds2_code.specs.OperandTypes.{slot_type};
 ghost use Rattle.ds2_scales.specs.Scales.{AreGivenScaled, is_scaled};
+ghost use Rattle.ds2_staged.specs.GivenScales.{has_scale_of_slot, have_given_scales};
 
 use ds2_base::List;
 use ds2_code::Slot;
@@ -36,7 +36,7 @@ fn is_scaled(value: &Value, ty: Ty) -> bool
 
 // Whether a value that is given for a slot has its scale, where the slot is there.
 fn fits_slot(slots: &List<Slot>, number: u32, value: &Value) -> bool
-    ensures { OnTrue result ((ty : TypeOf) → slot_type slots.now number ≡ Some ty → IsTrue (is_scaled value.now ty)) }
+    ensures { result ≡ has_scale_of_slot (slot_type slots.now number) value.now }
 {
     match slots.get(number as usize) {
         None => true,
@@ -46,7 +46,8 @@ fn fits_slot(slots: &List<Slot>, number: u32, value: &Value) -> bool
 
 /// Whether each value that is given for a slot, in order, has the scale of the slot.
 pub fn are_given_scaled(slots: &List<Slot>, numbers: &[u32], given: &[Value]) -> bool
-    ensures { OnTrue result (AreGivenScaled slots.now numbers.now given.now) }
+    ensures exact { result ≡ have_given_scales slots.now numbers.now given.now }
+    ensures scaled { OnTrue result (AreGivenScaled slots.now numbers.now given.now) }
 {
     let count = numbers.len().min(given.len());
     let mut n = 0;

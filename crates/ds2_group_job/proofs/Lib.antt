@@ -1,0 +1,9 @@
+pub mod GroupSteps
+pub mod GroupsInTurn
+pub mod NoneStrays
+pub mod KeptGroups
+pub mod KeptUnits
+pub mod IndependentGroups
+pub mod ThreadRest
+pub mod ThreadBegun
+pub mod LoadsTaken

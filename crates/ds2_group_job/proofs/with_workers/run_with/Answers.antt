@@ -1,0 +1,25 @@
+use Rattle.std.proofs.Common.{◌++◌, [], sym, ap, ◌∙◌, subst, List}
+use Rattle.std.proofs.lemmas.List.{append-nil}
+use Rattle.ds2_table.specs.Table.{Contents}
+use Rattle.ds2_code_answer.specs.CodeAnswer.{code_answer}
+use Rattle.ds2_unit.specs.Outputs.{HaveRows}
+use Rattle.ds2_unit.specs.ProgramRun.{grain_asked}
+use Rattle.ds2_unit.proofs.OutputTables.{HasTaken, nothing_written, tables_end}
+use Rattle.ds2_group_job.proofs.with_workers.run_with.Goals as goal
+
+pub returns : goal.returns
+returns g c =
+    let code = c.args.code.now.program in
+    let answer = code_answer c.args.code.now c.args.tables.now c.args.budget (grain_asked c.args.grains.now) in
+    let begun = c.in_ok-sink.sink in
+    let now = c.run_into_with.new.sink in
+    let it = c.in_ok-end.ensures in
+    let took = it.taken begun [] [] (nothing_written 0 begun.outputs.items, sym (append-nil begun.lines)) in
+    let P : List Contents → Type 0 = λ tables. HaveRows HasTaken answer.rows 0 tables now.outputs.items in
+    record {
+      tables = c.of.ensures ∙ tables_end code.slots 0 code.outputs answer.rows now.outputs.items (subst P c.in_ok-sink.ensures.tables took.0);
+      lines = took.1 ∙ ap (λ lines. lines ++ answer.lines) c.in_ok-sink.ensures.lines;
+      ended = it.ended;
+      counted = it.counted;
+      noted = it.noted;
+    }

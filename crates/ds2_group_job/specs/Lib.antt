@@ -1,0 +1,6 @@
+pub mod GroupRuns
+pub mod WhateverRan
+pub mod StageJobs
+pub mod GroupWorkers
+pub mod KeptAnswers
+pub mod IndependentGroups
