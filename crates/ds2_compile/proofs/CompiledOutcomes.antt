@@ -4,7 +4,7 @@ use Rattle.std.specs.List.{AllByRecursion}
 use Rattle.ds2_base.specs.declared.stop.Stop.{Stop}
 use Rattle.ds2_base.specs.declared.stop.Stop.TheVariants.{Refused, OutOfMemory}
 use Rattle.ds2_tree.specs.Units.{SourcePart}
-use Rattle.ds2_meaning.specs.IsTyped.{IsTypedDataProgram}
+use Rattle.ds2_meaning.specs.IsTyped.{IsTypedProgram, IsTypedDataProgram}
 use Rattle.ds2_meaning.specs.ProgramTree.{UnitTree, ProgramTree, reader_of}
 use Rattle.ds2_meaning.specs.View.{typed_data_program}
 use Rattle.ds2_meaning.specs.declared.units.TypedData.{TypedData}
@@ -23,6 +23,9 @@ use Rattle.ds2_source.specs.InputTables.{source_inputs}
 use Rattle.ds2_source.specs.SourceTexts.{StandsInText}
 use Rattle.ds2_source.specs.declared.kinds.SourceRefusal.{SourceRefusal}
 use Rattle.ds2_typed_source.specs.SourceOutcomes.{AreProgramsOf, IsRefusedSource, programs_or_refusal}
+use Rattle.ds2_verdicts.specs.SourceVerdicts.{source_verdicts}
+use Rattle.ds2_verdicts.specs.declared.verdicts.ThreadVerdict.{ThreadVerdict}
+use Rattle.ds2_local_stages.specs.LocalStages.{StagesAreIndependent, LocalStagesAreIndependent}
 use Rattle.ds2_compile.specs.CodesOfPrograms.{AreCodesOf}
 use Rattle.ds2_compile.specs.CompiledSources.{HasStoreTable, IsCompiledProgram, AreCompiledPrograms, IsOutcomeCompiled, IsCompiled}
 use Rattle.ds2_compile.specs.declared.compiling.Compiled.{Compiled}
@@ -36,19 +39,19 @@ abbrev refusal_in : SourceRefusal → Result (List ProgramTree) SourceRefusal �
 refusal_in other (Ok programs) = other
 refusal_in other (Err refusal) = refusal
 
-refused_is : (names : List (List ℕ)) (tables : TableColumns) (outcome : Result (List ProgramTree) ProgramRefusal) (r : SourceRefusal) → programs_or_refusal outcome ≡ Err r
-    → IsOutcomeCompiled names tables outcome (Err (Refused r))
-refused_is names tables (Ok programs) r e = absurd (cc e)
-refused_is names tables (Err refusal) r e = sym (ap (refusal_in r) e)
+refused_is : (names : List (List ℕ)) (tables : TableColumns) (verdicts : List ThreadVerdict) (outcome : Result (List ProgramTree) ProgramRefusal) (r : SourceRefusal) → programs_or_refusal outcome ≡ Err r
+    → IsOutcomeCompiled names tables verdicts outcome (Err (Refused r))
+refused_is names tables verdicts (Ok programs) r e = absurd (cc e)
+refused_is names tables verdicts (Err refusal) r e = sym (ap (refusal_in r) e)
 
-pub nothing_compiled : (names : List (List ℕ)) (tables : TableColumns) (outcome : Result (List ProgramTree) ProgramRefusal) → IsOutcomeCompiled names tables outcome (Err OutOfMemory)
-nothing_compiled names tables (Ok programs) = tt
-nothing_compiled names tables (Err refusal) = tt
+pub nothing_compiled : (names : List (List ℕ)) (tables : TableColumns) (verdicts : List ThreadVerdict) (outcome : Result (List ProgramTree) ProgramRefusal) → IsOutcomeCompiled names tables verdicts outcome (Err OutOfMemory)
+nothing_compiled names tables verdicts (Ok programs) = tt
+nothing_compiled names tables verdicts (Err refusal) = tt
 
-pub stopped_is : (names : List (List ℕ)) (tables : TableColumns) (outcome : Result (List ProgramTree) ProgramRefusal) (stop : Stop SourceRefusal) → IsRefusedSource outcome stop
-    → IsOutcomeCompiled names tables outcome (Err stop)
-stopped_is names tables outcome (Refused r) e = refused_is names tables outcome r e
-stopped_is names tables outcome OutOfMemory e = nothing_compiled names tables outcome
+pub stopped_is : (names : List (List ℕ)) (tables : TableColumns) (verdicts : List ThreadVerdict) (outcome : Result (List ProgramTree) ProgramRefusal) (stop : Stop SourceRefusal) → IsRefusedSource outcome stop
+    → IsOutcomeCompiled names tables verdicts outcome (Err stop)
+stopped_is names tables verdicts outcome (Refused r) e = refused_is names tables verdicts outcome r e
+stopped_is names tables verdicts outcome OutOfMemory e = nothing_compiled names tables verdicts outcome
 
 -- ---- programs
 
@@ -59,6 +62,10 @@ source_is_typed law tables parts schemas stands programs e = law tables stands.t
 -- the instances of thread programs that programs declare have names
 abbrev pub AreNamed : List ProgramTree → Type 0
 AreNamed programs = AllByRecursion HasNamedInstances programs
+
+data_programs_typed : (programs : List ProgramTree) → AreTyped programs → AllByRecursion IsTypedProgram programs
+data_programs_typed [] typed = tt
+data_programs_typed (p ∷ programs) typed = (typed.0.0, data_programs_typed programs typed.1)
 
 names_of_typed : (programs : List TypedData) → AllByRecursion (λ (d : TypedData). HasNamedInstances (typed_data_program d)) programs → AreNamed (map typed_data_program programs)
 names_of_typed [] all = tt
@@ -106,20 +113,25 @@ outcome_linked have names tables (Ok all) settled typed programs codes e are =
     subst (λ (cs : List StagedParts). linked_behind [] cs ≡ true) (sym (codes_of_outcome all programs codes e are)) (programs_hold have names tables [] all tt (typed all refl) settled)
 outcome_linked have names tables (Err refusal) settled typed programs codes e are = absurd (cc e)
 
-outcome_compiled : TypedProgramsMeanSame → (names : List (List ℕ)) (tables : TableColumns) (outcome : Result (List ProgramTree) ProgramRefusal) → HasSettled names tables [] outcome
+outcome_compiled : TypedProgramsMeanSame → (names : List (List ℕ)) (tables : TableColumns) (verdicts : List ThreadVerdict) (outcome : Result (List ProgramTree) ProgramRefusal) → HasSettled names tables [] outcome
     → ((programs : List ProgramTree) → outcome ≡ Ok programs → AreTyped programs)
+    → ((programs : List ProgramTree) → outcome ≡ Ok programs → AreTyped programs → AreNamed programs → AllByRecursion (StagesAreIndependent verdicts) programs)
     → (programs : List TypedData) (compiled : Compiled) → programs_or_refusal outcome ≡ Ok (map typed_data_program programs)
     → AllByRecursion (λ (d : TypedData). HasNamedInstances (typed_data_program d)) programs → AreCodesOf programs compiled.object → IsValidObject compiled.object
-    → IsOutcomeCompiled names tables outcome (Ok compiled)
-outcome_compiled law names tables (Ok all) settled typed programs compiled e named codes valid =
+    → compiled.verdicts ≡ verdicts → IsOutcomeCompiled names tables verdicts outcome (Ok compiled)
+outcome_compiled law names tables verdicts (Ok all) settled typed apart programs compiled e named codes valid judged =
     let all_named : AreNamed all = subst AreNamed (sym (ap programs_in e)) (names_of_typed programs named) in
     record {
-      valid = valid;
-      codes =
-          subst (λ (cs : List StagedParts). AreCompiledPrograms names tables all cs) (sym (codes_of_outcome all programs compiled.object e codes))
-          (programs_compiled law names tables [] all (typed all refl) all_named settled);
+      object = record {
+        valid = valid;
+        codes =
+            subst (λ (cs : List StagedParts). AreCompiledPrograms names tables all cs) (sym (codes_of_outcome all programs compiled.object e codes))
+            (programs_compiled law names tables [] all (typed all refl) all_named settled);
+      };
+      judged = judged;
+      independent = apart all refl (typed all refl) all_named;
     }
-outcome_compiled law names tables (Err refusal) settled typed programs compiled e named codes valid = absurd (cc e)
+outcome_compiled law names tables verdicts (Err refusal) settled typed apart programs compiled e named codes valid judged = absurd (cc e)
 
 module _ (texts : EveryTextIsTyped) (tables : TableColumns) (parts : List SourcePart) (schemas : HaveSchemas tables) (stands : StandsInText parts)
     (programs : List TypedData) (is : AreProgramsOf (elaborated_source tables parts) programs) where
@@ -129,8 +141,9 @@ module _ (texts : EveryTextIsTyped) (tables : TableColumns) (parts : List Source
       outcome_linked have (names_alone (source_inputs parts)) tables (elaborated_source tables parts) (settled_source tables parts) (source_is_typed texts tables parts schemas stands) programs codes is are
 
   -- a source, with the object of its programs
-  pub source_compiled : TypedProgramsMeanSame → (compiled : Compiled) → AllByRecursion (λ (d : TypedData). HasNamedInstances (typed_data_program d)) programs → AreCodesOf programs compiled.object
-      → IsValidObject compiled.object → IsCompiled tables parts (Ok compiled)
-  source_compiled law compiled named are valid =
-      outcome_compiled law (names_alone (source_inputs parts)) tables (elaborated_source tables parts) (settled_source tables parts) (source_is_typed texts tables parts schemas stands) programs
-      compiled is named are valid
+  pub source_compiled : TypedProgramsMeanSame → LocalStagesAreIndependent → (compiled : Compiled) → AllByRecursion (λ (d : TypedData). HasNamedInstances (typed_data_program d)) programs → AreCodesOf programs compiled.object
+      → IsValidObject compiled.object → compiled.verdicts ≡ source_verdicts tables parts → IsCompiled tables parts (Ok compiled)
+  source_compiled law local compiled named are valid judged =
+      outcome_compiled law (names_alone (source_inputs parts)) tables (source_verdicts tables parts) (elaborated_source tables parts) (settled_source tables parts)
+      (source_is_typed texts tables parts schemas stands) (λ all e typed all_named. local tables parts all stands.grammar e (data_programs_typed all typed) all_named)
+      programs compiled is named are valid judged

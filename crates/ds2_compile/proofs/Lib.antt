@@ -5,3 +5,4 @@ pub mod KnownTables
 pub mod SettledPrograms
 pub mod LinkedCodes
 pub mod CompiledOutcomes
+pub mod SourceThreads

@@ -16,6 +16,9 @@ use Rattle.ds2_source.specs.declared.kinds.SourceRefusal.{SourceRefusal}
 use Rattle.ds2_source.specs.SourceRefusals.{source_refusal_of}
 use Rattle.ds2_same_meaning.specs.SameAnswer.{staged_code}
 use Rattle.ds2_same_meaning.specs.SameMeaning.{MeansSame}
+use Rattle.ds2_verdicts.specs.SourceVerdicts.{source_verdicts}
+use Rattle.ds2_verdicts.specs.declared.verdicts.ThreadVerdict.{ThreadVerdict}
+use Rattle.ds2_local_stages.specs.LocalStages.{StagesAreIndependent}
 use Rattle.ds2_compile.specs.declared.compiling.Compiled.{Compiled}
 
 -- a table of the store that code names is one of these names, and has the columns of that one
@@ -41,14 +44,21 @@ pub record IsCompiledObject (names : List (List ℕ)) (tables : TableColumns) (p
   pub valid : IsValidObject object
   pub codes : AreCompiledPrograms names tables programs object
 
--- what a source becomes was compiled: its programs to their object, or its refusal was given, unless memory ran out
-abbrev pub IsOutcomeCompiled : List (List ℕ) → TableColumns → Result (List ProgramTree) ProgramRefusal → Result Compiled (Stop SourceRefusal) → Type 0
-IsOutcomeCompiled names tables (Ok programs) (Ok compiled) = IsCompiledObject names tables programs compiled.object
-IsOutcomeCompiled names tables (Ok programs) (Err (Refused refusal)) = ⊥
-IsOutcomeCompiled names tables (Err refusal) (Ok compiled) = ⊥
-IsOutcomeCompiled names tables (Err refusal) (Err (Refused given)) = given ≡ source_refusal_of refusal
-IsOutcomeCompiled names tables _ (Err OutOfMemory) = Unit {0}
+-- programs and the verdicts on the thread programs of their source, compiled: where a verdict says that a thread program that a program reads from
+-- is local, its code makes of any tables groups at that grain that are independent
+pub record IsCompiledSource (names : List (List ℕ)) (tables : TableColumns) (verdicts : List ThreadVerdict) (programs : List ProgramTree) (compiled : Compiled) : Type 0 where
+  pub object : IsCompiledObject names tables programs compiled.object
+  pub judged : compiled.verdicts ≡ verdicts
+  pub independent : AllByRecursion (StagesAreIndependent verdicts) programs
+
+-- what a source becomes was compiled: its programs to their object, with the verdicts, or its refusal was given, unless memory ran out
+abbrev pub IsOutcomeCompiled : List (List ℕ) → TableColumns → List ThreadVerdict → Result (List ProgramTree) ProgramRefusal → Result Compiled (Stop SourceRefusal) → Type 0
+IsOutcomeCompiled names tables verdicts (Ok programs) (Ok compiled) = IsCompiledSource names tables verdicts programs compiled
+IsOutcomeCompiled names tables verdicts (Ok programs) (Err (Refused refusal)) = ⊥
+IsOutcomeCompiled names tables verdicts (Err refusal) (Ok compiled) = ⊥
+IsOutcomeCompiled names tables verdicts (Err refusal) (Err (Refused given)) = given ≡ source_refusal_of refusal
+IsOutcomeCompiled names tables verdicts _ (Err OutOfMemory) = Unit {0}
 
 -- a source was compiled over the columns of the tables of the store that it reads
 abbrev pub IsCompiled : TableColumns → List SourcePart → Result Compiled (Stop SourceRefusal) → Type 0
-IsCompiled tables parts result = IsOutcomeCompiled (names_alone (source_inputs parts)) tables (elaborated_source tables parts) result
+IsCompiled tables parts result = IsOutcomeCompiled (names_alone (source_inputs parts)) tables (source_verdicts tables parts) (elaborated_source tables parts) result

@@ -13,8 +13,9 @@ ghost use Rattle.ds2_compile.specs.CompiledSources.{IsCompiled};
 
 use crate::schemas::read_schemas;
 use ds2_base::{List, OutOfMemory, Stop};
-use ds2_elaboration::laws::every_text_is_typed;
+use ds2_elaboration::laws::{every_text_is_typed, every_thread_is_typed, tokens_stand_in_order};
 use ds2_generate::generate;
+use ds2_local_stages::laws::local_stages_are_independent;
 use ds2_meaning::TypedData;
 use ds2_names::Schemas;
 use ds2_object::ObjectCode;
@@ -24,6 +25,8 @@ use ds2_source::SourceRefusal;
 use ds2_tree::Source;
 use ds2_typed_source::typed_source;
 use ds2_valid_code::ProgramCode;
+use ds2_verdicts::laws::typed_threads_are_judged;
+use ds2_verdicts::{ThreadVerdict, judge_threads};
 use std::alloc::Global;
 
 /// What a source is compiled to.
@@ -31,6 +34,8 @@ use std::alloc::Global;
 pub struct Compiled {
     /// The code of each data program, in order.
     pub object: ObjectCode,
+    /// The verdict on each thread program, in order, whether a program reads from it or not.
+    pub verdicts: List<ThreadVerdict>,
 }
 
 // The code of a program. Code that passes a limit of code, such as numbers of 32 bits, is want of memory.
@@ -76,8 +81,9 @@ fn object_of(codes: List<ProgramCode>) -> Result<ObjectCode, OutOfMemory>
 ///
 /// The code of each data program, with that of the thread program that it reads from, means the same as the program: over any tables and with
 /// every budget both leave the same tables and lines and end alike. Each table that it reads, also by a hash object of one of its instances,
-/// is one of the store, or an earlier program makes it, with its columns. Wants memory too where a program passes a limit of code, such as
-/// numbers of 32 bits, or a second thread program behind the one that it reads from.
+/// is one of the store, or an earlier program makes it, with its columns. Each thread program has its verdict; where it is local, the groups of its
+/// code at that grain give the same over any tables, whatever groups ran before them. Wants memory too where a program passes a limit of code, such
+/// as numbers of 32 bits, or a second thread program behind the one that it reads from.
 pub fn compile(
     alloc: Global,
     source: &Source,
@@ -87,7 +93,11 @@ pub fn compile(
     ensures { IsCompiled (columns_stored schemas.now.tables) (source_tree source.now) result }
 {
     read_schemas(schemas.tables.as_slice());
+    tokens_stand_in_order();
     every_text_is_typed();
+    every_thread_is_typed();
+    typed_threads_are_judged();
+    local_stages_are_independent();
     typed_programs_mean_same();
     outputs_have_slots();
     match typed_source(alloc, source, schemas) {
@@ -95,9 +105,9 @@ pub fn compile(
             let all = typed.programs.as_slice();
             read_instances(all);
             let codes = program_codes(alloc, all)?;
-            Ok(Compiled {
-                object: object_of(codes)?,
-            })
+            let object = object_of(codes)?;
+            let verdicts = judge_threads(alloc, source, typed.threads.as_slice())?;
+            Ok(Compiled { object, verdicts })
         }
         Err(stop) => Err(stop),
     }

@@ -1,0 +1,12 @@
+//! A law of verdicts and code, over the definitions alone.
+ghost use Rattle.ds2_local_stages.specs.LocalStages.{LocalStagesAreIndependent};
+
+/// The code of each thread program over tables that a program of a source reads from is independent at the grain at which its verdict among
+/// those of the source calls it local: its groups give the same over any tables, whatever groups ran before.
+pub fn local_stages_are_independent()
+    ensures { LocalStagesAreIndependent }
+{
+    ds2_source_merges::laws::every_merge_has_by();
+    ds2_verdicts::laws::programs_have_verdicts();
+    ds2_code_locality::laws::local_code_has_independent_groups();
+}

@@ -1,0 +1,4 @@
+-- The verdicts on the thread programs of a source.
+pub mod ThreadVerdicts
+pub mod SourceVerdicts
+pub mod OwnVerdicts
