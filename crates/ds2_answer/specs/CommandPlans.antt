@@ -10,7 +10,7 @@ use Rattle.ds2_answer.specs.CommandLines.{command_line_of}
 use Rattle.ds2_answer.specs.Lines.{usage_line}
 use Rattle.ds2_answer.specs.ObjectPlans.{ObjectReading, exec_plan}
 use Rattle.ds2_answer.specs.Plan.{Plan, Stops, Logs}
-use Rattle.ds2_answer.specs.SourcePlans.{compile_programs_of, run_programs_of, source_plan}
+use Rattle.ds2_answer.specs.SourcePlans.{check_threads, compile_programs_of, run_programs_of, source_plan}
 use Rattle.ds2_answer.specs.TablePlans.{Presence, present_in}
 
 -- words that are no command are refused, or the command is done. The object enters as the bytes that are stored and by the numbers of
@@ -18,9 +18,9 @@ use Rattle.ds2_answer.specs.TablePlans.{Presence, present_in}
 abbrev pub plan_of_command : SourcesRead → ObjectReading → (object : List StagedParts) → Option CommandLine → Files → Presence → Plan
 plan_of_command sources object_for object None files there = Logs usage_line (Stops ended.Usage)
 plan_of_command sources object_for object (Some (Run source threads budget)) files there = source_plan sources source files (run_programs_of source budget object there)
-plan_of_command sources object_for object (Some (Compile source)) files there = source_plan sources source files (λ held programs. compile_programs_of source object)
+plan_of_command sources object_for object (Some (Compile source)) files there = source_plan sources source files (λ held verdicts programs. compile_programs_of source object)
 plan_of_command sources object_for object (Some (Exec name budget)) files there = exec_plan object_for name budget files there
-plan_of_command sources object_for object (Some (Check source)) files there = source_plan sources source files (λ held programs. Stops ended.Done)
+plan_of_command sources object_for object (Some (Check source)) files there = source_plan sources source files (λ held verdicts programs. check_threads verdicts)
 
 -- the answer of a line of words over these files, where sources are read and objects decoded as they are, and this object is stored
 abbrev pub command_plan : SourcesRead → ObjectReading → (object : List StagedParts) → List (List ℕ) → Files → Plan

@@ -8,6 +8,7 @@ pub mod CommandLines
 pub mod Plan
 pub mod PlanSteps
 pub mod HeldTables
+pub mod StagesLeft
 pub mod ProgramPlans
 pub mod TablePlans
 pub mod ObjectPlans

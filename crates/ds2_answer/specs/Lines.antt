@@ -1,5 +1,5 @@
 -- The lines of the log.
-use Rattle.std.specs.Prelude.{ℕ, List, [], ◌∷◌, ◌++◌, codes, Option, Some, None}
+use Rattle.std.specs.Prelude.{ℕ, nat_le, if◌then◌else◌, List, [], ◌∷◌, ◌++◌, codes, Option, Some, None}
 use Rattle.std.specs.List.{flat_map}
 use Rattle.std.specs.Fmt.{decimal}
 use Rattle.ds2_base.specs.declared.place.Place.{Place}
@@ -20,9 +20,12 @@ use Rattle.ds2_answer.specs.declared.kinds.SourceReason.{SourceReason}
 use Rattle.ds2_answer.specs.declared.kinds.SourceReason.TheVariants.{Rule, NotBuilt}
 use Rattle.ds2_answer.specs.declared.kinds.FileKind.{FileKind}
 use Rattle.ds2_answer.specs.declared.kinds.FileKind.TheVariants as file
-use Rattle.ds2_answer.specs.declared.kinds.ObjectReason.{ObjectReason}
-use Rattle.ds2_answer.specs.declared.kinds.ObjectReason.TheVariants as reason
+use Rattle.ds2_object.specs.declared.refusal.ObjectRefusal.{ObjectRefusal}
 use Rattle.ds2_object.specs.declared.refusal.ObjectRefusal.TheVariants as object
+use Rattle.ds2_locality.specs.declared.locality.Reason.{Reason}
+use Rattle.ds2_locality.specs.declared.locality.Reason.TheVariants.{TermHasStatements, InitWrites, Reads}
+use Rattle.ds2_locality.specs.declared.locality.Verdict.{Verdict}
+use Rattle.ds2_locality.specs.declared.locality.Verdict.TheVariants.{Local, NotLocal}
 
 -- the words are no command
 abbrev pub usage_line : List ℕ
@@ -150,19 +153,33 @@ object_line name bytes = codes "NOTE: Object " ++ (name ++ (codes ", " ++ (decim
 abbrev pub exists_line : List ℕ → List ℕ
 exists_line name = codes "ERROR: Output " ++ (name ++ codes " exists.\n")
 
--- what the line on a refused object says of the reason
-abbrev pub object_reason_text : ObjectReason → List ℕ
-object_reason_text (reason.Rule object.BadMagic) = codes "BadMagic.\n"
-object_reason_text (reason.Rule object.BadVersion) = codes "BadVersion.\n"
-object_reason_text (reason.Rule object.Truncated) = codes "Truncated.\n"
-object_reason_text (reason.Rule object.TrailingBytes) = codes "TrailingBytes.\n"
-object_reason_text (reason.Rule (object.BadField offset)) = codes "BadField at byte " ++ (decimal offset ++ codes ".\n")
-object_reason_text (reason.Rule object.NotValid) = codes "NotValid.\n"
-object_reason_text reason.NotBuilt = codes "NotBuilt.\n"
+-- what the line on a refused object says of the refusal
+abbrev pub object_refusal_text : ObjectRefusal → List ℕ
+object_refusal_text object.BadMagic = codes "BadMagic.\n"
+object_refusal_text object.BadVersion = codes "BadVersion.\n"
+object_refusal_text object.Truncated = codes "Truncated.\n"
+object_refusal_text object.TrailingBytes = codes "TrailingBytes.\n"
+object_refusal_text (object.BadField offset) = codes "BadField at byte " ++ (decimal offset ++ codes ".\n")
+object_refusal_text object.NotValid = codes "NotValid.\n"
 
 -- an object is refused
-abbrev pub object_refused_line : ObjectReason → List ℕ
-object_refused_line why = codes "ERROR: Object refused: " ++ object_reason_text why
+abbrev pub object_refused_line : ObjectRefusal → List ℕ
+object_refused_line refusal = codes "ERROR: Object refused: " ++ object_refusal_text refusal
+
+-- that a thread program is local at a grain; a grain above 1 is told
+abbrev pub local_text : ℕ → List ℕ
+local_text grain = if nat_le grain 1 then codes "local" else codes "local by " ++ decimal grain
+
+-- why a thread program is not local; a read is told with its place
+abbrev pub not_local_text : Reason → Place → List ℕ
+not_local_text TermHasStatements place = codes "not local: term has statements"
+not_local_text InitWrites place = codes "not local: init writes"
+not_local_text (Reads name) place = codes "not local: " ++ (name ++ (codes " read at " ++ (decimal place.line ++ (codes ":" ++ decimal place.column))))
+
+-- what a verdict says
+abbrev pub verdict_text : Verdict → List ℕ
+verdict_text (Local grain) = local_text grain
+verdict_text (NotLocal reason place) = not_local_text reason place
 
 -- what `check` says of a thread program: its verdict
 abbrev pub checked_thread_line : (name verdict : List ℕ) → List ℕ

@@ -1,28 +1,26 @@
 -- What `exec` answers to an object: its tables are read, its outputs asked for, and its programs run.
-use Rattle.std.specs.Prelude.{ℕ, Bool, true, false, bytes_eq, not, ◌==◌, ◌&&◌, ◌||◌, if◌then◌else◌, List, [], ◌∷◌, ◌++◌, flat_map, length, map, Result, Ok, Err}
-use Rattle.std.specs.List.{list_all}
+use Rattle.std.specs.Prelude.{ℕ, Bool, bytes_eq, not, ◌==◌, ◌&&◌, ◌||◌, if◌then◌else◌, List, [], ◌∷◌, ◌++◌, flat_map, map, Result, Ok, Err}
 use Rattle.ds2_base.specs.Bytes.{Bytes}
 use Rattle.ds2_base.specs.declared.stop.Stop.{Stop}
 use Rattle.ds2_base.specs.declared.stop.Stop.TheVariants.{Refused}
 use Rattle.ds2_table.specs.OneThread.{Answer}
 use Rattle.ds2_outside.specs.Files.{Files}
 use Rattle.ds2_code.specs.declared.parts.OutputPart.{OutputPart}
-use Rattle.ds2_code.specs.declared.parts.ReadingPart.{ReadingPart}
-use Rattle.ds2_code.specs.declared.parts.ReadingPart.TheVariants as reading
+use Rattle.ds2_code.specs.declared.parts.ProgramParts.{ProgramParts}
 use Rattle.ds2_code.specs.declared.parts.StagedParts.{StagedParts}
 use Rattle.ds2_code.specs.declared.parts.TableReference.{TableReference}
 use Rattle.ds2_code_answer.specs.CodeAnswer.{code_answer}
 use Rattle.ds2_code_answer.specs.CodeTables.{program_references}
 use Rattle.ds2_object.specs.ObjectSpelling.{DecodesTo}
 use Rattle.ds2_object.specs.declared.refusal.ObjectRefusal.{ObjectRefusal}
-use Rattle.ds2_same_meaning.specs.SameMeaning.{code_tables_made}
-use Rattle.ds2_answer.specs.declared.kinds.ObjectReason.TheVariants as reason
+use Rattle.ds2_same_meaning.specs.SameMeaning.{code_tables_made, number_of_bys}
 use Rattle.ds2_answer.specs.declared.kinds.TheConstants.{OBJECT_LIMIT}
 use Rattle.ds2_answer.specs.declared.status.Status.TheVariants as ended
 use Rattle.ds2_answer.specs.HeldTables.{HeldTables, NamedTable, held_from_store, made_by_name, tables_held}
 use Rattle.ds2_answer.specs.Lines.{object_refused_line}
 use Rattle.ds2_answer.specs.Plan.{Plan, Stops, Logs}
-use Rattle.ds2_answer.specs.ProgramPlans.{ProgramLeft, ProgramRun, programs_plan}
+use Rattle.ds2_answer.specs.ProgramPlans.{ProgramLeft, ProgramRun, left_with, programs_plan}
+use Rattle.ds2_answer.specs.StagesLeft.{StageRead, VerdictsTold, instruction_counts, grain_of_stages, name_of_stage, no_verdict}
 use Rattle.ds2_answer.specs.TablePlans.{OutputNamed, Presence, none_made, outputs_then, read_file, read_tables}
 
 -- ---- objects as bytes
@@ -42,18 +40,25 @@ IsDecoding object_for bytes = DecodesTo (decoded_or_refused (object_for bytes)) 
 
 -- ---- programs of code
 
--- what code leaves over the tables that it names
-abbrev pub left_by_code : StagedParts → Answer → ProgramLeft
-left_by_code code answer =
-    record { lines = answer.lines; ending = answer.ending; instructions = answer.executed; tables = map made_by_name (code_tables_made code.program answer.rows) }
+-- a thread program as its code tells it
+abbrev pub stage_in_code : ProgramParts → StageRead
+stage_in_code stage = record { name = name_of_stage stage.name; bys = number_of_bys stage.reading }
 
--- the one-thread answer of code over tables that are held
-abbrev pub answer_over : StagedParts → ℕ → HeldTables → Answer
-answer_over code budget held = code_answer code (tables_held held code) budget 0
+-- the thread programs that code reads from, the nearest one first
+abbrev pub stages_of_code : StagedParts → List StageRead
+stages_of_code code = map stage_in_code code.stages
+
+-- what code leaves with this answer
+abbrev pub left_by_code : VerdictsTold → StagedParts → Answer → ProgramLeft
+left_by_code told code answer = left_with told (stages_of_code code) (instruction_counts answer) answer (map made_by_name (code_tables_made code.program answer.rows))
+
+-- the one-thread answer of code over tables that are held, its groups at the grain that the verdicts tell
+abbrev pub answer_over : VerdictsTold → StagedParts → ℕ → HeldTables → Answer
+answer_over told code budget held = code_answer code (tables_held held code) budget (grain_of_stages told (stages_of_code code))
 
 -- code as a program over tables that are held
-abbrev pub run_of_code : ℕ → StagedParts → ProgramRun
-run_of_code budget code = λ held. left_by_code code (answer_over code budget held)
+abbrev pub run_of_code : VerdictsTold → ℕ → StagedParts → ProgramRun
+run_of_code told budget code = λ held. left_by_code told code (answer_over told code budget held)
 
 -- the outputs of code
 abbrev pub outputs_of_code : StagedParts → List OutputNamed
@@ -84,36 +89,19 @@ object_inputs programs = first_referred none_made (references_of programs)
 
 -- ---- the answer
 
--- an object's programs run over tables that were read, unless an output is there already
+-- an object's programs run over tables that were read, unless an output is there already; an object carries no verdicts
 abbrev pub object_over : List StagedParts → ℕ → Presence → List NamedTable → Plan
 object_over programs budget there read =
-    outputs_then none_made there (flat_map outputs_of_code programs) (programs_plan (map (run_of_code budget) programs) (held_from_store read))
+    outputs_then none_made there (flat_map outputs_of_code programs) (programs_plan (map (run_of_code no_verdict budget) programs) (held_from_store read))
 
 -- an object's tables are read, each with the columns that code names, and its programs run
 abbrev pub object_plan : List StagedParts → ℕ → Files → Presence → Plan
 object_plan programs budget files there = read_tables (references_of programs) (object_inputs programs) [] files (object_over programs budget there)
 
--- a reading without thread program
-abbrev pub is_built_code_reading : ReadingPart → Bool
-is_built_code_reading (reading.Set tables bys) = true
-is_built_code_reading (reading.Merge tables bys retains) = true
-is_built_code_reading (reading.Stage threads into) = false
-is_built_code_reading reading.Once = true
-is_built_code_reading reading.Nothing = true
-
--- a program without thread program
-abbrev pub is_built_code : StagedParts → Bool
-is_built_code code = (length code.stages == 0) && is_built_code_reading code.program.reading
-
--- an object of a form that isn't built is refused
-abbrev pub on_built_object : Bool → List StagedParts → ℕ → Files → Presence → Plan
-on_built_object false programs budget files there = Logs (object_refused_line reason.NotBuilt) (Stops ended.Object)
-on_built_object true programs budget files there = object_plan programs budget files there
-
 -- bytes that are no object are refused, or the object is run
 abbrev pub on_object : Result (List StagedParts) ObjectRefusal → ℕ → Files → Presence → Plan
-on_object (Err refusal) budget files there = Logs (object_refused_line (reason.Rule refusal)) (Stops ended.Object)
-on_object (Ok programs) budget files there = on_built_object (list_all is_built_code programs) programs budget files there
+on_object (Err refusal) budget files there = Logs (object_refused_line refusal) (Stops ended.Object)
+on_object (Ok programs) budget files there = object_plan programs budget files there
 
 -- the file of an object is read
 abbrev pub exec_plan : ObjectReading → List ℕ → ℕ → Files → Presence → Plan

@@ -1,6 +1,5 @@
 //! Why files, sources and objects are refused.
 use ds2_csv::{CsvRefusal, MOST_BYTES};
-use ds2_object::ObjectRefusal;
 use ds2_source::SourceKind;
 
 /// The most bytes of a source.
@@ -34,13 +33,4 @@ pub enum FileKind {
     Table(CsvRefusal),
     /// It is a table of other columns than the object names.
     OtherSchema,
-}
-
-/// Why an object is refused.
-#[derive(Debug, Drop, PartialEq, Eq)]
-pub enum ObjectReason {
-    /// Its bytes are no object.
-    Rule(ObjectRefusal),
-    /// It has a form that isn't built yet.
-    NotBuilt,
 }

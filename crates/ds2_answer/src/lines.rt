@@ -1,11 +1,12 @@
 //! The lines of the log. Each ends with a line feed. A new line touches the files that docs/ARCHITECTURE.md lists under 'To add a
 //! log line'.
 ghost use Rattle.std.specs.Prelude.{◌≡◌, ◌++◌, IfOk, OnOk, Some, None, string_bytes};
-ghost use Rattle.ds2_answer.specs.Lines.{checked_thread_line, count_line, error_line, exists_line, fault_line, fault_text, file_line, lex_kind_text, parse_kind_text, line_put, lines_put, object_line, object_refused_line, reason_text, scope_kind_text, source_line, table_kind_text, table_line, thread_line, type_kind_text, usage_line};
+ghost use Rattle.ds2_answer.specs.Lines.{checked_thread_line, count_line, error_line, exists_line, fault_line, fault_text, file_line, lex_kind_text, parse_kind_text, line_put, lines_put, local_text, not_local_text, object_line, object_refused_line, reason_text, scope_kind_text, source_line, table_kind_text, table_line, thread_line, type_kind_text, usage_line, verdict_text};
 
-use crate::{FileKind, ObjectReason, SourceReason};
+use crate::{FileKind, SourceReason};
 use ds2_base::{Bytes, Name, OutOfMemory, Place, Text};
 use ds2_csv::{CsvKind, CsvRefusal};
+use ds2_locality::{Reason, Verdict};
 use ds2_object::ObjectRefusal;
 use ds2_source::{LexKind, ParseKind, ScopeKind, SourceKind, TypeKind};
 use ds2_value::Fault;
@@ -259,24 +260,59 @@ fn exists_line(alloc: Global, name: &str) -> Result<String, AllocError>
 }
 
 // `ERROR: Object refused: KIND.`, with the place of a field.
-fn object_refused_line(alloc: Global, reason: &ObjectReason) -> Result<String, AllocError>
-    ensures { IfOk result (λ line. string_bytes line ≡ object_refused_line reason.now) }
+fn object_refused_line(alloc: Global, refusal: &ObjectRefusal) -> Result<String, AllocError>
+    ensures { IfOk result (λ line. string_bytes line ≡ object_refused_line refusal.now) }
+{
+    match refusal {
+        ObjectRefusal::BadMagic => format!(in alloc; "ERROR: Object refused: BadMagic.\n"),
+        ObjectRefusal::BadVersion => format!(in alloc; "ERROR: Object refused: BadVersion.\n"),
+        ObjectRefusal::Truncated => format!(in alloc; "ERROR: Object refused: Truncated.\n"),
+        ObjectRefusal::TrailingBytes => {
+            format!(in alloc; "ERROR: Object refused: TrailingBytes.\n")
+        }
+        ObjectRefusal::BadField { offset } => {
+            let offset = *offset;
+            format!(in alloc; "ERROR: Object refused: BadField at byte {offset}.\n")
+        }
+        ObjectRefusal::NotValid => format!(in alloc; "ERROR: Object refused: NotValid.\n"),
+    }
+}
+
+// `local`, with a grain above 1.
+fn local_text(alloc: Global, grain: u32) -> Result<String, AllocError>
+    ensures { IfOk result (λ text. string_bytes text ≡ local_text grain) }
+{
+    if grain <= 1 {
+        format!(in alloc; "local")
+    } else {
+        format!(in alloc; "local by {grain}")
+    }
+}
+
+// `not local: WHY`.
+fn not_local_text(alloc: Global, reason: &Reason, place: Place) -> Result<String, AllocError>
+    ensures { IfOk result (λ text. string_bytes text ≡ not_local_text reason.now place) }
 {
     match reason {
-        ObjectReason::NotBuilt => format!(in alloc; "ERROR: Object refused: NotBuilt.\n"),
-        ObjectReason::Rule(rule) => match rule {
-            ObjectRefusal::BadMagic => format!(in alloc; "ERROR: Object refused: BadMagic.\n"),
-            ObjectRefusal::BadVersion => format!(in alloc; "ERROR: Object refused: BadVersion.\n"),
-            ObjectRefusal::Truncated => format!(in alloc; "ERROR: Object refused: Truncated.\n"),
-            ObjectRefusal::TrailingBytes => {
-                format!(in alloc; "ERROR: Object refused: TrailingBytes.\n")
-            }
-            ObjectRefusal::BadField { offset } => {
-                let offset = *offset;
-                format!(in alloc; "ERROR: Object refused: BadField at byte {offset}.\n")
-            }
-            ObjectRefusal::NotValid => format!(in alloc; "ERROR: Object refused: NotValid.\n"),
-        },
+        Reason::TermHasStatements => format!(in alloc; "not local: term has statements"),
+        Reason::InitWrites => format!(in alloc; "not local: init writes"),
+        Reason::Reads(name) => {
+            let name = name.as_str();
+            let Place { line, column } = place;
+            format!(in alloc; "not local: {name} read at {line}:{column}")
+        }
+    }
+}
+
+/// What a verdict says, as `local by 2` or `not local: term has statements`.
+pub fn verdict_text(alloc: Global, verdict: &Verdict) -> Result<Text, OutOfMemory>
+    ensures { IfOk result (λ text. text ≡ verdict_text verdict.now) }
+{
+    match verdict {
+        Verdict::Local { grain } => Text::from_string(alloc, local_text(alloc, *grain)?),
+        Verdict::NotLocal { reason, place } => {
+            Text::from_string(alloc, not_local_text(alloc, reason, *place)?)
+        }
     }
 }
 
@@ -299,6 +335,21 @@ fn groups_line(alloc: Global, name: &str, groups: u64) -> Result<String, AllocEr
     ensures { IfOk result (λ line. string_bytes line ≡ thread_line name.now None groups) }
 {
     format!(in alloc; "NOTE: Thread {name}, {groups} groups.\n")
+}
+
+// The line on a thread program, with its verdict where one is told.
+fn told_thread_line(
+    alloc: Global,
+    name: &str,
+    verdict: &Option<Text>,
+    groups: u64,
+) -> Result<String, AllocError>
+    ensures { IfOk result (λ line. string_bytes line ≡ thread_line name.now verdict.now groups) }
+{
+    match verdict {
+        None => groups_line(alloc, name, groups),
+        Some(verdict) => thread_line(alloc, name, verdict.as_str(), groups),
+    }
 }
 
 /// Adds the line that counts the instructions that a program's stored code has executed.
@@ -333,52 +384,40 @@ pub fn say_exists(alloc: Global, name: &Text, log: &mut Bytes) -> Result<(), Out
 /// Adds the line on an object that is refused.
 pub fn say_object_refused(
     alloc: Global,
-    reason: &ObjectReason,
+    refusal: &ObjectRefusal,
     log: &mut Bytes,
 ) -> Result<(), OutOfMemory>
-    ensures { OnOk result (log.new ≡ log.old ++ object_refused_line reason.now) }
+    ensures { OnOk result (log.new ≡ log.old ++ object_refused_line refusal.now) }
 {
-    let line = object_refused_line(alloc, reason)?;
+    let line = object_refused_line(alloc, refusal)?;
     log.append(line.as_str().as_bytes())
 }
 
-/// Adds the line of `check` on a thread program: its verdict, as `local` or `not local: term has statements`.
+/// Adds the line of `check` on a thread program: its verdict.
 pub fn say_checked_thread(
     alloc: Global,
     name: &Name,
-    verdict: &str,
+    verdict: &Verdict,
     log: &mut Bytes,
 ) -> Result<(), OutOfMemory>
-    ensures { OnOk result (log.new ≡ log.old ++ checked_thread_line name.now verdict.now) }
+    ensures { OnOk result (log.new ≡ log.old ++ checked_thread_line name.now (verdict_text verdict.now)) }
 {
-    let line = checked_thread_line(alloc, name.as_str(), verdict)?;
+    let verdict = verdict_text(alloc, verdict)?;
+    let line = checked_thread_line(alloc, name.as_str(), verdict.as_str())?;
     log.append(line.as_str().as_bytes())
 }
 
-/// Adds the line on a thread program that has run: its verdict, and how many groups it had.
+/// Adds the line on a thread program that has run: its verdict, where one is told, and how many groups its loads made.
 pub fn say_thread(
     alloc: Global,
-    name: &Name,
-    verdict: &str,
+    name: &Text,
+    verdict: &Option<Text>,
     groups: u64,
     log: &mut Bytes,
 ) -> Result<(), OutOfMemory>
-    ensures { OnOk result (log.new ≡ log.old ++ thread_line name.now (Some verdict.now) groups) }
+    ensures { OnOk result (log.new ≡ log.old ++ thread_line name.now verdict.now groups) }
 {
-    let line = thread_line(alloc, name.as_str(), verdict, groups)?;
-    log.append(line.as_str().as_bytes())
-}
-
-/// Adds the line on a thread program of an object that has run, which has no verdict.
-pub fn say_groups(
-    alloc: Global,
-    name: &Name,
-    groups: u64,
-    log: &mut Bytes,
-) -> Result<(), OutOfMemory>
-    ensures { OnOk result (log.new ≡ log.old ++ thread_line name.now None groups) }
-{
-    let line = groups_line(alloc, name.as_str(), groups)?;
+    let line = told_thread_line(alloc, name.as_str(), verdict, groups)?;
     log.append(line.as_str().as_bytes())
 }
 

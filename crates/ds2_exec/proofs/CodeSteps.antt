@@ -1,6 +1,6 @@
 -- Code that can be run over tables that are held: each table that it names has the columns that it names.
 use Rattle.std.proofs.Common.{◌≡◌, ◌∙◌, ◌&&◌, ◌||◌, ◌==◌, ◌-◌, ◌+◌, Bool, true, false, not, bytes_eq, ℕ, zero, suc, List, [], ◌∷◌, ◌++◌, length, map, slice_get, unwrap_or, option_map, Option, Some, None, refl, sym, ap, subst, eqb-true, arith}
-use Rattle.std.specs.Prelude.{if◌then◌else◌}
+use Rattle.std.specs.Prelude.{if◌then◌else◌, min}
 use Rattle.std.specs.List.{AllByRecursion, list_all, list_any}
 use Rattle.std.specs.Option.{option_map_or}
 use Rattle.std.proofs.lemmas.List.Folds.{list_any-append}
@@ -26,16 +26,19 @@ use Rattle.ds2_code.specs.declared.parts.StagedParts.{StagedParts}
 use Rattle.ds2_code.specs.declared.parts.TableReference.{TableReference}
 use Rattle.ds2_code_answer.specs.CodeTables.{AreTablesOfCode, columns_had, columns_named, hash_references, program_references, reading_references, with_loaded_table}
 use Rattle.ds2_object.specs.ObjectSpelling.{column_is, columns_are, has_maker, is_slot_of, linked_behind, makes_reference, object_linked, output_is, parts_linked, program_linked, reading_linked, hash_linked, has_no_name}
-use Rattle.ds2_unit.specs.UnitsRun.{IsBuiltReading}
 use Rattle.ds2_unit.specs.Outputs.{column_of_output, rows_of_output, table_of_output, tables_from}
-use Rattle.ds2_same_meaning.specs.SameMeaning.{tables_of_outputs}
+use Rattle.ds2_same_meaning.specs.SameMeaning.{number_of_bys, tables_of_outputs}
 use Rattle.ds2_answer.specs.HeldTables.{HeldTables, NamedTable, contents_named, made_by_name, table_held, tables_held}
-use Rattle.ds2_answer.specs.ObjectPlans.{answer_over, first_referred, is_built_code, is_built_code_reading, known_too, new_name, object_inputs, references_of, run_of_code}
+use Rattle.ds2_answer.specs.ObjectPlans.{answer_over, first_referred, known_too, new_name, object_inputs, references_of, run_of_code}
 use Rattle.ds2_answer.specs.ProgramPlans.{ProgramLeft}
+use Rattle.ds2_answer.specs.StagesLeft.{VerdictsTold}
 use Rattle.ds2_answer.specs.TablePlans.{are_columns_named, are_columns_of, none_made, same_columns}
 use Rattle.ds2_exec.specs.CodeReferences.{IsKeptName, known_behind_references}
-use Rattle.ds2_exec.specs.CodeRuns.{AreLinked, HasColumnsStored, StandsAlone}
+use Rattle.ds2_exec.specs.CodeRuns.{AreLinked, HasColumnsStored}
 use Rattle.ds2_exec.specs.OutputSinks.{HaveKept}
+use Rattle.ds2_exec.specs.StageEnds.{GrainFits, GrainsFit}
+use Rattle.ds2_stage_loads.specs.Grains.{IsGrainOf, IsGrainOfReading}
+use Rattle.ds2_verdicts.specs.ThreadVerdicts.{verdict_named}
 use Rattle.ds2_exec.specs.TableReads.{AreTablesRead, HasColumnsNamed, names_read}
 use Rattle.ds2_exec.proofs.ReferenceSteps.{both_hold}
 
@@ -136,10 +139,10 @@ chain_outputs code [] valid = valid.outputs
 chain_outputs code (stage ∷ stages) (valid, others) = valid.outputs
 
 -- the tables that valid code leaves can be linked to
-pub code_makes : (code : StagedParts) (budget : ℕ) (held : HeldTables) (tables : List NamedTable) → IsValidStaged code → tables ≡ ProgramLeft.tables (run_of_code budget code held) → MakesTables code tables
-code_makes code budget held tables valid is r links =
+pub code_makes : (told : VerdictsTold) (code : StagedParts) (budget : ℕ) (held : HeldTables) (tables : List NamedTable) → IsValidStaged code → tables ≡ ProgramLeft.tables (run_of_code told budget code held) → MakesTables code tables
+code_makes told code budget held tables valid is r links =
     ap (λ (ts : List NamedTable). Contents.columns (contents_named ts r.name)) is
-    ∙ made_columns code.program.slots 0 code.program.outputs (Answer.rows (answer_over code budget held)) r (chain_outputs code.program code.stages valid.chain) links
+    ∙ made_columns code.program.slots 0 code.program.outputs (Answer.rows (answer_over told code budget held)) r (chain_outputs code.program code.stages valid.chain) links
 
 -- programs that have run have made tables that can be linked to
 abbrev pub HaveMade : List StagedParts → List (List NamedTable) → Type 0
@@ -351,26 +354,27 @@ object_links codes' references names read linked references_are names_are tables
       columns = columns_in all all read were (asks_of_references all all (λ name columns h. h)) (each_known none_made all);
     }
 
--- ---- code that stands alone
+-- ---- grains without verdicts
 
-reading_runs : (r : ReadingPart) → is_built_code_reading r ≡ true → IsBuiltReading r
-reading_runs (reading.Set tables bys) h = tt
-reading_runs (reading.Merge tables bys retains) h = tt
-reading_runs (reading.Stage threads slots) h = absurd (cc h)
-reading_runs reading.Once h = tt
-reading_runs reading.Nothing h = tt
+pub plain_fits : (bys : ℕ) → IsGrainOf bys (min bys 1)
+plain_fits zero = record { within = omega arith; above = λ some. absurd (omega (arith, some)) }
+plain_fits (suc n) = record { within = omega arith; above = λ some. omega arith }
 
-none_there : {T : Type 0} (xs : List T) → (length xs == 0) ≡ true → xs ≡ []
-none_there [] h = refl
-none_there (x ∷ xs) h = absurd (omega (arith, eqb-true (length (x ∷ xs)) 0 h))
+reading_fits : (r : ReadingPart) → IsGrainOfReading r (min (number_of_bys r) 1)
+reading_fits (reading.Set tables bys) = plain_fits (length bys)
+reading_fits (reading.Merge tables bys retains) = plain_fits (length bys)
+reading_fits (reading.Stage threads slots) = plain_fits 0
+reading_fits reading.Once = plain_fits 0
+reading_fits reading.Nothing = plain_fits 0
 
--- programs that are built stand alone
-pub built_alone : (codes' : List StagedParts) → list_all is_built_code codes' ≡ true → AllByRecursion StandsAlone codes'
-built_alone [] h = tt
-built_alone (code ∷ codes') h =
-    let k = both_hold (is_built_code code) (list_all is_built_code codes') h in
-    let one = both_hold (length code.stages == 0) (is_built_code_reading code.program.reading) k.0 in
-    (record { stages = none_there code.stages one.0; reading = reading_runs code.program.reading one.1 }, built_alone codes' k.1)
+stages_fit : (stages : List ProgramParts) → AllByRecursion (GrainFits (verdict_named [])) stages
+stages_fit [] = tt
+stages_fit (stage ∷ stages) = (reading_fits stage.reading, stages_fit stages)
+
+-- where no verdict is told, each grain fits
+pub grains_fit : (codes' : List StagedParts) → AllByRecursion (GrainsFit (verdict_named [])) codes'
+grains_fit [] = tt
+grains_fit (code ∷ codes') = (stages_fit code.stages, grains_fit codes')
 
 -- ---- tables of which rows are kept
 
@@ -420,53 +424,53 @@ abbrev references_in : StagedParts → List TableReference
 references_in code = program_references code.program code.stages
 
 -- programs that have run, those that are left, what is held of tables, and all tables that programs have made
-pub record RunsLeft (keeps : List ℕ → Bool) (left : List StagedParts) (stored : List NamedTable) (kept all : List (List NamedTable)) : Type 0 where
+pub record RunsLeft (keeps : List ℕ → Bool) (told : VerdictsTold) (left : List StagedParts) (stored : List NamedTable) (kept all : List (List NamedTable)) : Type 0 where
   pub earlier : List StagedParts
-  pub alone : AllByRecursion StandsAlone left
+  pub fit : AllByRecursion (GrainsFit told) left
   pub have : HaveMade earlier all
   pub links : linked_behind earlier left ≡ true
   pub columns : AllByRecursion (HasColumnsStored stored) (references_of left)
   pub named : AllByRecursion (IsKeptName keeps) (references_of left)
   pub held : HaveKeptAll keeps kept all
 
-pub runs_begin : (keeps : List ℕ → Bool) (codes' : List StagedParts) (references : List TableReference) (stored : List NamedTable) (kept : List (List NamedTable)) → AllByRecursion StandsAlone codes' → AreLinked codes' stored
-    → references ≡ references_of codes' → AllByRecursion (IsKeptName keeps) references → kept ≡ [] → RunsLeft keeps codes' stored kept []
-runs_begin keeps codes' references stored kept alone linked references_are named none =
-    subst (λ (k : List (List NamedTable)). RunsLeft keeps codes' stored k []) (sym none)
-    (record { earlier = []; alone = alone; have = tt; links = linked.links; columns = linked.columns; named = subst (λ (rs : List TableReference). AllByRecursion (IsKeptName keeps) rs) references_are named; held = tt })
+pub runs_begin : (keeps : List ℕ → Bool) (told : VerdictsTold) (codes' : List StagedParts) (references : List TableReference) (stored : List NamedTable) (kept : List (List NamedTable)) → AllByRecursion (GrainsFit told) codes' → AreLinked codes' stored
+    → references ≡ references_of codes' → AllByRecursion (IsKeptName keeps) references → kept ≡ [] → RunsLeft keeps told codes' stored kept []
+runs_begin keeps told codes' references stored kept fit linked references_are named none =
+    subst (λ (k : List (List NamedTable)). RunsLeft keeps told codes' stored k []) (sym none)
+    (record { earlier = []; fit = fit; have = tt; links = linked.links; columns = linked.columns; named = subst (λ (rs : List TableReference). AllByRecursion (IsKeptName keeps) rs) references_are named; held = tt })
 
-module _ (keeps : List ℕ → Bool) (stored : List NamedTable) where
-  first_left : (left after : List StagedParts) (code : StagedParts) (kept all : List (List NamedTable)) → left ≡ code ∷ after → RunsLeft keeps left stored kept all → RunsLeft keeps (code ∷ after) stored kept all
-  first_left left after code kept all is runs = subst (λ (cs : List StagedParts). RunsLeft keeps cs stored kept all) is runs
+module _ (keeps : List ℕ → Bool) (told : VerdictsTold) (stored : List NamedTable) where
+  first_left : (left after : List StagedParts) (code : StagedParts) (kept all : List (List NamedTable)) → left ≡ code ∷ after → RunsLeft keeps told left stored kept all → RunsLeft keeps told (code ∷ after) stored kept all
+  first_left left after code kept all is runs = subst (λ (cs : List StagedParts). RunsLeft keeps told cs stored kept all) is runs
 
   -- what the next program names is held as if all tables were
-  pub next_tables : (left after : List StagedParts) (code : StagedParts) (kept all : List (List NamedTable)) → left ≡ code ∷ after → RunsLeft keeps left stored kept all
+  pub next_tables : (left after : List StagedParts) (code : StagedParts) (kept all : List (List NamedTable)) → left ≡ code ∷ after → RunsLeft keeps told left stored kept all
       → tables_held (held_with stored kept) code ≡ tables_held (held_with stored all) code
   next_tables left after code kept all is runs =
       let first = first_left left after code kept all is runs in
       references_kept keeps stored kept all (references_in code) first.held (all_left (IsKeptName keeps) (references_in code) (references_of after) first.named)
 
   -- the next program can be run
-  pub next_runs : (left after : List StagedParts) (code : StagedParts) (kept all : List (List NamedTable)) → left ≡ code ∷ after → RunsLeft keeps left stored kept all
-      → StandsAlone code × AreTablesOfCode code (tables_held (held_with stored kept) code)
+  pub next_runs : (left after : List StagedParts) (code : StagedParts) (kept all : List (List NamedTable)) → left ≡ code ∷ after → RunsLeft keeps told left stored kept all
+      → GrainsFit told code × AreTablesOfCode code (tables_held (held_with stored kept) code)
   next_runs left after code kept all is runs =
       let first = first_left left after code kept all is runs in
       let links = both_hold (program_linked first.earlier code) (linked_behind (first.earlier ++ code ∷ []) after) first.links in (
-        first.alone.0,
+        first.fit.0,
         subst (λ (ts : List Contents). AreTablesOfCode code ts) (sym (next_tables left after code kept all is runs))
             (code_held first.earlier (held_with stored all) code first.have (all_left (HasColumnsStored stored) (references_in code) (references_of after) first.columns) links.0),
       )
 
   -- behind it the others can be run
   pub others_run : (left after : List StagedParts) (code : StagedParts) (kept all behind : List (List NamedTable)) (some tables : List NamedTable) → left ≡ code ∷ after → behind ≡ kept ++ some ∷ []
-      → HaveKept keeps some tables → MakesTables code tables → RunsLeft keeps left stored kept all → RunsLeft keeps after stored behind (all ++ tables ∷ [])
+      → HaveKept keeps some tables → MakesTables code tables → RunsLeft keeps told left stored kept all → RunsLeft keeps told after stored behind (all ++ tables ∷ [])
   others_run left after code kept all behind some tables is behind_is keep makes runs =
       let first = first_left left after code kept all is runs in
       let links = both_hold (program_linked first.earlier code) (linked_behind (first.earlier ++ code ∷ []) after) first.links in
-      subst (λ (k : List (List NamedTable)). RunsLeft keeps after stored k (all ++ tables ∷ [])) (sym behind_is)
+      subst (λ (k : List (List NamedTable)). RunsLeft keeps told after stored k (all ++ tables ∷ [])) (sym behind_is)
       (record {
         earlier = first.earlier ++ code ∷ [];
-        alone = first.alone.1;
+        fit = first.fit.1;
         have = made_more first.earlier all code tables first.have makes;
         links = links.1;
         columns = all_right (HasColumnsStored stored) (references_in code) (references_of after) first.columns;

@@ -12,6 +12,7 @@ use Rattle.ds2_answer.specs.HeldTables.{NamedTable, held_from_store}
 use Rattle.ds2_answer.specs.ObjectPlans.{first_referred, known_too, object_inputs, object_over, object_plan, outputs_of_code, references_of, run_of_code}
 use Rattle.ds2_answer.specs.Plan.{Plan, Stops}
 use Rattle.ds2_answer.specs.ProgramPlans.{programs_plan}
+use Rattle.ds2_answer.specs.StagesLeft.{no_verdict}
 use Rattle.ds2_answer.specs.TablePlans.{Presence, none_made, present_in, read_tables}
 use Rattle.ds2_exec.specs.declared.halt.Halt.{Halt}
 use Rattle.ds2_exec.specs.declared.halt.Halt.TheVariants.{Ended, OutOfMemory}
@@ -120,21 +121,21 @@ module _ (codes' : List StagedParts) (budget : ℕ) where
       record {
         there = asks.there;
         told_is = asks.told_is;
-        holds = subst (λ (h : Halt). HaltsPlan (object_over codes' budget asks.there read) said told h log now) (sym is) (asks.holds (programs_plan (map (run_of_code budget) codes') (held_from_store read)));
+        holds = subst (λ (h : Halt). HaltsPlan (object_over codes' budget asks.there read) said told h log now) (sym is) (asks.holds (programs_plan (map (run_of_code no_verdict budget) codes') (held_from_store read)));
       }
 
   -- no output is there, and the programs were run
   pub outputs_not_there : (read stored : List NamedTable) (said text log : List ℕ) (told between now : Option Files) (result : Result (Unit {0}) Halt) → stored ≡ read
       → AsksOutputs none_made (flat_map outputs_of_code codes') said told (Ok tt) text between
-      → FollowsAll (programs_plan (map (run_of_code budget) codes') (held_from_store stored)) text between result log now
+      → FollowsAll (programs_plan (map (run_of_code no_verdict budget) codes') (held_from_store stored)) text between result log now
       → OverAnswers told (λ there. FollowsAll (object_over codes' budget there read) said told result log now)
   outputs_not_there read stored said text log told between now result stored_is (same, asks) runs =
-      let programs : Plan = programs_plan (map (run_of_code budget) codes') (held_from_store read) in
+      let programs : Plan = programs_plan (map (run_of_code no_verdict budget) codes') (held_from_store read) in
       record {
         there = asks.there;
         told_is = asks.told_is;
         holds = does_on (object_over codes' budget asks.there read) programs (λ (_ : Unit {0}). Stops ended.Done) said text told between result log now (asks.holds programs)
-            (subst (λ (ts : List NamedTable). FollowsAll (programs_plan (map (run_of_code budget) codes') (held_from_store ts)) text between result log now) stored_is runs);
+            (subst (λ (ts : List NamedTable). FollowsAll (programs_plan (map (run_of_code no_verdict budget) codes') (held_from_store ts)) text between result log now) stored_is runs);
       }
 
 -- the codes of an object are the object

@@ -5,6 +5,10 @@ pub mod OutputSteps
 pub mod ReferenceSteps
 pub mod CodeSteps
 pub mod SinkSteps
+pub mod StageSteps
+pub mod CodeEnds
 pub mod ProgramSteps
 pub mod RunSteps
+pub mod VerdictGrains
+pub mod LocalSteps
 pub mod ExecSteps

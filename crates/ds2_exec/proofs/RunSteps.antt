@@ -10,15 +10,17 @@ use Rattle.ds2_code_answer.specs.CodeAnswer.{code_answer}
 use Rattle.ds2_code_answer.specs.CodeTables.{AreTablesOfCode}
 use Rattle.ds2_answer.specs.declared.status.Status.TheVariants as ended
 use Rattle.ds2_answer.specs.HeldTables.{HeldTables, NamedTable, tables_held}
-use Rattle.ds2_answer.specs.ObjectPlans.{left_by_code, references_of, run_of_code}
+use Rattle.ds2_answer.specs.ObjectPlans.{left_by_code, references_of, run_of_code, stages_of_code}
 use Rattle.ds2_answer.specs.Plan.{Plan, Stops}
 use Rattle.ds2_answer.specs.ProgramPlans.{ProgramLeft, program_then, programs_plan}
+use Rattle.ds2_answer.specs.StagesLeft.{VerdictsTold, grain_of_stages}
 use Rattle.ds2_exec.specs.declared.halt.Halt.{Halt}
 use Rattle.ds2_exec.specs.declared.halt.Halt.TheVariants.{OutOfMemory}
 use Rattle.ds2_exec.specs.CodeReferences.{IsKeptName}
-use Rattle.ds2_exec.specs.CodeRuns.{AreLinked, StandsAlone}
+use Rattle.ds2_exec.specs.CodeRuns.{AreLinked}
 use Rattle.ds2_exec.specs.Halts.{Follows, FollowsAll, HaltsPlan, LeadsOn}
 use Rattle.ds2_exec.specs.OutputSinks.{HaveKept}
+use Rattle.ds2_exec.specs.StageEnds.{GrainsFit}
 use Rattle.ds2_exec.proofs.CodeSteps.{RunsLeft, code_makes, next_runs, next_tables, others_run, runs_begin}
 use Rattle.ds2_exec.proofs.Leading.{does_on, halts_with, leads_none, no_memory}
 
@@ -27,84 +29,84 @@ abbrev pub held_with : List NamedTable → List (List NamedTable) → HeldTables
 held_with stored made = record { stored = stored; made = made }
 
 -- the programs of these codes over what is held
-abbrev pub plan_of : (budget : ℕ) → List NamedTable → List StagedParts → List (List NamedTable) → Plan
-plan_of budget stored codes' made = programs_plan (map (run_of_code budget) codes') (held_with stored made)
+abbrev pub plan_of : (told : VerdictsTold) (budget : ℕ) → List NamedTable → List StagedParts → List (List NamedTable) → Plan
+plan_of told budget stored codes' made = programs_plan (map (run_of_code told budget) codes') (held_with stored made)
 
 -- the first of some programs were run: some of their tables are kept, and what comes of the others over all of their tables comes of all programs
-pub record AreRunSoFar (keeps : List ℕ → Bool) (budget : ℕ) (stored : List NamedTable) (codes' left : List StagedParts) (kept : List (List NamedTable)) (said : List ℕ) (told : Option Files) (log : List ℕ) (now : Option Files) : Type 0 where
+pub record AreRunSoFar (keeps : List ℕ → Bool) (verdicts : VerdictsTold) (budget : ℕ) (stored : List NamedTable) (codes' left : List StagedParts) (kept : List (List NamedTable)) (said : List ℕ) (told : Option Files) (log : List ℕ) (now : Option Files) : Type 0 where
   pub all : List (List NamedTable)
-  pub runs : RunsLeft keeps left stored kept all
-  pub leads : LeadsOn (plan_of budget stored codes' []) (plan_of budget stored left all) said told log now
+  pub runs : RunsLeft keeps verdicts left stored kept all
+  pub leads : LeadsOn (plan_of verdicts budget stored codes' []) (plan_of verdicts budget stored left all) said told log now
 
-module _ (keeps : List ℕ → Bool) (budget : ℕ) (stored : List NamedTable) (codes' : List StagedParts) where
-  pub running_begins : (references : List TableReference) (kept : List (List NamedTable)) (said : List ℕ) (told : Option Files) → AllByRecursion StandsAlone codes' → AreLinked codes' stored → references ≡ references_of codes'
-      → AllByRecursion (IsKeptName keeps) references → kept ≡ [] → AreRunSoFar keeps budget stored codes' codes' kept said told said told
-  running_begins references kept said told alone linked references_are named none =
-      record { all = []; runs = runs_begin keeps codes' references stored kept alone linked references_are named none; leads = leads_none (plan_of budget stored codes' []) said told }
+module _ (keeps : List ℕ → Bool) (verdicts : VerdictsTold) (budget : ℕ) (stored : List NamedTable) (codes' : List StagedParts) where
+  pub running_begins : (references : List TableReference) (kept : List (List NamedTable)) (said : List ℕ) (told : Option Files) → AllByRecursion (GrainsFit verdicts) codes' → AreLinked codes' stored → references ≡ references_of codes'
+      → AllByRecursion (IsKeptName keeps) references → kept ≡ [] → AreRunSoFar keeps verdicts budget stored codes' codes' kept said told said told
+  running_begins references kept said told fit linked references_are named none =
+      record { all = []; runs = runs_begin keeps verdicts codes' references stored kept fit linked references_are named none; leads = leads_none (plan_of verdicts budget stored codes' []) said told }
 
   -- the tables that are kept, as a slice of them
-  pub run_kept : (left : List StagedParts) (slice kept : List (List NamedTable)) (said : List ℕ) (told : Option Files) (log : List ℕ) (now : Option Files) → slice ≡ kept → AreRunSoFar keeps budget stored codes' left kept said told log now
-      → AreRunSoFar keeps budget stored codes' left slice said told log now
-  run_kept left slice kept said told log now is run = subst (λ (k : List (List NamedTable)). AreRunSoFar keeps budget stored codes' left k said told log now) (sym is) run
+  pub run_kept : (left : List StagedParts) (slice kept : List (List NamedTable)) (said : List ℕ) (told : Option Files) (log : List ℕ) (now : Option Files) → slice ≡ kept → AreRunSoFar keeps verdicts budget stored codes' left kept said told log now
+      → AreRunSoFar keeps verdicts budget stored codes' left slice said told log now
+  run_kept left slice kept said told log now is run = subst (λ (k : List (List NamedTable)). AreRunSoFar keeps verdicts budget stored codes' left k said told log now) (sym is) run
 
   module _ (left after : List StagedParts) (code : StagedParts) (kept : List (List NamedTable)) (said text : List ℕ) (told between : Option Files) (left_is : left ≡ code ∷ after)
-      (run : AreRunSoFar keeps budget stored codes' left kept said told text between) where
+      (run : AreRunSoFar keeps verdicts budget stored codes' left kept said told text between) where
     -- what the next program leaves over what is kept it leaves over all tables
-    run_same : run_of_code budget code (held_with stored kept) ≡ run_of_code budget code (held_with stored run.all)
-    run_same = ap (λ (ts : List Contents). left_by_code code (code_answer code ts budget 0)) (next_tables keeps stored left after code kept run.all left_is run.runs)
+    run_same : run_of_code verdicts budget code (held_with stored kept) ≡ run_of_code verdicts budget code (held_with stored run.all)
+    run_same = ap (λ (ts : List Contents). left_by_code verdicts code (code_answer code ts budget (grain_of_stages verdicts (stages_of_code code)))) (next_tables keeps verdicts stored left after code kept run.all left_is run.runs)
 
-    first_leads : LeadsOn (plan_of budget stored codes' []) (plan_of budget stored (code ∷ after) run.all) said told text between
-    first_leads = subst (λ (cs : List StagedParts). LeadsOn (plan_of budget stored codes' []) (plan_of budget stored cs run.all) said told text between) left_is run.leads
+    first_leads : LeadsOn (plan_of verdicts budget stored codes' []) (plan_of verdicts budget stored (code ∷ after) run.all) said told text between
+    first_leads = subst (λ (cs : List StagedParts). LeadsOn (plan_of verdicts budget stored codes' []) (plan_of verdicts budget stored cs run.all) said told text between) left_is run.leads
 
     -- the tables that it makes
     abbrev tables_of_next : List NamedTable
-    tables_of_next = ProgramLeft.tables (run_of_code budget code (held_with stored run.all))
+    tables_of_next = ProgramLeft.tables (run_of_code verdicts budget code (held_with stored run.all))
 
     -- the programs behind it
     abbrev plan_behind : Plan
-    plan_behind = plan_of budget stored after (run.all ++ tables_of_next ∷ [])
+    plan_behind = plan_of verdicts budget stored after (run.all ++ tables_of_next ∷ [])
 
     -- the next program can be run
-    pub next_program : StandsAlone code × AreTablesOfCode code (tables_held (held_with stored kept) code)
-    next_program = next_runs keeps stored left after code kept run.all left_is run.runs
+    pub next_program : GrainsFit verdicts code × AreTablesOfCode code (tables_held (held_with stored kept) code)
+    next_program = next_runs keeps verdicts stored left after code kept run.all left_is run.runs
 
-    led_behind : (log : List ℕ) (now : Option Files) → ((rest : Plan) → LeadsOn (program_then (run_of_code budget code (held_with stored kept)) rest) rest text between log now)
-        → LeadsOn (plan_of budget stored codes' []) plan_behind said told log now
+    led_behind : (log : List ℕ) (now : Option Files) → ((rest : Plan) → LeadsOn (program_then (run_of_code verdicts budget code (held_with stored kept)) rest) rest text between log now)
+        → LeadsOn (plan_of verdicts budget stored codes' []) plan_behind said told log now
     led_behind log now ran =
-        does_on (plan_of budget stored codes' []) (plan_of budget stored (code ∷ after) run.all) (λ (_ : Unit {0}). plan_behind) said text told between (Ok tt) log now first_leads
+        does_on (plan_of verdicts budget stored codes' []) (plan_of verdicts budget stored (code ∷ after) run.all) (λ (_ : Unit {0}). plan_behind) said text told between (Ok tt) log now first_leads
         (subst (λ (l : ProgramLeft). LeadsOn (program_then l plan_behind) plan_behind text between log now) run_same (ran plan_behind))
 
     -- it was run, and tables of it are kept
     pub run_another : (some : List NamedTable) (made behind : List (List NamedTable)) (log : List ℕ) (now : Option Files) → IsValidStaged code → kept ≡ made → behind ≡ made ++ some ∷ []
-        → HaveKept keeps some (ProgramLeft.tables (run_of_code budget code (held_with stored kept)))
-        → ((rest : Plan) → LeadsOn (program_then (run_of_code budget code (held_with stored kept)) rest) rest text between log now)
-        → AreRunSoFar keeps budget stored codes' after behind said told log now
+        → HaveKept keeps some (ProgramLeft.tables (run_of_code verdicts budget code (held_with stored kept)))
+        → ((rest : Plan) → LeadsOn (program_then (run_of_code verdicts budget code (held_with stored kept)) rest) rest text between log now)
+        → AreRunSoFar keeps verdicts budget stored codes' after behind said told log now
     run_another some made behind log now valid made_is behind_is keep ran = record {
       all = run.all ++ tables_of_next ∷ [];
-      runs = others_run keeps stored left after code kept run.all behind some tables_of_next left_is (behind_is ∙ ap (λ (k : List (List NamedTable)). k ++ some ∷ []) (sym made_is))
+      runs = others_run keeps verdicts stored left after code kept run.all behind some tables_of_next left_is (behind_is ∙ ap (λ (k : List (List NamedTable)). k ++ some ∷ []) (sym made_is))
           (subst (λ (l : ProgramLeft). HaveKept keeps some l.tables) run_same keep)
-          (code_makes code budget (held_with stored run.all) tables_of_next valid refl)
+          (code_makes verdicts code budget (held_with stored run.all) tables_of_next valid refl)
           run.runs;
       leads = led_behind log now ran;
     }
 
     -- it has halted
     pub run_halts : (T : Type 0) (log : List ℕ) (now : Option Files) (halt : Halt) (result : Result (Unit {0}) Halt) → IsErrAnd result (λ e. e ≡ halt)
-        → ((rest : Plan) → Follows {T = T} (program_then (run_of_code budget code (held_with stored kept)) rest) (λ _. rest) text between (Err halt) log now)
-        → FollowsAll (plan_of budget stored codes' []) said told result log now
+        → ((rest : Plan) → Follows {T = T} (program_then (run_of_code verdicts budget code (held_with stored kept)) rest) (λ _. rest) text between (Err halt) log now)
+        → FollowsAll (plan_of verdicts budget stored codes' []) said told result log now
     run_halts T log now halt result err ran =
-        halts_with (plan_of budget stored codes' []) (plan_of budget stored (code ∷ after) run.all) (λ (_ : Unit {0}). Stops ended.Done) (λ (_ : T). plan_behind) said text told between now halt result log err first_leads
+        halts_with (plan_of verdicts budget stored codes' []) (plan_of verdicts budget stored (code ∷ after) run.all) (λ (_ : Unit {0}). Stops ended.Done) (λ (_ : T). plan_behind) said text told between now halt result log err first_leads
         (subst (λ (l : ProgramLeft). HaltsPlan (program_then l plan_behind) text between halt log now) run_same (ran plan_behind))
 
     -- it was run, and there was no memory to keep its tables
     pub run_unkept : (log : List ℕ) (now : Option Files) (result : Result (Unit {0}) Halt) → IsErrAnd result (λ e. e ≡ OutOfMemory)
-        → ((rest : Plan) → LeadsOn (program_then (run_of_code budget code (held_with stored kept)) rest) rest text between log now)
-        → FollowsAll (plan_of budget stored codes' []) said told result log now
+        → ((rest : Plan) → LeadsOn (program_then (run_of_code verdicts budget code (held_with stored kept)) rest) rest text between log now)
+        → FollowsAll (plan_of verdicts budget stored codes' []) said told result log now
     run_unkept log now result err ran =
-        does_on (plan_of budget stored codes' []) plan_behind (λ (_ : Unit {0}). Stops ended.Done) said log told now result log now (led_behind log now ran)
+        does_on (plan_of verdicts budget stored codes' []) plan_behind (λ (_ : Unit {0}). Stops ended.Done) said log told now result log now (led_behind log now ran)
         (no_memory plan_behind (λ (_ : Unit {0}). Stops ended.Done) log log now now result err refl)
 
   -- all programs were run
-  pub run_all : (left : List StagedParts) (kept : List (List NamedTable)) (said log : List ℕ) (told now : Option Files) → left ≡ [] → AreRunSoFar keeps budget stored codes' left kept said told log now
-      → FollowsAll (plan_of budget stored codes' []) said told (Ok tt) log now
-  run_all left kept said log told now none run = subst (λ (cs : List StagedParts). LeadsOn (plan_of budget stored codes' []) (plan_of budget stored cs run.all) said told log now) none run.leads
+  pub run_all : (left : List StagedParts) (kept : List (List NamedTable)) (said log : List ℕ) (told now : Option Files) → left ≡ [] → AreRunSoFar keeps verdicts budget stored codes' left kept said told log now
+      → FollowsAll (plan_of verdicts budget stored codes' []) said told (Ok tt) log now
+  run_all left kept said log told now none run = subst (λ (cs : List StagedParts). LeadsOn (plan_of verdicts budget stored codes' []) (plan_of verdicts budget stored cs run.all) said told log now) none run.leads

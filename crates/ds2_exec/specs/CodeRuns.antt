@@ -5,7 +5,6 @@ use Rattle.ds2_table.specs.Table.{Contents}
 use Rattle.ds2_code.specs.declared.parts.StagedParts.{StagedParts}
 use Rattle.ds2_code.specs.declared.parts.TableReference.{TableReference}
 use Rattle.ds2_object.specs.ObjectSpelling.{linked_behind}
-use Rattle.ds2_unit.specs.UnitsRun.{IsBuiltReading}
 use Rattle.ds2_answer.specs.HeldTables.{NamedTable, contents_named}
 use Rattle.ds2_answer.specs.Lines.{table_line}
 use Rattle.ds2_answer.specs.ObjectPlans.{references_of}
@@ -24,8 +23,3 @@ HasColumnsStored stored r = (r.maker == 0) ≡ true → Contents.columns (conten
 pub record AreLinked (codes : List StagedParts) (stored : List NamedTable) : Type 0 where
   pub links : IsTrue (linked_behind [] codes)
   pub columns : AllByRecursion (HasColumnsStored stored) (references_of codes)
-
--- code that reads from no thread program
-pub record StandsAlone (code : StagedParts) : Type 0 where
-  pub stages : code.stages ≡ []
-  pub reading : IsBuiltReading code.program.reading

@@ -6,5 +6,8 @@ pub mod TableReads
 pub mod OutputAsks
 pub mod CodeReferences
 pub mod CodeRuns
+pub mod StageEnds
+pub mod LocalCodes
+pub mod VerdictGrains
 pub mod OutputSinks
 pub mod ExecOutcomes

@@ -1,8 +1,7 @@
 //! The run of an object.
-ghost use Rattle.std.specs.Prelude.{◌≤◌, IsTrue};
-ghost use Rattle.std.specs.List.{list_all};
+ghost use Rattle.std.specs.Prelude.{◌≤◌};
 ghost use Rattle.ds2_machine.specs.declared.machine.TheConstants.{MOST_BUDGET};
-ghost use Rattle.ds2_answer.specs.ObjectPlans.{is_built_code, object_plan};
+ghost use Rattle.ds2_answer.specs.ObjectPlans.{object_plan};
 ghost use Rattle.ds2_exec.specs.ExecOutcomes.{ExecutesPlan, OverStore, ExecEndsAs};
 ghost use Rattle.ds2_exec.specs.Halts.{CausedBy, FollowsAll};
 ghost use Rattle.ds2_outside.specs.Causes.{HasCause};
@@ -34,7 +33,6 @@ pub fn run_object<S: Store>(
     log: &mut Bytes,
     store: &mut S,
 ) -> Result<(), Halt>
-    requires built { IsTrue (list_all is_built_code object.now) }
     requires budget { budget ≤ MOST_BUDGET }
     ensures does { OverStore (S.files store.old) (λ files there. FollowsAll (object_plan object.now budget files there) log.old (S.files store.old) result log.new (S.files store.new)) }
     ensures read { CausedBy Status.Read result (S.read_faults store.old) (S.read_faults store.new) }
@@ -46,12 +44,12 @@ pub fn run_object<S: Store>(
     let names = inputs_of(alloc, references)?;
     let stored = read_tables(alloc, references, names.as_slice(), log, store)?;
     ask_outputs(alloc, codes, log, store)?;
-    run_programs(alloc, codes, stored.as_slice(), budget, log, store)
+    run_programs(alloc, codes, stored.as_slice(), &[], budget, log, store)
 }
 
-/// Runs an object that is built ([`is_built_object`](crate::is_built_object)): reads the tables of the store that its programs name, each
-/// with the columns that they name, asks for its outputs, runs each program on one worker with this budget of at most
-/// [`ds2_machine::MOST_BUDGET`] steps and calls a unit, and writes its tables.
+/// Runs an object: reads the tables of the store that its programs name, each with the columns that they name, asks for its outputs, runs
+/// each program on one worker with this budget of at most [`ds2_machine::MOST_BUDGET`] steps and calls a unit, and writes its tables. An
+/// object carries no verdicts, so none is told in the log.
 ///
 /// The status and the log's text are those of the object's plan, or of the plan up to a call of the store that failed. After want of memory
 /// the files are those behind some first calls of the plan, the last of them perhaps a refused write.
@@ -61,7 +59,6 @@ pub fn exec<S: Store>(
     store: &mut S,
     budget: u64,
 ) -> Result<ExecEnd, OutOfMemory>
-    requires built { IsTrue (list_all is_built_code object.now) }
     requires budget { budget ≤ MOST_BUDGET }
     ensures does { OverStore (S.files store.old) (λ files there. ExecutesPlan (object_plan object.now budget files there) (S.files store.old) result (S.files store.new)) }
     ensures read { HasCause (S.read_faults store.old) (S.read_faults store.new) (ExecEndsAs Status.Read result) }

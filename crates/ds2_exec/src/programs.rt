@@ -4,17 +4,21 @@ ghost use Rattle.std.specs.Cmp.Lexicographic.{pointwise};
 ghost use Rattle.std.specs.HashSet.{contains};
 ghost use Rattle.std.specs.List.{AllByRecursion};
 ghost use Rattle.ds2_value.specs.declared.fault.Ending.TheVariants.{Normal};
+ghost use Rattle.ds2_table.specs.Table.{IsTable};
 ghost use Rattle.ds2_code_answer.specs.CodeAnswer.{code_answer};
 ghost use Rattle.ds2_code_answer.specs.CodeTables.{AreTablesOfCode};
 ghost use Rattle.ds2_machine.specs.declared.machine.TheConstants.{MOST_BUDGET};
 ghost use Rattle.ds2_answer.specs.HeldTables.{held_from_store, tables_held};
 ghost use Rattle.ds2_answer.specs.Lines.{count_line};
-ghost use Rattle.ds2_answer.specs.ObjectPlans.{run_of_code};
+ghost use Rattle.ds2_answer.specs.ObjectPlans.{run_of_code, stages_of_code};
 ghost use Rattle.ds2_answer.specs.Plan.{Plan, each_in_turn};
 ghost use Rattle.ds2_answer.specs.ProgramPlans.{ProgramLeft, program_then, programs_plan};
+ghost use Rattle.ds2_answer.specs.StagesLeft.{grain_of_stages};
+ghost use Rattle.ds2_verdicts.specs.ThreadVerdicts.{verdict_named};
 ghost use Rattle.ds2_exec.specs.Halts.{CausedBy, Follows, FollowsAll};
-ghost use Rattle.ds2_exec.specs.CodeRuns.{AreLinked, StandsAlone, rows_counted};
-ghost use Rattle.ds2_exec.specs.OutputSinks.{HaveKept, IsCodeEnd, code_end_then, sinks_then, tables_kept, write_sink_then};
+ghost use Rattle.ds2_exec.specs.CodeRuns.{AreLinked, rows_counted};
+ghost use Rattle.ds2_exec.specs.OutputSinks.{HaveKept, IsCodeEnd, code_end_then, left_by_run, sinks_then, tables_kept, write_sink_then};
+ghost use Rattle.ds2_exec.specs.StageEnds.{GrainsFit, stages_counted};
 
 use crate::Halt;
 use crate::files::{table_file, write_file};
@@ -23,39 +27,66 @@ use crate::kept::KeptTable;
 use crate::output_rows::sinks_of;
 use crate::output_sink::OutputSink;
 use crate::references::{names_kept, references_of, references_of_code, tables_referred};
+use crate::stages::{StageEnd, count_stages, grains_of, stage_ends};
 use ds2_answer::Status;
 use ds2_answer::lines::{say_count, say_lines, say_table};
 use ds2_base::{Bytes, List, OutOfMemory, Text};
+use ds2_code::ProgramParts;
 use ds2_outside::Store;
 use ds2_reading::Tables;
 use ds2_scope::NameSet;
-use ds2_unit::run_into;
+use ds2_staged::run_into;
+use ds2_unit::{OutputSinks, RunEnd};
 use ds2_valid_code::ProgramCode;
 use ds2_value::Ending;
+use ds2_verdicts::ThreadVerdict;
 use std::alloc::Global;
 
-/// What a program's code leaves: the tables of its outputs, the lines that it put, its ending and how many instructions its units executed.
+/// What a program's code leaves: the tables of its outputs, the lines that it put, its ending, how many instructions its units executed, and
+/// what is told of the thread program that it has read from.
 #[derive(Drop)]
 pub(crate) struct CodeEnd {
     pub(crate) tables: List<OutputSink>,
     pub(crate) lines: List<Text>,
     pub(crate) ending: Ending,
     pub(crate) executed: u128,
+    pub(crate) stages: List<StageEnd>,
 }
 
 // ---- one program
 
 // The tables that a program's code names, of those that are held.
-fn tables_of_code(
+pub(crate) fn tables_of_code(
     alloc: Global,
     code: &ProgramCode,
     stored: &[KeptTable],
     made: &[List<KeptTable>],
 ) -> Result<Tables, OutOfMemory>
-    ensures { IfOk result (λ tables. tables ≡ tables_held (record { stored = stored.now; made = made.now }) code.now) }
+    ensures held { IfOk result (λ tables. tables ≡ tables_held (record { stored = stored.now; made = made.now }) code.now) }
+    ensures whole { IfOk result (λ tables. AllByRecursion IsTable tables) }
 {
     let references = references_of_code(alloc, code)?;
     tables_referred(alloc, references.as_slice(), stored, made)
+}
+
+/// What a program's code leaves whose run has ended so, with what its sink has taken.
+pub(crate) fn code_end(
+    alloc: Global,
+    stages: &[ProgramParts],
+    verdicts: &[ThreadVerdict],
+    sink: OutputSinks<OutputSink>,
+    end: RunEnd,
+) -> Result<CodeEnd, OutOfMemory>
+    ensures { IfOk result (λ left. left ≡ left_by_run (verdict_named verdicts.now) stages.now sink end) }
+{
+    let stages = stage_ends(alloc, stages, verdicts, end.stages.as_slice())?;
+    Ok(CodeEnd {
+        tables: List::of(sink.outputs),
+        lines: sink.lines,
+        ending: end.ending,
+        executed: end.executed,
+        stages,
+    })
 }
 
 // Runs a program's code over its tables. Rows are kept of tables of these names.
@@ -64,22 +95,21 @@ fn run_code(
     code: &ProgramCode,
     tables: &Tables,
     kept: &NameSet,
+    verdicts: &[ThreadVerdict],
     budget: u64,
 ) -> Result<CodeEnd, OutOfMemory>
-    requires alone { StandsAlone code.now }
+    requires fit { GrainsFit (verdict_named verdicts.now) code.now }
     requires tables { AreTablesOfCode code.now tables.now }
     requires budget { budget ≤ MOST_BUDGET }
-    ensures { IfOk result (λ end. IsCodeEnd (contains (pointwise nat_eq) kept.now) code.now.program (code_answer code.now tables.now budget 0) end) }
+    ensures { IfOk result (λ end. IsCodeEnd (contains (pointwise nat_eq) kept.now) (verdict_named verdicts.now) code.now
+        (code_answer code.now tables.now budget (grain_of_stages (verdict_named verdicts.now) (stages_of_code code.now))) end) }
 {
+    let parts = code.parts();
+    let threads = parts.stages.as_slice();
+    let grains = grains_of(alloc, threads, verdicts)?;
     let mut sink = sinks_of(alloc, code, kept)?;
-    let grains = List::new(alloc);
     let end = run_into(alloc, code, tables, budget, &grains, &mut sink)?;
-    Ok(CodeEnd {
-        tables: List::of(sink.outputs),
-        lines: sink.lines,
-        ending: end.ending,
-        executed: end.executed,
-    })
+    code_end(alloc, threads, verdicts, sink, end)
 }
 
 // Writes a table.
@@ -141,20 +171,27 @@ fn say_numbers(
     count_rows(alloc, tables, log)
 }
 
-// Writes the tables of a program that has ended normally and counts its instructions and rows in the log.
+// Counts in the log what the thread programs of a program did, and then its instructions and rows.
+fn say_counts(alloc: Global, end: &CodeEnd, log: &mut Bytes) -> Result<(), OutOfMemory>
+    ensures { OnOk result (log.new ≡ log.old ++ (stages_counted end.now.stages ++ (count_line end.now.executed ++ rows_counted end.now.tables))) }
+{
+    count_stages(alloc, end.stages.as_slice(), log)?;
+    say_numbers(alloc, end.executed, end.tables.as_slice(), log)
+}
+
+// Writes the tables of a program that has ended normally, and counts in the log what it did.
 fn finish<S: Store>(
     alloc: Global,
     end: &CodeEnd,
     log: &mut Bytes,
     store: &mut S,
 ) -> Result<(), Halt>
-    ensures does { (rest : Plan) → Follows (sinks_then Normal end.now.executed end.now.tables rest) (λ _. rest) log.old (S.files store.old) result log.new (S.files store.new) }
+    ensures does { (rest : Plan) → Follows (sinks_then Normal end.now.stages end.now.executed end.now.tables rest) (λ _. rest) log.old (S.files store.old) result log.new (S.files store.new) }
     ensures read { CausedBy Status.Read result (S.read_faults store.old) (S.read_faults store.new) }
     ensures write { CausedBy Status.Write result (S.write_faults store.old) (S.write_faults store.new) }
 {
-    let tables = end.tables.as_slice();
-    write_tables(alloc, tables, log, store)?;
-    say_numbers(alloc, end.executed, tables, log)?;
+    write_tables(alloc, end.tables.as_slice(), log, store)?;
+    say_counts(alloc, end, log)?;
     Ok(())
 }
 
@@ -201,6 +238,22 @@ fn kept_tables(alloc: Global, sinks: List<OutputSink>) -> Result<List<KeptTable>
     Ok(tables)
 }
 
+/// Says what a program has left, writes its tables, and gives those of which rows are kept.
+pub(crate) fn settle<S: Store>(
+    alloc: Global,
+    end: CodeEnd,
+    log: &mut Bytes,
+    store: &mut S,
+) -> Result<List<KeptTable>, Halt>
+    ensures does { (rest : Plan) → Follows (code_end_then end rest) (λ _. rest) log.old (S.files store.old) result log.new (S.files store.new) }
+    ensures kept { IfOk result (λ tables. tables ≡ tables_kept end.tables) }
+    ensures read { CausedBy Status.Read result (S.read_faults store.old) (S.read_faults store.new) }
+    ensures write { CausedBy Status.Write result (S.write_faults store.old) (S.write_faults store.new) }
+{
+    leave(alloc, &end, log, store)?;
+    Ok(kept_tables(alloc, end.tables)?)
+}
+
 // Runs a program, and gives those of its tables of which rows are kept.
 fn run_program<S: Store>(
     alloc: Global,
@@ -208,41 +261,43 @@ fn run_program<S: Store>(
     kept: &NameSet,
     stored: &[KeptTable],
     made: &[List<KeptTable>],
+    verdicts: &[ThreadVerdict],
     budget: u64,
     log: &mut Bytes,
     store: &mut S,
 ) -> Result<List<KeptTable>, Halt>
-    requires alone { StandsAlone code.now }
+    requires fit { GrainsFit (verdict_named verdicts.now) code.now }
     requires tables { AreTablesOfCode code.now (tables_held (record { stored = stored.now; made = made.now }) code.now) }
     requires budget { budget ≤ MOST_BUDGET }
-    ensures does { (rest : Plan) → Follows (program_then (run_of_code budget code.now (record { stored = stored.now; made = made.now })) rest) (λ _. rest) log.old (S.files store.old) result log.new (S.files store.new) }
-    ensures made { IfOk result (λ tables. HaveKept (contains (pointwise nat_eq) kept.now) tables (ProgramLeft.tables (run_of_code budget code.now (record { stored = stored.now; made = made.now })))) }
+    ensures does { (rest : Plan) → Follows (program_then (run_of_code (verdict_named verdicts.now) budget code.now (record { stored = stored.now; made = made.now })) rest) (λ _. rest) log.old (S.files store.old) result log.new (S.files store.new) }
+    ensures made { IfOk result (λ tables. HaveKept (contains (pointwise nat_eq) kept.now) tables (ProgramLeft.tables (run_of_code (verdict_named verdicts.now) budget code.now (record { stored = stored.now; made = made.now })))) }
     ensures read { CausedBy Status.Read result (S.read_faults store.old) (S.read_faults store.new) }
     ensures write { CausedBy Status.Write result (S.write_faults store.old) (S.write_faults store.new) }
 {
     let tables = tables_of_code(alloc, code, stored, made)?;
-    let end = run_code(alloc, code, &tables, kept, budget)?;
-    leave(alloc, &end, log, store)?;
-    Ok(kept_tables(alloc, end.tables)?)
+    let end = run_code(alloc, code, &tables, kept, verdicts, budget)?;
+    settle(alloc, end, log, store)
 }
 
 // ---- programs
 
 /// Runs programs one behind the other, each over the tables of the store that were read and those that earlier ones have made: `init`, `run`
-/// on each load, `term`, each with this budget of at most [`ds2_machine::MOST_BUDGET`] steps and calls. A program that ends without fault
-/// writes its tables; the first fault ends the command. Rows are kept only of tables that a program names.
+/// on each load, `term`, each with this budget of at most [`ds2_machine::MOST_BUDGET`] steps and calls; behind `init` the thread program that
+/// it reads from, if any, with its groups at the grain of its verdict. A program that ends without fault writes its tables; the first fault
+/// ends the command. Rows are kept only of tables that a program names.
 pub fn run_programs<S: Store>(
     alloc: Global,
     codes: &[ProgramCode],
     stored: &[KeptTable],
+    verdicts: &[ThreadVerdict],
     budget: u64,
     log: &mut Bytes,
     store: &mut S,
 ) -> Result<(), Halt>
-    requires alone { AllByRecursion StandsAlone codes.now }
+    requires fit { AllByRecursion (GrainsFit (verdict_named verdicts.now)) codes.now }
     requires linked { AreLinked codes.now stored.now }
     requires budget { budget ≤ MOST_BUDGET }
-    ensures does { FollowsAll (programs_plan (map (run_of_code budget) codes.now) (held_from_store stored.now)) log.old (S.files store.old) result log.new (S.files store.new) }
+    ensures does { FollowsAll (programs_plan (map (run_of_code (verdict_named verdicts.now) budget) codes.now) (held_from_store stored.now)) log.old (S.files store.old) result log.new (S.files store.new) }
     ensures read { CausedBy Status.Read result (S.read_faults store.old) (S.read_faults store.new) }
     ensures write { CausedBy Status.Write result (S.write_faults store.old) (S.write_faults store.new) }
 {
@@ -258,6 +313,7 @@ pub fn run_programs<S: Store>(
             &kept,
             stored,
             made.as_slice(),
+            verdicts,
             budget,
             log,
             store,

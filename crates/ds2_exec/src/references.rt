@@ -4,11 +4,12 @@ ghost use Rattle.std.specs.Prelude.{◌≡◌, ◌∷◌, ◌++◌, ◌&&◌, �
 ghost use Rattle.std.specs.Arc.{arc_value};
 ghost use Rattle.std.specs.Cmp.Lexicographic.{pointwise};
 ghost use Rattle.std.specs.HashSet.{contains};
-ghost use Rattle.std.specs.List.{AllByRecursion, list_all};
+ghost use Rattle.std.specs.List.{AllByRecursion};
 ghost use Rattle.ds2_code.specs.declared.parts.ReadPart.{ReadPart as ReadPartModel};
 ghost use Rattle.ds2_code_answer.specs.CodeTables.{hash_references, program_references, reading_references, with_loaded_table};
 ghost use Rattle.ds2_answer.specs.HeldTables.{table_held};
-ghost use Rattle.ds2_answer.specs.ObjectPlans.{first_referred, is_built_code, is_built_code_reading, references_of};
+ghost use Rattle.ds2_answer.specs.ObjectPlans.{first_referred, references_of};
+ghost use Rattle.ds2_table.specs.Table.{IsTable};
 ghost use Rattle.ds2_value.specs.Types.{same_ty};
 ghost use Rattle.ds2_answer.specs.TablePlans.{are_columns_named, are_columns_of, none_made, same_columns};
 ghost use Rattle.ds2_exec.specs.CodeReferences.{IsKeptName, known_behind_references};
@@ -18,7 +19,6 @@ use ds2_base::{List, Name, OutOfMemory};
 use ds2_code::{
     HashPart, HashTable, ProgramParts, ReadPart, ReadingPart, StagedParts, TableReference,
 };
-use ds2_object::ObjectCode;
 use ds2_reading::Tables;
 use ds2_scope::{NameSet, add_name};
 use ds2_table::Table;
@@ -27,41 +27,6 @@ use ds2_value::{Column, Ty, copy_columns};
 use std::alloc::Global;
 use std::collections::HashSet;
 use std::sync::Arc;
-
-// ---- what is built
-
-fn is_built_reading(reading: &ReadingPart) -> bool
-    ensures { result ≡ is_built_code_reading reading.now }
-{
-    match reading {
-        ReadingPart::Set { .. } => true,
-        ReadingPart::Merge { .. } => true,
-        ReadingPart::Stage { .. } => false,
-        ReadingPart::Once => true,
-        ReadingPart::Nothing => true,
-    }
-}
-
-// Whether a program reads from no thread program.
-fn is_built_code(code: &ProgramCode) -> bool
-    ensures { result ≡ is_built_code code.now }
-{
-    let parts = code.parts();
-    parts.stages.is_empty() && is_built_reading(&parts.program.reading)
-}
-
-/// Whether an object is of a form that is built so far: no program reads from a thread program.
-pub fn is_built_object(object: &ObjectCode) -> bool
-    ensures { result ≡ list_all is_built_code object.now }
-{
-    let codes = object.programs().as_slice();
-    'codes: for code in codes {
-        if !is_built_code(code) {
-            return false;
-        }
-    }
-    true
-}
 
 // ---- the references of code
 
@@ -354,12 +319,15 @@ pub(crate) fn tables_referred(
     stored: &[KeptTable],
     made: &[List<KeptTable>],
 ) -> Result<Tables, OutOfMemory>
-    ensures { IfOk result (λ tables. tables ≡ map (table_held (record { stored = stored.now; made = made.now })) references.now) }
+    ensures held { IfOk result (λ tables. tables ≡ map (table_held (record { stored = stored.now; made = made.now })) references.now) }
+    ensures whole { IfOk result (λ tables. AllByRecursion IsTable tables) }
 {
     let mut tables = Tables::new(alloc);
     let mut left = references;
     'references: while let [reference, after @ ..] = left {
-        tables.push(table_referred(alloc, stored, made, reference)?)?;
+        let table = table_referred(alloc, stored, made, reference)?;
+        table.is_table();
+        tables.push(table)?;
         left = after;
     }
     Ok(tables)

@@ -6,7 +6,7 @@ ghost use Rattle.ds2_source.specs.BuiltSources.{is_built_global, is_built_part, 
 
 use ds2_tree::{Declaration, GlobalItem, Source, SourcePart};
 
-// Whether a part of a unit is built.
+// Whether a part of a thread program is built.
 fn is_built_global(global: &GlobalItem) -> bool
     ensures { result ≡ is_built_global (global_tree global.now) }
 {
@@ -23,7 +23,7 @@ fn is_built_global(global: &GlobalItem) -> bool
     }
 }
 
-// Whether the parts of a unit are built.
+// Whether the parts of a thread program are built.
 fn are_built_globals(globals: &[GlobalItem]) -> bool
     ensures { result ≡ list_all is_built_global (map global_tree globals.now) }
 {
@@ -40,12 +40,12 @@ fn is_built_part(part: &SourcePart) -> bool
     ensures { result ≡ is_built_part (part_tree part.now) }
 {
     match part {
+        SourcePart::Thread(unit) => are_built_globals(unit.globals.as_slice()),
+        SourcePart::Package(_) => true,
+        SourcePart::Data(_) => true,
         SourcePart::Proc { .. } => true,
         SourcePart::Run { .. } => true,
         SourcePart::Quit { .. } => true,
-        SourcePart::Package(unit) => are_built_globals(unit.globals.as_slice()),
-        SourcePart::Thread(_) => false,
-        SourcePart::Data(unit) => are_built_globals(unit.globals.as_slice()),
     }
 }
 
@@ -61,8 +61,8 @@ fn are_built_parts(parts: &[SourcePart]) -> bool
     true
 }
 
-/// Whether a source is of a form that is built so far. It is not exactly where it has a thread program or a declaration of one (`dcl
-/// thread`).
+/// Whether a source is of a form that is built so far. It is not exactly where a thread program declares an instance of a thread program
+/// (`dcl thread`), without which it can't read from one: chains of thread programs are not built yet.
 pub fn is_built_source(source: &Source) -> bool
     ensures built { result ≡ is_built_source (source_tree source.now) }
 {

@@ -1,5 +1,6 @@
 -- From a source that was loaded to what its command leaves.
-use Rattle.std.proofs.Common.{◌≡◌, ◌⊎◌, ◌∙◌, IsErrAnd, IsTrue, inl, inr, ℕ, List, [], ◌∷◌, ◌++◌, flat_map, map, Option, Some, None, IfSome, Result, Ok, Err, refl, sym, ap, subst}
+use Rattle.std.proofs.Common.{◌≡◌, ◌⊎◌, ◌∙◌, IsErrAnd, IsTrue, inl, inr, ℕ, List, [], ◌∷◌, ◌++◌, flat_map, map, Option, Some, None, IfSome, Result, Ok, Err, refl, sym, ap, subst, append_assoc}
+use Rattle.std.proofs.lemmas.List.{append-nil}
 use Rattle.ds2_outside.specs.Files.{Files}
 use Rattle.ds2_object.specs.declared.refusal.ObjectRefusal.TheVariants.{BadMagic}
 use Rattle.ds2_compile.specs.AnswersOfTexts.{SourcesRead}
@@ -11,25 +12,26 @@ use Rattle.ds2_answer.specs.declared.status.Status.{Status}
 use Rattle.ds2_answer.specs.declared.status.Status.TheVariants as ended
 use Rattle.ds2_answer.specs.CommandPlans.{plan_of_command}
 use Rattle.ds2_answer.specs.HeldTables.{NamedTable, held_from_store}
-use Rattle.ds2_answer.specs.Lines.{object_line, usage_line}
-use Rattle.ds2_answer.specs.ObjectPlans.{ObjectReading, outputs_of_code, run_of_code}
+use Rattle.ds2_answer.specs.Lines.{checked_thread_line, object_line, usage_line, verdict_text}
+use Rattle.ds2_answer.specs.ObjectPlans.{ObjectReading, outputs_of_code}
 use Rattle.ds2_answer.specs.Plan.{Plan, Stops, Logs, ReadsFile, AsksFor, WritesFile, each_in_turn}
-use Rattle.ds2_answer.specs.ProgramPlans.{programs_plan}
-use Rattle.ds2_answer.specs.SourcePlans.{SourceCommand, compile_programs_of, object_bytes, object_file, outputs_of_program, run_programs_of, runs_of_programs, source_plan, store_object}
+use Rattle.ds2_answer.specs.SourcePlans.{SourceCommand, check_threads, compile_programs_of, object_bytes, object_file, outputs_of_program, run_programs_of, runs_of_programs, source_plan, store_object}
+use Rattle.ds2_verdicts.specs.ThreadVerdicts.{verdict_named}
+use Rattle.ds2_verdicts.specs.declared.verdicts.ThreadVerdict.{ThreadVerdict}
 use Rattle.ds2_answer.specs.StoredCodes.{CodesDoAsPrograms, HaveCodes}
 use Rattle.ds2_answer.specs.TablePlans.{OutputNamed, Presence, none_made, outputs_then, present_in}
 use Rattle.ds2_exec.specs.FileReads.{OverSomeFiles}
 use Rattle.ds2_exec.specs.Halts.{Follows, FollowsAll, HaltsPlan, LeadsOn, StopsAs}
-use Rattle.ds2_exec.specs.OutputAsks.{AsksOutputs, OverAnswers}
+use Rattle.ds2_exec.specs.OutputAsks.{OverAnswers}
 use Rattle.ds2_exec.specs.PlanOutcomes.{CameOfPlan, CutShort}
 use Rattle.ds2_exec.specs.declared.halt.Halt.{Halt}
 use Rattle.ds2_exec.specs.declared.halt.Halt.TheVariants.{Ended, OutOfMemory}
 use Rattle.ds2_exec.proofs.FileSteps.{line_ends, over_all}
 use Rattle.ds2_exec.proofs.Leading.{at_once, does_on, halts_with, leads_none, leads_say, no_memory}
 use Rattle.ds2_exec.proofs.OutputSteps.{answers_all}
-use Rattle.ds2_top.specs.CommandOutcomes.{DecodesUnlessHalted, DoesCommand, DoesSource, HaltsUnstored, StoresUnlessHalted, StoringCommand, checks, compiles, runs_with}
+use Rattle.ds2_top.specs.CommandOutcomes.{DecodesUnlessHalted, DoesCommand, DoesSource, HaltsUnstored, StoresUnlessHalted, StoringCommand, checks, compiles, runs_with, verdicts_said}
 use Rattle.ds2_top.specs.ObjectRuns.{RunsFile}
-use Rattle.ds2_top.specs.SourceLoads.{LoadsSource, RunsLoaded, WasLoaded}
+use Rattle.ds2_top.specs.SourceLoads.{LoadsSource, RunsLoaded, StoresNew, WasLoaded, loaded_plan}
 use Rattle.ds2_top.specs.SourceObjects.{BecomesPrograms, IsBeforeStoring, IsObjectOf}
 use Rattle.ds2_top.specs.declared.loaded.Loaded.{Loaded}
 use Rattle.ds2_top.proofs.FileReads.{leads_reads}
@@ -67,54 +69,57 @@ halts_unstored plan said told OutOfMemory log now stops halts = short_before pla
 
 -- ---- storing and running
 
--- the object was written, and the programs were run
-pub stored_then : (whole rest : Plan) (said text log : List ℕ) (told between now : Option Files) (result : Result (Unit {0}) Halt) → LeadsOn whole rest said told text between → FollowsAll rest text between result log now
-    → FollowsAll whole said told result log now
-stored_then whole rest said text log told between now result leads runs = does_on whole rest (λ (_ : Unit {0}). Stops ended.Done) said text told between result log now leads runs
-
-module _ (law : CodesDoAsPrograms) (source : List ℕ) (budget : ℕ) (object : List StagedParts) (stored : List NamedTable) where
+module _ (law : CodesDoAsPrograms) (source : List ℕ) (budget : ℕ) (loaded : Loaded) where
   abbrev codes_plan : Presence → Plan
   codes_plan there =
-      outputs_then none_made there (flat_map outputs_of_code object) (store_object source object (programs_plan (map (run_of_code budget) object) (held_from_store stored)))
+      outputs_then none_made there (flat_map outputs_of_code loaded.object) (store_object source loaded.object (loaded_plan budget loaded))
 
   -- what codes do is what the programs do whose codes they are
-  plan_is_codes : (there : Presence) (programs : List ProgramTree) → HaveCodes programs object → run_programs_of source budget object there (held_from_store stored) programs ≡ codes_plan there
+  plan_is_codes : (there : Presence) (programs : List ProgramTree) → HaveCodes programs loaded.object → run_programs_of source budget loaded.object there (held_from_store loaded.stored) loaded.verdicts programs ≡ codes_plan there
   plan_is_codes there programs codes =
-      (λ i. outputs_then none_made there (law.outputs programs object codes i) (store_object source object (law.plan programs object budget (held_from_store stored) codes i)))
+      (λ i. outputs_then none_made there (law.outputs programs loaded.object codes i) (store_object source loaded.object (law.plan (verdict_named loaded.verdicts) programs loaded.object budget (held_from_store loaded.stored) codes i)))
 
   of_codes : (said log : List ℕ) (told now : Option Files) (result : Result (Unit {0}) Halt) → OverAnswers told (λ there. FollowsAll (codes_plan there) said told result log now)
-      → RunsLoaded source budget object stored said told result log now
+      → RunsLoaded source budget loaded said told result log now
   of_codes said log told now result o = record {
     there = o.there;
     told_is = o.told_is;
     holds = λ programs codes. subst (λ (p : Plan). FollowsAll p said told result log now) (sym (plan_is_codes o.there programs codes)) o.holds;
   }
 
-  -- an output is there, or the question for one has failed
-  pub run_asked : (said log : List ℕ) (told now : Option Files) (halt : Halt) (result : Result (Unit {0}) Halt) → IsErrAnd result (λ e. e ≡ halt)
-      → AsksOutputs none_made (flat_map outputs_of_code object) said told (Err halt) log now → RunsLoaded source budget object stored said told result log now
-  run_asked said log told now halt (Ok value) is (same, asks) = absurd is
-  run_asked said log told now halt (Err e) is (same, asks) =
+  -- the object was not stored
+  pub run_unstored : (said log : List ℕ) (told now : Option Files) (halt : Halt) (result : Result (Unit {0}) Halt) → IsErrAnd result (λ e. e ≡ halt)
+      → StoresNew source loaded.object said told (Err halt) log now → RunsLoaded source budget loaded said told result log now
+  run_unstored said log told now halt (Ok value) is stores = absurd is
+  run_unstored said log told now halt (Err e) is stores =
       of_codes said log told now (Err e)
       (record {
-        there = asks.there;
-        told_is = asks.told_is;
-        holds = subst (λ (h : Halt). HaltsPlan (codes_plan asks.there) said told h log now) (sym is)
-            (asks.holds (store_object source object (programs_plan (map (run_of_code budget) object) (held_from_store stored))));
+        there = stores.there;
+        told_is = stores.told_is;
+        holds = subst (λ (h : Halt). HaltsPlan (codes_plan stores.there) said told h log now) (sym is) (stores.holds (loaded_plan budget loaded));
       })
 
-  -- no output is there, and the object was stored and its programs run
-  pub run_then : (said text log : List ℕ) (told between now : Option Files) (result : Result (Unit {0}) Halt) → AsksOutputs none_made (flat_map outputs_of_code object) said told (Ok tt) text between
-      → FollowsAll (store_object source object (programs_plan (map (run_of_code budget) object) (held_from_store stored))) text between result log now
-      → RunsLoaded source budget object stored said told result log now
-  run_then said text log told between now result (same, asks) runs =
-      let rest = store_object source object (programs_plan (map (run_of_code budget) object) (held_from_store stored)) in
+  -- the object was stored and its programs run
+  pub run_then : (said text log : List ℕ) (told between now : Option Files) (result : Result (Unit {0}) Halt) → StoresNew source loaded.object said told (Ok tt) text between
+      → FollowsAll (loaded_plan budget loaded) text between result log now → RunsLoaded source budget loaded said told result log now
+  run_then said text log told between now result stores runs =
       of_codes said log told now result
       (record {
-        there = asks.there;
-        told_is = asks.told_is;
-        holds = does_on (codes_plan asks.there) rest (λ (_ : Unit {0}). Stops ended.Done) said text told between result log now (asks.holds rest) runs;
+        there = stores.there;
+        told_is = stores.told_is;
+        holds = does_on (codes_plan stores.there) (loaded_plan budget loaded) (λ (_ : Unit {0}). Stops ended.Done) said text told between result log now (stores.holds (loaded_plan budget loaded)) runs;
       })
+
+-- ---- verdicts that are told
+
+-- verdicts, told one behind the other
+pub verdicts_told : (verdicts : List ThreadVerdict) (said log : List ℕ) (told : Option Files) → log ≡ said ++ verdicts_said verdicts → LeadsOn (check_threads verdicts) (Stops ended.Done) said told log told
+verdicts_told [] said log told is = subst (λ (l : List ℕ). LeadsOn (Stops ended.Done) (Stops ended.Done) said told l told) (sym (is ∙ append-nil said)) (leads_none (Stops ended.Done) said told)
+verdicts_told (v ∷ verdicts) said log told is =
+    let line : List ℕ = checked_thread_line v.name (verdict_text v.verdict) in
+    does_on (check_threads (v ∷ verdicts)) (check_threads verdicts) (λ (_ : Unit {0}). Stops ended.Done) said (said ++ line) told told (Ok tt) log told
+    (leads_say line (check_threads verdicts) said told)
+    (verdicts_told verdicts (said ++ line) log told (is ∙ sym (append_assoc said line (verdicts_said verdicts))))
 
 -- ---- commands on sources
 
@@ -125,7 +130,7 @@ module _ (sources : SourcesRead) (source : List ℕ) (does : StoringCommand) whe
   source_ends said log told now halt (Ok value) is halts = absurd is
   source_ends said log told now halt (Err e) is halts =
       let answers = answers_all told (λ (there : Presence). Unit {0}) (λ there. tt) in
-      let go : SourceCommand = λ held programs. Stops ended.File in
+      let go : SourceCommand = λ held verdicts programs. Stops ended.File in
       record {
         files = halts.files;
         there = answers.there;
@@ -133,13 +138,13 @@ module _ (sources : SourcesRead) (source : List ℕ) (does : StoringCommand) whe
         files_told = halts.told_is;
         there_told = answers.told_is;
         stores = inr (subst (λ (h : Halt). HaltsUnstored (Err h) told now) (sym is)
-            (halts_unstored (source_plan sources source halts.files go) said told halt log now (source_stop IsBeforeStoring Never tt tt sources source halts.files go (λ held programs. tt)) (halts.holds go)));
+            (halts_unstored (source_plan sources source halts.files go) said told halt log now (source_stop IsBeforeStoring Never tt tt sources source halts.files go (λ held verdicts programs. tt)) (halts.holds go)));
         follows = subst (λ (h : Halt). HaltsPlan (source_plan sources source halts.files (does [] answers.there)) said told h log now) (sym is) (halts.holds (does [] answers.there));
       }
 
   -- the source was loaded, and the rest was done
   pub source_does : (loaded : Loaded) (said text log : List ℕ) (told between now : Option Files) (result : Result (Unit {0}) Halt) → LoadsSource (source_plan sources source) said told (Ok loaded) text between
-      → OverAnswers between (λ there. (programs : List ProgramTree) → HaveCodes programs loaded.object → FollowsAll (does loaded.object there (held_from_store loaded.stored) programs) text between result log now)
+      → OverAnswers between (λ there. (programs : List ProgramTree) → HaveCodes programs loaded.object → FollowsAll (does loaded.object there (held_from_store loaded.stored) loaded.verdicts programs) text between result log now)
       → DoesSource sources source does said told result log now
   source_does loaded said text log told between now result (was, text_is, between_is) rest = record {
     files = was.files;
@@ -147,10 +152,10 @@ module _ (sources : SourcesRead) (source : List ℕ) (does : StoringCommand) whe
     object = loaded.object;
     files_told = was.told_is;
     there_told = subst (λ (t : Option Files). IfSome t (λ held. (name : List ℕ) → rest.there name ≡ present_in held name)) between_is rest.told_is;
-    stores = inl (record { stored = loaded.stored; programs = was.programs; becomes = was.becomes; codes = was.object.codes; valid = was.object.valid });
+    stores = inl (record { stored = loaded.stored; verdicts = loaded.verdicts; programs = was.programs; becomes = was.becomes; codes = was.object.codes; valid = was.object.valid });
     follows =
         let go = does loaded.object rest.there in
-        let then' = go (held_from_store loaded.stored) was.programs in
+        let then' = go (held_from_store loaded.stored) loaded.verdicts was.programs in
         subst (λ (p : Plan). FollowsAll p said told result log now) (sym (was.becomes.plan_is go))
         (does_on (each_in_turn ReadsFile was.becomes.names then') then' (λ (_ : Unit {0}). Stops ended.Done) said said told told result log now (leads_reads was.becomes.names then' said told)
         (subst (λ (t : List ℕ). FollowsAll then' t told result log now) text_is
@@ -158,7 +163,7 @@ module _ (sources : SourcesRead) (source : List ℕ) (does : StoringCommand) whe
   }
 
   -- the same where the rest is one plan, whatever is there
-  pub source_does_one : (loaded : Loaded) (rest : Plan) → ((there : Presence) (programs : List ProgramTree) → does loaded.object there (held_from_store loaded.stored) programs ≡ rest)
+  pub source_does_one : (loaded : Loaded) (rest : Plan) → ((there : Presence) (programs : List ProgramTree) → does loaded.object there (held_from_store loaded.stored) loaded.verdicts programs ≡ rest)
       → (said text log : List ℕ) (told between now : Option Files) (result : Result (Unit {0}) Halt) → LoadsSource (source_plan sources source) said told (Ok loaded) text between
       → FollowsAll rest text between result log now → DoesSource sources source does said told result log now
   source_does_one loaded rest same said text log told between now result loads runs =

@@ -13,11 +13,13 @@ use Rattle.ds2_answer.specs.HeldTables.{HeldTables}
 use Rattle.ds2_answer.specs.ObjectPlans.{ObjectReading}
 use Rattle.ds2_answer.specs.Plan.{Stops}
 use Rattle.ds2_answer.specs.PlanSteps.{files_behind_all, status_at_end, steps_of}
-use Rattle.ds2_answer.specs.SourcePlans.{compile_programs_of, outputs_of_program, runs_of_programs, run_programs_of, store_object}
+use Rattle.ds2_answer.specs.SourcePlans.{check_threads, compile_programs_of, outputs_of_program, runs_of_programs, run_programs_of, store_object}
 use Rattle.ds2_answer.specs.ProgramPlans.{programs_plan}
 use Rattle.ds2_answer.specs.Status.{IsRefusal}
+use Rattle.ds2_verdicts.specs.ThreadVerdicts.{verdict_named}
+use Rattle.ds2_verdicts.specs.declared.verdicts.ThreadVerdict.{ThreadVerdict}
 use Rattle.ds2_answer.specs.TablePlans.{Presence, none_made}
-use Rattle.ds2_top.proofs.PlanStops.{StopsAmong, either_way, exec_stop, nothing_written, outputs_stop, programs_stop, source_stop}
+use Rattle.ds2_top.proofs.PlanStops.{StopsAmong, either_way, exec_stop, nothing_written, outputs_stop, programs_stop, source_stop, verdicts_stop}
 
 -- ---- any command
 
@@ -58,19 +60,19 @@ end_is_no_refusal ended.Log r e = e
 end_is_no_refusal ended.Object r e = e
 end_is_no_refusal ended.Memory r e = e
 
-run_stop : (P : Status → Type 0) → P ended.Exists → (source : List ℕ) (budget : ℕ) (object : List StagedParts) (there : Presence) (held : HeldTables) (programs : List ProgramTree)
-    → StopsAmong P IsEnd (run_programs_of source budget object there held programs)
-run_stop P exists source budget object there held programs =
-    outputs_stop P IsEnd exists none_made there (flat_map outputs_of_program programs) (store_object source object (programs_plan (runs_of_programs budget programs object) held))
-    (programs_stop IsEnd tt tt (runs_of_programs budget programs object) held)
+run_stop : (P : Status → Type 0) → P ended.Exists → (source : List ℕ) (budget : ℕ) (object : List StagedParts) (there : Presence) (held : HeldTables) (verdicts : List ThreadVerdict) (programs : List ProgramTree)
+    → StopsAmong P IsEnd (run_programs_of source budget object there held verdicts programs)
+run_stop P exists source budget object there held verdicts programs =
+    outputs_stop P IsEnd exists none_made there (flat_map outputs_of_program programs) (store_object source object (programs_plan (runs_of_programs (verdict_named verdicts) budget programs object) held))
+    (programs_stop IsEnd tt tt (runs_of_programs (verdict_named verdicts) budget programs object) held)
 
 module _ (sources : SourcesRead) (object_for : ObjectReading) (object : List StagedParts) (files : Files) (there : Presence) where
   line_stops : (line : CommandLine) → StopsAmong IsNoUsage IsEnd (plan_of_command sources object_for object (Some line) files there)
   line_stops (Run source threads budget) =
-      source_stop IsNoUsage IsEnd tt tt sources source files (run_programs_of source budget object there) (λ held programs. run_stop IsNoUsage tt source budget object there held programs)
-  line_stops (Compile source) = source_stop IsNoUsage IsEnd tt tt sources source files (λ held programs. compile_programs_of source object) (λ held programs. tt)
+      source_stop IsNoUsage IsEnd tt tt sources source files (run_programs_of source budget object there) (λ held verdicts programs. run_stop IsNoUsage tt source budget object there held verdicts programs)
+  line_stops (Compile source) = source_stop IsNoUsage IsEnd tt tt sources source files (λ held verdicts programs. compile_programs_of source object) (λ held verdicts programs. tt)
   line_stops (Exec name budget) = exec_stop IsNoUsage IsEnd tt tt tt tt tt end_is_no_usage object_for name budget files there
-  line_stops (Check source) = source_stop IsNoUsage IsEnd tt tt sources source files (λ held programs. Stops ended.Done) (λ held programs. tt)
+  line_stops (Check source) = source_stop IsNoUsage IsEnd tt tt sources source files (λ held verdicts programs. check_threads verdicts) (λ held verdicts programs. verdicts_stop IsNoUsage IsEnd tt verdicts)
 
   -- words that are no command are told so, and no others
   pub usage_only : (line : Option CommandLine) → status_at_end (plan_of_command sources object_for object line files there) ≡ ended.Usage → line ≡ None
@@ -98,11 +100,11 @@ pub compile_faults_never : (sources : SourcesRead) (object_for : ObjectReading) 
 compile_faults_never sources object_for object files there source is =
     subst IsNoFault is
     (either_way IsNoFault IsNoFault IsNoFault (plan_of_command sources object_for object (Some (Compile source)) files there) (λ s p. p) (λ s p. p)
-    (source_stop IsNoFault IsNoFault tt tt sources source files (λ held programs. compile_programs_of source object) (λ held programs. tt)))
+    (source_stop IsNoFault IsNoFault tt tt sources source files (λ held verdicts programs. compile_programs_of source object) (λ held verdicts programs. tt)))
 
 pub check_faults_never : (sources : SourcesRead) (object_for : ObjectReading) (object : List StagedParts) (files : Files) (there : Presence) (source : List ℕ)
     → status_at_end (plan_of_command sources object_for object (Some (Check source)) files there) ≡ ended.Fault → ⊥
 check_faults_never sources object_for object files there source is =
     subst IsNoFault is
     (either_way IsNoFault IsNoFault IsNoFault (plan_of_command sources object_for object (Some (Check source)) files there) (λ s p. p) (λ s p. p)
-    (source_stop IsNoFault IsNoFault tt tt sources source files (λ held programs. Stops ended.Done) (λ held programs. tt)))
+    (source_stop IsNoFault IsNoFault tt tt sources source files (λ held verdicts programs. check_threads verdicts) (λ held verdicts programs. verdicts_stop IsNoFault IsNoFault tt verdicts)))

@@ -13,10 +13,12 @@ use Rattle.ds2_answer.specs.declared.status.Status.{Status}
 use Rattle.ds2_answer.specs.declared.status.Status.TheVariants as ended
 use Rattle.ds2_answer.specs.Answer.{table_file}
 use Rattle.ds2_answer.specs.HeldTables.{HeldTables, NamedTable, held_behind, held_from_store}
-use Rattle.ds2_answer.specs.Lines.{count_line, error_line, fault_text, line_put, table_line}
+use Rattle.ds2_answer.specs.Lines.{count_line, error_line, fault_text, line_put, table_line, thread_line}
 use Rattle.ds2_answer.specs.Plan.{Plan, Stops, Logs, ReadsFile, AsksFor, WritesFile, each_in_turn}
 use Rattle.ds2_answer.specs.PlanSteps.{PlanStep, LogLine, ReadFile, AskFor, WriteFile, files_behind, files_behind_all, status_at_end, steps_of}
-use Rattle.ds2_answer.specs.ProgramPlans.{ProgramLeft, ProgramRun, count_rows_then, end_then, program_then, programs_plan, put_then, write_then}
+use Rattle.ds2_answer.specs.ProgramPlans.{ProgramLeft, ProgramRun, count_rows_then, count_stage_then, end_then, program_then, programs_plan, put_then, write_then}
+use Rattle.ds2_answer.specs.StagesLeft.{StageLeft}
+use Rattle.ds2_verdicts.specs.ThreadVerdicts.{verdict_named}
 use Rattle.ds2_answer.specs.SourcePlans.{object_bytes, object_file, outputs_of_program, run_programs_of, runs_of_programs, source_plan, store_object}
 use Rattle.ds2_answer.specs.TablePlans.{OutputNamed, Presence, ask_unless_made, made_too, none_made, outputs_then, unless_there}
 use Rattle.ds2_top.specs.Leaves.{Did}
@@ -62,46 +64,69 @@ count_steps tables rest = turn_steps count_rows_then step_of_count (λ x r. refl
 count_status : (tables : List NamedTable) (rest : Plan) → status_at_end (each_in_turn count_rows_then tables rest) ≡ status_at_end rest
 count_status tables rest = turn_status count_rows_then step_of_count (λ x r. refl) tables rest
 
+abbrev steps_of_stage : StageLeft → List PlanStep
+steps_of_stage stage = LogLine (thread_line stage.name stage.verdict stage.groups) ∷ (LogLine (count_line stage.instructions) ∷ [])
+
+stage_steps : (stages : List StageLeft) (rest : Plan) → steps_of (each_in_turn count_stage_then stages rest) ≡ flat_map steps_of_stage stages ++ steps_of rest
+stage_steps [] rest = refl
+stage_steps (stage ∷ stages) rest =
+    ap (λ (l : List PlanStep). LogLine (thread_line stage.name stage.verdict stage.groups) ∷ (LogLine (count_line stage.instructions) ∷ l)) (stage_steps stages rest)
+
+stage_status : (stages : List StageLeft) (rest : Plan) → status_at_end (each_in_turn count_stage_then stages rest) ≡ status_at_end rest
+stage_status [] rest = refl
+stage_status (stage ∷ stages) rest = stage_status stages rest
+
 -- ---- a program that ends without fault
 
--- the steps behind a normal end
-abbrev steps_of_end : ℕ → List NamedTable → List PlanStep
-steps_of_end instructions tables = map step_of_write tables ++ (LogLine (count_line instructions) ∷ map step_of_count tables)
+-- the steps behind the writes of a normal end
+abbrev steps_of_numbers : ℕ → List NamedTable → List PlanStep
+steps_of_numbers instructions tables = LogLine (count_line instructions) ∷ map step_of_count tables
 
-normal_steps : (instructions : ℕ) (tables : List NamedTable) (rest : Plan) → steps_of (end_then (Some Normal) instructions tables rest) ≡ steps_of_end instructions tables ++ steps_of rest
-normal_steps instructions tables rest =
-    write_steps tables (Logs (count_line instructions) (each_in_turn count_rows_then tables rest))
-    ∙ ap (λ (l : List PlanStep). map step_of_write tables ++ (LogLine (count_line instructions) ∷ l)) (count_steps tables rest)
-    ∙ sym (append_assoc (map step_of_write tables) (LogLine (count_line instructions) ∷ map step_of_count tables) (steps_of rest))
+-- the steps of a normal end
+abbrev steps_of_end : List StageLeft → ℕ → List NamedTable → List PlanStep
+steps_of_end stages instructions tables = map step_of_write tables ++ (flat_map steps_of_stage stages ++ steps_of_numbers instructions tables)
+
+normal_steps : (stages : List StageLeft) (instructions : ℕ) (tables : List NamedTable) (rest : Plan) → steps_of (end_then (Some Normal) stages instructions tables rest) ≡ steps_of_end stages instructions tables ++ steps_of rest
+normal_steps stages instructions tables rest =
+    let noted : List PlanStep = flat_map steps_of_stage stages in
+    let numbers : List PlanStep = steps_of_numbers instructions tables in
+    write_steps tables (each_in_turn count_stage_then stages (Logs (count_line instructions) (each_in_turn count_rows_then tables rest)))
+    ∙ ap (λ (l : List PlanStep). map step_of_write tables ++ l)
+    (stage_steps stages (Logs (count_line instructions) (each_in_turn count_rows_then tables rest))
+    ∙ ap (λ (l : List PlanStep). noted ++ (LogLine (count_line instructions) ∷ l)) (count_steps tables rest)
+    ∙ sym (append_assoc noted numbers (steps_of rest)))
+    ∙ sym (append_assoc (map step_of_write tables) (noted ++ numbers) (steps_of rest))
 
 nothing_behind : (xs : List PlanStep) → xs ++ [] ≡ xs
 nothing_behind [] = refl
 nothing_behind (x ∷ xs) = ap (λ (l : List PlanStep). x ∷ l) (nothing_behind xs)
 
-end_steps : (ending : Option Ending) (instructions : ℕ) (tables : List NamedTable) (rest : Plan) → EndsWithoutFault ending
-    → steps_of (end_then ending instructions tables rest) ≡ steps_of (end_then ending instructions tables (Stops ended.Done)) ++ steps_of rest
-end_steps None instructions tables rest e = refl
-end_steps (Some Normal) instructions tables rest e =
-    normal_steps instructions tables rest
-    ∙ ap (λ (l : List PlanStep). l ++ steps_of rest) (sym (normal_steps instructions tables (Stops ended.Done) ∙ nothing_behind (steps_of_end instructions tables)))
-end_steps (Some (Faulted fault place)) instructions tables rest e = absurd e
+end_steps : (ending : Option Ending) (stages : List StageLeft) (instructions : ℕ) (tables : List NamedTable) (rest : Plan) → EndsWithoutFault ending
+    → steps_of (end_then ending stages instructions tables rest) ≡ steps_of (end_then ending stages instructions tables (Stops ended.Done)) ++ steps_of rest
+end_steps None stages instructions tables rest e = refl
+end_steps (Some Normal) stages instructions tables rest e =
+    normal_steps stages instructions tables rest
+    ∙ ap (λ (l : List PlanStep). l ++ steps_of rest) (sym (normal_steps stages instructions tables (Stops ended.Done) ∙ nothing_behind (steps_of_end stages instructions tables)))
+end_steps (Some (Faulted fault place)) stages instructions tables rest e = absurd e
 
 passing_steps : (left : ProgramLeft) (rest : Plan) → EndsWithoutFault left.ending → steps_of (program_then left rest) ≡ steps_of (program_then left (Stops ended.Done)) ++ steps_of rest
 passing_steps left rest e =
-    put_steps left.lines (end_then left.ending left.instructions left.tables rest)
-    ∙ ap (λ (l : List PlanStep). map step_of_line left.lines ++ l) (end_steps left.ending left.instructions left.tables rest e)
-    ∙ sym (append_assoc (map step_of_line left.lines) (steps_of (end_then left.ending left.instructions left.tables (Stops ended.Done))) (steps_of rest))
-    ∙ ap (λ (l : List PlanStep). l ++ steps_of rest) (sym (put_steps left.lines (end_then left.ending left.instructions left.tables (Stops ended.Done))))
+    put_steps left.lines (end_then left.ending left.stages left.instructions left.tables rest)
+    ∙ ap (λ (l : List PlanStep). map step_of_line left.lines ++ l) (end_steps left.ending left.stages left.instructions left.tables rest e)
+    ∙ sym (append_assoc (map step_of_line left.lines) (steps_of (end_then left.ending left.stages left.instructions left.tables (Stops ended.Done))) (steps_of rest))
+    ∙ ap (λ (l : List PlanStep). l ++ steps_of rest) (sym (put_steps left.lines (end_then left.ending left.stages left.instructions left.tables (Stops ended.Done))))
 
-end_status : (ending : Option Ending) (instructions : ℕ) (tables : List NamedTable) (rest : Plan) → EndsWithoutFault ending → status_at_end (end_then ending instructions tables rest) ≡ status_at_end rest
-end_status None instructions tables rest e = refl
-end_status (Some Normal) instructions tables rest e =
-    write_status tables (Logs (count_line instructions) (each_in_turn count_rows_then tables rest)) ∙ count_status tables rest
-end_status (Some (Faulted fault place)) instructions tables rest e = absurd e
+end_status : (ending : Option Ending) (stages : List StageLeft) (instructions : ℕ) (tables : List NamedTable) (rest : Plan) → EndsWithoutFault ending
+    → status_at_end (end_then ending stages instructions tables rest) ≡ status_at_end rest
+end_status None stages instructions tables rest e = refl
+end_status (Some Normal) stages instructions tables rest e =
+    write_status tables (each_in_turn count_stage_then stages (Logs (count_line instructions) (each_in_turn count_rows_then tables rest)))
+    ∙ stage_status stages (Logs (count_line instructions) (each_in_turn count_rows_then tables rest)) ∙ count_status tables rest
+end_status (Some (Faulted fault place)) stages instructions tables rest e = absurd e
 
 passing_status : (left : ProgramLeft) (rest : Plan) → EndsWithoutFault left.ending → status_at_end (program_then left rest) ≡ status_at_end rest
 passing_status left rest e =
-    put_status left.lines (end_then left.ending left.instructions left.tables rest) ∙ end_status left.ending left.instructions left.tables rest e
+    put_status left.lines (end_then left.ending left.stages left.instructions left.tables rest) ∙ end_status left.ending left.stages left.instructions left.tables rest e
 
 -- ---- the first program that ends in a fault
 
@@ -129,8 +154,8 @@ fault_here run runs held fault place e = record {
   first = record { earlier = []; faulting = run; later = runs; runs_are = refl; passed = tt; ends = e };
   steps_are =
       let rest = programs_plan runs (held_behind held (ProgramLeft.tables (run held))) in
-      put_steps (ProgramLeft.lines (run held)) (end_then (ProgramLeft.ending (run held)) (ProgramLeft.instructions (run held)) (ProgramLeft.tables (run held)) rest)
-      ∙ ap (λ (ending : Option Ending). map step_of_line (ProgramLeft.lines (run held)) ++ steps_of (end_then ending (ProgramLeft.instructions (run held)) (ProgramLeft.tables (run held)) rest)) e;
+      put_steps (ProgramLeft.lines (run held)) (end_then (ProgramLeft.ending (run held)) (ProgramLeft.stages (run held)) (ProgramLeft.instructions (run held)) (ProgramLeft.tables (run held)) rest)
+      ∙ ap (λ (ending : Option Ending). map step_of_line (ProgramLeft.lines (run held)) ++ steps_of (end_then ending (ProgramLeft.stages (run held)) (ProgramLeft.instructions (run held)) (ProgramLeft.tables (run held)) rest)) e;
 }
 
 fault_later : (run : ProgramRun) (runs : List ProgramRun) (held : HeldTables) → EndsWithoutFault (ProgramLeft.ending (run held)) → FaultFound runs (held_behind held (ProgramLeft.tables (run held)))
@@ -213,7 +238,7 @@ pub fault_left : (sources : SourcesRead) (object : List StagedParts) (source : L
     → LeavesFault sources object source budget plan files before now
 fault_left sources object source budget files there before now of_source plan plan_is did =
     let held = held_from_store of_source.stored in
-    let runs = runs_of_programs budget of_source.programs object in
+    let runs = runs_of_programs (verdict_named of_source.verdicts) budget of_source.programs object in
     let programs = programs_plan runs held in
     let storing = store_object source object programs in
     let outputs = flat_map outputs_of_program of_source.programs in
@@ -233,6 +258,7 @@ fault_left sources object source budget files there before now of_source plan pl
     ∙ sym (append_assoc reading (asked.front ++ written ∷ []) (earlier ++ last)) in
     record {
       stored = of_source.stored;
+      verdicts = of_source.verdicts;
       programs = of_source.programs;
       becomes = of_source.becomes;
       fault = found.fault;

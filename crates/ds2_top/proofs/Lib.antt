@@ -5,7 +5,7 @@ pub mod FaultSteps
 pub mod Promises
 pub mod FileReads
 pub mod InputNames
-pub mod PlainSources
+pub mod LocalRuns
 pub mod LoadSteps
 pub mod StoreSteps
 pub mod CommandSteps

@@ -45,6 +45,12 @@ use Rattle.ds2_answer.specs.StoredCodes.{HaveCodes}
 use Rattle.ds2_answer.specs.TablePlans.{read_file, read_tables}
 use Rattle.ds2_answer.specs.Words.{is_source}
 use Rattle.ds2_exec.specs.CodeRuns.{AreLinked, HasColumnsStored}
+use Rattle.ds2_exec.specs.VerdictGrains.{VerdictGrainsFit}
+use Rattle.ds2_local_stages.specs.LocalStages.{StagesAreIndependent}
+use Rattle.ds2_local_threads.specs.LocalThreads.{IndependentCodeGivesStages}
+use Rattle.ds2_verdicts.specs.OwnVerdicts.{ProgramsHaveVerdicts, StagesHaveVerdicts}
+use Rattle.ds2_verdicts.specs.SourceVerdicts.{source_verdicts}
+use Rattle.ds2_verdicts.specs.declared.verdicts.ThreadVerdict.{ThreadVerdict}
 use Rattle.ds2_exec.specs.FileReads.{OverSomeFiles, ReadsWholeFile, WasFileRead}
 use Rattle.ds2_exec.specs.Halts.{HaltsAs, HaltsPlan, StopsAs}
 use Rattle.ds2_exec.specs.TableReads.{ReadsTables}
@@ -52,10 +58,10 @@ use Rattle.ds2_exec.specs.declared.halt.Halt.{Halt}
 use Rattle.ds2_exec.specs.declared.halt.Halt.TheVariants.{OutOfMemory, Ended}
 use Rattle.ds2_exec.proofs.FileSteps.{line_ends, load_then, over_all, over_map}
 use Rattle.ds2_exec.proofs.Leading.{at_once, does_on}
-use Rattle.ds2_top.proofs.PlainSources.{StandsOnTables, codes_alone, source_plain}
-use Rattle.ds2_top.specs.SourceLoads.{AreInputsRead, IsObjectOfPrograms, IsRunnableObject, LoadsSource, ReadsInputs, WasLoaded, schema_held}
+use Rattle.ds2_top.specs.SourceLoads.{AreInputsRead, IsObjectOfPrograms, LoadsSource, ReadsInputs, WasLoaded, schema_held}
 use Rattle.ds2_top.specs.SourceObjects.{BecomesPrograms}
 use Rattle.ds2_top.specs.declared.loaded.Loaded.{Loaded}
+use Rattle.ds2_top.proofs.LocalRuns.{independent_codes}
 use Rattle.ds2_top.proofs.FileReads.{HoldsFile, file_found, holds_file, leads_reads, reads_append, same_over, same_tables, table_is_no_source, table_reads}
 
 -- ---- with which status a call has ended
@@ -150,57 +156,65 @@ second_of : (a b : Bool) → IsTrue (a && b) → IsTrue b
 second_of true b h = h
 second_of false b h = absurd (cc)
 
-object_of_programs : (names : List (List ℕ)) (programs : List ProgramTree) (loaded : Loaded) → AllByRecursion StandsOnTables programs
-    → IsCompiledObject names (columns_held (held_from_store loaded.stored)) programs loaded.object → IsObjectOfPrograms programs loaded
-object_of_programs names programs loaded plain is = record {
+object_of_programs : VerdictGrainsFit → IndependentCodeGivesStages → (names : List (List ℕ)) (programs : List ProgramTree) (loaded : Loaded) → AllByRecursion (StagesHaveVerdicts loaded.verdicts) programs
+    → AllByRecursion (StagesAreIndependent loaded.verdicts) programs → IsCompiledObject names (columns_held (held_from_store loaded.stored)) programs loaded.object → IsObjectOfPrograms programs loaded
+object_of_programs fits law names programs loaded own judged is = record {
   codes = have_codes names (columns_held (held_from_store loaded.stored)) programs loaded.object is.codes;
   valid = is.valid;
   runs = record {
-    alone = codes_alone programs loaded.object plain (have_codes names (columns_held (held_from_store loaded.stored)) programs loaded.object is.codes) is.valid.each;
     linked = record {
       links = second_of (is_short loaded.object) (linked_behind [] loaded.object) is.valid.links;
       columns = all_columns names loaded.stored programs loaded.object is.codes;
     };
+    fit = fits loaded.verdicts programs loaded.object own (have_codes names (columns_held (held_from_store loaded.stored)) programs loaded.object is.codes);
+    independent = independent_codes law loaded.verdicts names (columns_held (held_from_store loaded.stored)) programs loaded.object is.codes judged;
   };
 }
 
-module _ (names : List (List ℕ)) (parts : List SourcePart) (stored : List NamedTable) (built : is_built_source parts ≡ true) where
+module _ (names : List (List ℕ)) (parts : List SourcePart) (stored : List NamedTable) where
   abbrev outcome_over : Result (List ProgramTree) ProgramRefusal
   outcome_over = elaborated_source (columns_held (held_from_store stored)) parts
 
-  loaded_by : (outcome : Result (List ProgramTree) ProgramRefusal) → outcome_over ≡ outcome → (loaded : Loaded) → loaded.stored ≡ stored
-      → (compiled : Compiled) → compiled.object ≡ loaded.object → IsOutcomeCompiled names (columns_held (held_from_store stored)) outcome (Ok compiled)
+  abbrev verdicts_over : List ThreadVerdict
+  verdicts_over = source_verdicts (columns_held (held_from_store stored)) parts
+
+  loaded_by : VerdictGrainsFit → IndependentCodeGivesStages → ProgramsHaveVerdicts → (outcome : Result (List ProgramTree) ProgramRefusal) → outcome_over ≡ outcome → (loaded : Loaded) → loaded.stored ≡ stored
+      → (compiled : Compiled) → compiled.object ≡ loaded.object → loaded.verdicts ≡ compiled.verdicts → IsOutcomeCompiled names (columns_held (held_from_store stored)) verdicts_over outcome (Ok compiled)
       → (told : Option Files) → WasLoaded (λ files go. with_tables parts go stored) told loaded
-  loaded_by (Err refusal) e loaded stored_is compiled object_is is told = absurd is
-  loaded_by (Ok programs) e loaded stored_is compiled object_is is told =
+  loaded_by fits law own (Err refusal) e loaded stored_is compiled object_is kept is told = absurd is
+  loaded_by fits law own (Ok programs) e loaded stored_is compiled object_is kept is told =
       let some = over_all told (λ (files : Files). Unit {0}) (λ files. tt) in
+      let verdicts_are : loaded.verdicts ≡ verdicts_over = kept ∙ is.judged in
       record {
         files = some.files;
         told_is = some.told_is;
         programs = programs;
         becomes = record {
           names = [];
-          plan_is = λ go. ap (λ (o : Result (List ProgramTree) ProgramRefusal). with_typed_programs o (go (held_from_store stored))) e ∙ ap (λ (ts : List NamedTable). go (held_from_store ts) programs) (sym stored_is);
+          plan_is = λ go. ap (λ (o : Result (List ProgramTree) ProgramRefusal). with_typed_programs o (go (held_from_store stored) verdicts_over)) e
+              ∙ (λ i. go (held_from_store (sym stored_is i)) (sym verdicts_are i) programs);
         };
-        object = object_of_programs names programs loaded (source_plain (columns_held (held_from_store stored)) parts programs built e)
+        object = object_of_programs fits law names programs loaded
+            (subst (λ (vs : List ThreadVerdict). AllByRecursion (StagesHaveVerdicts vs) programs) (sym verdicts_are) (own (columns_held (held_from_store stored)) parts programs e))
+            (subst (λ (vs : List ThreadVerdict). AllByRecursion (StagesAreIndependent vs) programs) (sym verdicts_are) is.independent)
             (subst (λ (ts : List NamedTable). IsCompiledObject names (columns_held (held_from_store ts)) programs loaded.object) (sym stored_is)
-            (subst (λ (object : List StagedParts). IsCompiledObject names (columns_held (held_from_store stored)) programs object) object_is is));
+            (subst (λ (object : List StagedParts). IsCompiledObject names (columns_held (held_from_store stored)) programs object) object_is is.object));
       }
 
-  refused_by : (outcome : Result (List ProgramTree) ProgramRefusal) → outcome_over ≡ outcome → (given : SourceRefusal) (said log : List ℕ) (halt : Halt) → IsOutcomeCompiled names (columns_held (held_from_store stored)) outcome (Err (Refused given))
+  refused_by : (outcome : Result (List ProgramTree) ProgramRefusal) → outcome_over ≡ outcome → (given : SourceRefusal) (said log : List ℕ) (halt : Halt) → IsOutcomeCompiled names (columns_held (held_from_store stored)) verdicts_over outcome (Err (Refused given))
       → StopsAs ended.Source (source_line (Rule given.kind) given.place) said halt log → (told : Option Files) → LoadsSource (λ files go. with_tables parts go stored) said told (Err halt) log told
   refused_by (Ok programs) e given said log halt is stops told = absurd is
   refused_by (Err refusal) e given said log halt is stops told =
       loads_line (λ files go. with_tables parts go stored) ended.Source (source_line (Rule given.kind) given.place) said log told told halt
-      (λ files go. ap (λ (o : Result (List ProgramTree) ProgramRefusal). with_typed_programs o (go (held_from_store stored))) e
+      (λ files go. ap (λ (o : Result (List ProgramTree) ProgramRefusal). with_typed_programs o (go (held_from_store stored) verdicts_over)) e
       ∙ ap (λ (r : SourceRefusal). Logs (source_line (Rule r.kind) r.place) (Stops ended.Source)) (sym is)) tt stops refl
 
-module _ (tables : TableColumns) (parts : List SourcePart) (stored : List NamedTable) (built : is_built_source parts ≡ true) (same : tables ≡ columns_held (held_from_store stored)) where
+module _ (tables : TableColumns) (parts : List SourcePart) (stored : List NamedTable) (same : tables ≡ columns_held (held_from_store stored)) where
   -- a source was compiled over the tables that were read
-  pub compiled_over : (loaded : Loaded) → loaded.stored ≡ stored → (compiled : Compiled) → compiled.object ≡ loaded.object → IsCompiled tables parts (Ok compiled)
-      → (said : List ℕ) (told : Option Files) → LoadsSource (λ files go. with_tables parts go stored) said told (Ok loaded) said told
-  compiled_over loaded stored_is compiled object_is is said told = (
-    loaded_by (names_alone (source_inputs parts)) parts stored built (elaborated_source (columns_held (held_from_store stored)) parts) refl loaded stored_is compiled object_is
+  pub compiled_over : VerdictGrainsFit → IndependentCodeGivesStages → ProgramsHaveVerdicts → (loaded : Loaded) → loaded.stored ≡ stored → (compiled : Compiled) → compiled.object ≡ loaded.object → loaded.verdicts ≡ compiled.verdicts
+      → IsCompiled tables parts (Ok compiled) → (said : List ℕ) (told : Option Files) → LoadsSource (λ files go. with_tables parts go stored) said told (Ok loaded) said told
+  compiled_over fits law own loaded stored_is compiled object_is kept is said told = (
+    loaded_by (names_alone (source_inputs parts)) parts stored fits law own (elaborated_source (columns_held (held_from_store stored)) parts) refl loaded stored_is compiled object_is kept
         (subst (λ (ts : TableColumns). IsCompiled ts parts (Ok compiled)) same is) told,
     refl,
     refl,
@@ -210,7 +224,7 @@ module _ (tables : TableColumns) (parts : List SourcePart) (stored : List NamedT
   pub refused_over : (given : SourceRefusal) (stop : Stop SourceRefusal) (said log : List ℕ) (halt : Halt) → stop ≡ Refused given → IsCompiled tables parts (Err stop)
       → StopsAs ended.Source (source_line (Rule given.kind) given.place) said halt log → (told : Option Files) → LoadsSource (λ files go. with_tables parts go stored) said told (Err halt) log told
   refused_over given stop said log halt stop_is is stops told =
-      refused_by (names_alone (source_inputs parts)) parts stored built (elaborated_source (columns_held (held_from_store stored)) parts) refl given said log halt
+      refused_by (names_alone (source_inputs parts)) parts stored (elaborated_source (columns_held (held_from_store stored)) parts) refl given said log halt
       (subst (λ (ts : TableColumns). IsCompiled ts parts (Err (Refused given))) same (subst (λ (s : Stop SourceRefusal). IsCompiled tables parts (Err s)) stop_is is)) stops told
 
 -- ---- the tables of a source
@@ -279,7 +293,7 @@ module _ (parts : List SourcePart) where
         names = inputs.names ++ was.becomes.names;
         plan_is = λ go.
             inputs.plan_is go ∙ ap (λ (p : Plan). each_in_turn ReadsFile inputs.names p) (was.becomes.plan_is go)
-            ∙ reads_append inputs.names was.becomes.names (go (held_from_store loaded.stored) was.programs);
+            ∙ reads_append inputs.names was.becomes.names (go (held_from_store loaded.stored) loaded.verdicts was.programs);
       };
       object = was.object;
     },

@@ -1,6 +1,5 @@
 -- From the file of an object to what its run leaves.
 use Rattle.std.proofs.Common.{◌≡◌, ◌≢◌, ◌⊎◌, ◌∙◌, IsErrAnd, IsTrue, inl, inr, Bool, true, false, ℕ, List, [], ◌∷◌, Option, Some, None, IfSome, Result, Ok, Err, refl, sym, ap, subst}
-use Rattle.std.specs.List.{list_all}
 use Rattle.ds2_base.specs.Bytes.{Bytes}
 use Rattle.ds2_base.specs.declared.stop.Stop.{Stop}
 use Rattle.ds2_base.specs.declared.stop.Stop.TheVariants.{Refused}
@@ -10,7 +9,6 @@ use Rattle.ds2_object.specs.declared.refusal.ObjectRefusal.{ObjectRefusal}
 use Rattle.ds2_object.specs.declared.refusal.ObjectRefusal.TheVariants.{BadMagic}
 use Rattle.ds2_compile.specs.StagedParts.{StagedParts}
 use Rattle.ds2_answer.specs.declared.kinds.FileKind.{FileKind}
-use Rattle.ds2_answer.specs.declared.kinds.ObjectReason.TheVariants as reason
 use Rattle.ds2_answer.specs.declared.kinds.TheConstants.{OBJECT_LIMIT}
 use Rattle.ds2_answer.specs.declared.status.Status.{Status}
 use Rattle.ds2_answer.specs.declared.status.Status.TheVariants as ended
@@ -18,7 +16,7 @@ use Rattle.ds2_answer.specs.Answer.{table_file}
 use Rattle.ds2_answer.specs.CommandLines.{is_object_name}
 use Rattle.ds2_answer.specs.Lines.{object_refused_line}
 use Rattle.ds2_answer.specs.Load.{within_limit}
-use Rattle.ds2_answer.specs.ObjectPlans.{IsDecoding, ObjectReading, exec_plan, is_built_code, object_inputs, object_over, object_plan, on_built_object, on_object, references_of}
+use Rattle.ds2_answer.specs.ObjectPlans.{IsDecoding, ObjectReading, exec_plan, object_inputs, object_over, object_plan, on_object, references_of}
 use Rattle.ds2_answer.specs.Plan.{Plan, Stops, Logs, ReadsFile}
 use Rattle.ds2_answer.specs.TablePlans.{Presence, present_in, read_file, refuse_file, with_bytes}
 use Rattle.ds2_exec.specs.ExecOutcomes.{OverStore}
@@ -55,34 +53,26 @@ module _ (bytes : Bytes) (budget : ℕ) where
 
   -- they are no object
   pub bytes_refused : (refusal : ObjectRefusal) (stop : Stop ObjectRefusal) (said log : List ℕ) (told now : Option Files) (halt : Halt) → stop ≡ Refused refusal → DecodesTo (Err stop) bytes
-      → StopsAs ended.Object (object_refused_line (reason.Rule refusal)) said halt log → now ≡ told → RunsBytes bytes budget said told (Err halt) log now
+      → StopsAs ended.Object (object_refused_line refusal) said halt log → now ≡ told → RunsBytes bytes budget said told (Err halt) log now
   bytes_refused refusal stop said log told now halt stop_is decoded stops same =
       over_any (λ _. Err refusal) said log told now (Err halt) (inl (subst (λ (s : Stop ObjectRefusal). DecodesTo (Err s) bytes) stop_is decoded))
-      (λ files there. line_ends ended.Object (object_refused_line (reason.Rule refusal)) said told now halt log tt stops same)
+      (λ files there. line_ends ended.Object (object_refused_line refusal) said told now halt log tt stops same)
 
   -- there was no memory to decode them
   pub bytes_short : (said : List ℕ) (told : Option Files) → RunsBytes bytes budget said told (Err OutOfMemory) said told
   bytes_short said told = over_any (λ _. Err BadMagic) said said told told (Err OutOfMemory) (inr refl) (λ files there. at_once (on_object (Err BadMagic) budget files there) told)
 
-  -- the object has a form that isn't built yet
-  pub object_unbuilt : (object : List StagedParts) (built : Bool) (said log : List ℕ) (told now : Option Files) (halt : Halt) → DecodesTo (Ok object) bytes → built ≡ list_all is_built_code object → built ≡ false
-      → StopsAs ended.Object (object_refused_line reason.NotBuilt) said halt log → now ≡ told → RunsBytes bytes budget said told (Err halt) log now
-  object_unbuilt object built said log told now halt decoded is wrong stops same =
-      over_any (λ _. Ok object) said log told now (Err halt) (inl decoded)
-      (λ files there. subst (λ (b : Bool). HaltsPlan (on_built_object b object budget files there) said told halt log now) (sym wrong ∙ is)
-      (line_ends ended.Object (object_refused_line reason.NotBuilt) said told now halt log tt stops same))
-
   -- the object was run
-  pub object_ran : (object : List StagedParts) (built : Bool) (said log : List ℕ) (told now : Option Files) (result : Result (Unit {0}) Halt) → DecodesTo (Ok object) bytes → built ≡ list_all is_built_code object → built ≡ true
+  pub object_ran : (object : List StagedParts) (said log : List ℕ) (told now : Option Files) (result : Result (Unit {0}) Halt) → DecodesTo (Ok object) bytes
       → OverStore told (λ files there. FollowsAll (object_plan object budget files there) said told result log now) → RunsBytes bytes budget said told result log now
-  object_ran object built said log told now result decoded is right o = record {
+  object_ran object said log told now result decoded o = record {
     object_for = λ _. Ok object;
     files = o.files;
     there = o.there;
     files_told = o.files_told;
     there_told = o.there_told;
     decodes = inl decoded;
-    follows = subst (λ (b : Bool). FollowsAll (on_built_object b object budget o.files o.there) said told result log now) (sym right ∙ is) o.holds;
+    follows = o.holds;
   }
 
 -- ---- an object's file
@@ -91,13 +81,9 @@ module _ (name bytes : List ℕ) (named : IsTrue (is_object_name name)) where
   unlike : (table : List ℕ) → table_file table ≢ name
   unlike table is = table_is_no_object table (subst (λ (m : List ℕ). IsTrue (is_object_name m)) (sym is) named)
 
-  same_built : (built : Bool) (object : List StagedParts) (budget : ℕ) (files : Files) (there : Presence) → on_built_object built object budget (with_file files name bytes) there ≡ on_built_object built object budget files there
-  same_built false object budget files there = refl
-  same_built true object budget files there = same_tables name bytes unlike (references_of object) (object_inputs object) [] files (object_over object budget there)
-
   same_object : (read : Result (List StagedParts) ObjectRefusal) (budget : ℕ) (files : Files) (there : Presence) → on_object read budget (with_file files name bytes) there ≡ on_object read budget files there
   same_object (Err refusal) budget files there = refl
-  same_object (Ok object) budget files there = same_built (list_all is_built_code object) object budget files there
+  same_object (Ok object) budget files there = same_tables name bytes unlike (references_of object) (object_inputs object) [] files (object_over object budget there)
 
 decoded_bytes : (bytes other : Bytes) (read : Result Bytes FileKind) → read ≡ Ok bytes → read ≡ Ok other → bytes ≡ other
 decoded_bytes bytes other read e f = cc

@@ -1,6 +1,5 @@
 -- With which statuses plans stop, before their first write and behind it.
 use Rattle.std.proofs.Common.{◌≡◌, ◌⊎◌, inl, inr, ◌∙◌, Bool, true, false, ◌||◌, bytes_eq, if◌then◌else◌, ℕ, List, [], ◌∷◌, ◌++◌, map, flat_map, Option, Some, None, Result, Ok, Err, refl, sym, ap, subst}
-use Rattle.std.specs.List.{list_all}
 use Rattle.ds2_base.specs.Bytes.{Bytes}
 use Rattle.ds2_base.specs.Text.{text_of}
 use Rattle.ds2_value.specs.declared.fault.Ending.{Ending}
@@ -27,11 +26,14 @@ use Rattle.ds2_answer.specs.declared.status.Status.TheVariants as ended
 use Rattle.ds2_answer.specs.Answer.{table_file}
 use Rattle.ds2_answer.specs.HeldTables.{HeldTables, NamedTable, columns_held, held_behind, held_from_store}
 use Rattle.ds2_answer.specs.Load.{within_limit}
-use Rattle.ds2_answer.specs.ObjectPlans.{ObjectReading, exec_plan, is_built_code, object_inputs, object_over, object_plan, on_built_object, on_object, outputs_of_code, references_of, run_of_code}
+use Rattle.ds2_answer.specs.ObjectPlans.{ObjectReading, exec_plan, object_inputs, object_over, object_plan, on_object, outputs_of_code, references_of, run_of_code}
 use Rattle.ds2_answer.specs.Plan.{Plan, Stops, Logs, ReadsFile, AsksFor, WritesFile, each_in_turn}
 use Rattle.ds2_answer.specs.PlanSteps.{files_behind_all, status_at_end, steps_of}
-use Rattle.ds2_answer.specs.ProgramPlans.{ProgramLeft, ProgramRun, count_rows_then, end_then, program_then, programs_plan, put_then, write_then}
-use Rattle.ds2_answer.specs.SourcePlans.{SourceCommand, compile_programs_of, run_programs_of, source_plan, with_built, with_inputs, with_typed_programs, with_tables, with_text, with_tree}
+use Rattle.ds2_answer.specs.ProgramPlans.{ProgramLeft, ProgramRun, count_rows_then, count_stage_then, end_then, program_then, programs_plan, put_then, write_then}
+use Rattle.ds2_answer.specs.StagesLeft.{StageLeft, no_verdict}
+use Rattle.ds2_answer.specs.SourcePlans.{check_threads, SourceCommand, compile_programs_of, run_programs_of, source_plan, with_built, with_inputs, with_typed_programs, with_tables, with_text, with_tree}
+use Rattle.ds2_verdicts.specs.SourceVerdicts.{source_verdicts}
+use Rattle.ds2_verdicts.specs.declared.verdicts.ThreadVerdict.{ThreadVerdict}
 use Rattle.ds2_answer.specs.TablePlans.{OutputNamed, Presence, are_columns_named, ask_unless_made, made_too, none_made, output_then, outputs_then, read_file, read_table, read_tables, unless_there, with_bytes, with_read_columns, with_read_table}
 
 -- a plan stops with such a status before its first write, or with such another one behind it
@@ -120,21 +122,25 @@ module _ (P Q : Status → Type 0) where
   count_stop [] rest s = s
   count_stop (t ∷ tables) rest s = count_stop tables rest s
 
+  stage_stop : (stages : List StageLeft) (rest : Plan) → StopsAmong P Q rest → StopsAmong P Q (each_in_turn count_stage_then stages rest)
+  stage_stop [] rest s = s
+  stage_stop (stage ∷ stages) rest s = stage_stop stages rest s
+
 module _ (Q : Status → Type 0) (done : Q ended.Done) (fault : Q ended.Fault) where
   write_stop : (tables : List NamedTable) (rest : Plan) → StopsAmong Q Q rest → StopsAmong Q Q (each_in_turn write_then tables rest)
   write_stop [] rest s = s
   write_stop (t ∷ tables) rest s = write_stop tables rest s
 
-  end_stop : (ending : Option Ending) (instructions : ℕ) (tables : List NamedTable) (rest : Plan) → StopsAmong Q Q rest → StopsAmong Q Q (end_then ending instructions tables rest)
-  end_stop (Some Normal) instructions tables rest s = write_stop tables _ (count_stop Q Q tables rest s)
-  end_stop (Some (Faulted kind place)) instructions tables rest s = fault
-  end_stop None instructions tables rest s = s
+  end_stop : (ending : Option Ending) (stages : List StageLeft) (instructions : ℕ) (tables : List NamedTable) (rest : Plan) → StopsAmong Q Q rest → StopsAmong Q Q (end_then ending stages instructions tables rest)
+  end_stop (Some Normal) stages instructions tables rest s = write_stop tables _ (stage_stop Q Q stages _ (count_stop Q Q tables rest s))
+  end_stop (Some (Faulted kind place)) stages instructions tables rest s = fault
+  end_stop None stages instructions tables rest s = s
 
   pub programs_stop : (runs : List ProgramRun) (held : HeldTables) → StopsAmong Q Q (programs_plan runs held)
   programs_stop [] held = done
   programs_stop (run ∷ runs) held =
       put_stop Q Q (ProgramLeft.lines (run held)) _
-      (end_stop (ProgramLeft.ending (run held)) (ProgramLeft.instructions (run held)) (ProgramLeft.tables (run held)) (programs_plan runs (held_behind held (ProgramLeft.tables (run held))))
+      (end_stop (ProgramLeft.ending (run held)) (ProgramLeft.stages (run held)) (ProgramLeft.instructions (run held)) (ProgramLeft.tables (run held)) (programs_plan runs (held_behind held (ProgramLeft.tables (run held))))
       (programs_stop runs (held_behind held (ProgramLeft.tables (run held)))))
 
 -- ---- sources
@@ -144,28 +150,33 @@ module _ (P Q : Status → Type 0) (of_file : P ended.File) (of_source : P ended
   programs_or_stop (Err refusal) go s = of_source
   programs_or_stop (Ok programs) go s = s programs
 
-  inputs_stop : (names : Result (List (List ℕ)) SourceRefusal) (parts : List SourcePart) (files : Files) (go : SourceCommand) → ((held : HeldTables) (ps : List ProgramTree) → StopsAmong P Q (go held ps))
+  inputs_stop : (names : Result (List (List ℕ)) SourceRefusal) (parts : List SourcePart) (files : Files) (go : SourceCommand) → ((held : HeldTables) (vs : List ThreadVerdict) (ps : List ProgramTree) → StopsAmong P Q (go held vs ps))
       → StopsAmong P Q (with_inputs names parts files go)
   inputs_stop (Err refusal) parts files go s = of_source
   inputs_stop (Ok names) parts files go s =
       tables_stop P Q of_file [] names [] files (with_tables parts go)
-      (λ read. programs_or_stop (elaborated_source (columns_held (held_from_store read)) parts) (go (held_from_store read)) (s (held_from_store read)))
+      (λ read. programs_or_stop (elaborated_source (columns_held (held_from_store read)) parts) (go (held_from_store read) (source_verdicts (columns_held (held_from_store read)) parts)) (s (held_from_store read) (source_verdicts (columns_held (held_from_store read)) parts)))
 
-  built_stop : (built : Bool) (parts : List SourcePart) (files : Files) (go : SourceCommand) → ((held : HeldTables) (ps : List ProgramTree) → StopsAmong P Q (go held ps)) → StopsAmong P Q (with_built built parts files go)
+  built_stop : (built : Bool) (parts : List SourcePart) (files : Files) (go : SourceCommand) → ((held : HeldTables) (vs : List ThreadVerdict) (ps : List ProgramTree) → StopsAmong P Q (go held vs ps)) → StopsAmong P Q (with_built built parts files go)
   built_stop false parts files go s = of_source
   built_stop true parts files go s = inputs_stop (names_or_refusal (source_inputs parts)) parts files go s
 
-  tree_stop : (read : SourceAnswer) (files : Files) (go : SourceCommand) → ((held : HeldTables) (ps : List ProgramTree) → StopsAmong P Q (go held ps)) → StopsAmong P Q (with_tree read files go)
+  tree_stop : (read : SourceAnswer) (files : Files) (go : SourceCommand) → ((held : HeldTables) (vs : List ThreadVerdict) (ps : List ProgramTree) → StopsAmong P Q (go held vs ps)) → StopsAmong P Q (with_tree read files go)
   tree_stop (Err refusal) files go s = of_source
   tree_stop (Ok parts) files go s = built_stop (is_built_source parts) parts files go s
 
-  text_stop : (sources : SourcesRead) (name : List ℕ) (text : Option Bytes) (files : Files) (go : SourceCommand) → ((held : HeldTables) (ps : List ProgramTree) → StopsAmong P Q (go held ps)) → StopsAmong P Q (with_text sources name text files go)
+  text_stop : (sources : SourcesRead) (name : List ℕ) (text : Option Bytes) (files : Files) (go : SourceCommand) → ((held : HeldTables) (vs : List ThreadVerdict) (ps : List ProgramTree) → StopsAmong P Q (go held vs ps)) → StopsAmong P Q (with_text sources name text files go)
   text_stop sources name None files go s = of_file
   text_stop sources name (Some text) files go s = tree_stop (sources.answer_for text) files go s
 
-  pub source_stop : (sources : SourcesRead) (name : List ℕ) (files : Files) (go : SourceCommand) → ((held : HeldTables) (ps : List ProgramTree) → StopsAmong P Q (go held ps)) → StopsAmong P Q (source_plan sources name files go)
+  pub source_stop : (sources : SourcesRead) (name : List ℕ) (files : Files) (go : SourceCommand) → ((held : HeldTables) (vs : List ThreadVerdict) (ps : List ProgramTree) → StopsAmong P Q (go held vs ps)) → StopsAmong P Q (source_plan sources name files go)
   source_stop sources name files go s =
       bytes_stop P Q of_file name (within_limit SOURCE_LIMIT (file files name)) (λ bytes. with_text sources name (text_of bytes) files go) (λ bytes. text_stop sources name (text_of bytes) files go s)
+
+-- the verdicts of a source are told
+pub verdicts_stop : (P Q : Status → Type 0) → P ended.Done → (verdicts : List ThreadVerdict) → StopsAmong P Q (check_threads verdicts)
+verdicts_stop P Q done [] = done
+verdicts_stop P Q done (v ∷ verdicts) = verdicts_stop P Q done verdicts
 
 -- ---- objects
 
@@ -180,17 +191,13 @@ within_more P Q f (WritesFile name bytes rest) s = s
 module _ (P Q : Status → Type 0) (of_file : P ended.File) (of_object : P ended.Object) (exists : P ended.Exists) (done : Q ended.Done) (fault : Q ended.Fault) (more : (s : Status) → Q s → P s) where
   over_stop : (programs : List StagedParts) (budget : ℕ) (there : Presence) (read : List NamedTable) → StopsAmong P Q (object_over programs budget there read)
   over_stop programs budget there read =
-      outputs_stop P Q exists none_made there (flat_map outputs_of_code programs) (programs_plan (map (run_of_code budget) programs) (held_from_store read))
-      (within_more P Q more (programs_plan (map (run_of_code budget) programs) (held_from_store read)) (programs_stop Q done fault (map (run_of_code budget) programs) (held_from_store read)))
-
-  built_object_stop : (built : Bool) (programs : List StagedParts) (budget : ℕ) (files : Files) (there : Presence) → StopsAmong P Q (on_built_object built programs budget files there)
-  built_object_stop false programs budget files there = of_object
-  built_object_stop true programs budget files there =
-      tables_stop P Q of_file (references_of programs) (object_inputs programs) [] files (object_over programs budget there) (over_stop programs budget there)
+      outputs_stop P Q exists none_made there (flat_map outputs_of_code programs) (programs_plan (map (run_of_code no_verdict budget) programs) (held_from_store read))
+      (within_more P Q more (programs_plan (map (run_of_code no_verdict budget) programs) (held_from_store read)) (programs_stop Q done fault (map (run_of_code no_verdict budget) programs) (held_from_store read)))
 
   object_stop : (read : Result (List StagedParts) ObjectRefusal) (budget : ℕ) (files : Files) (there : Presence) → StopsAmong P Q (on_object read budget files there)
   object_stop (Err refusal) budget files there = of_object
-  object_stop (Ok programs) budget files there = built_object_stop (list_all is_built_code programs) programs budget files there
+  object_stop (Ok programs) budget files there =
+      tables_stop P Q of_file (references_of programs) (object_inputs programs) [] files (object_over programs budget there) (over_stop programs budget there)
 
   pub exec_stop : (object_for : ObjectReading) (name : List ℕ) (budget : ℕ) (files : Files) (there : Presence) → StopsAmong P Q (exec_plan object_for name budget files there)
   exec_stop object_for name budget files there =

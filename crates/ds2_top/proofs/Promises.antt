@@ -26,7 +26,7 @@ use Rattle.ds2_top.specs.Headline.{Headline, IsAnswered, LeavesRefusal}
 use Rattle.ds2_top.specs.Leaves.{Did, Leaves}
 use Rattle.ds2_top.specs.ObjectRuns.{HaltsUndecoded}
 use Rattle.ds2_top.specs.Outside.{Outside, Gained, HoldsFiles, LogGains, LogRose, ReadsRose, WritesRose}
-use Rattle.ds2_top.specs.Reported.{Reported, TakesLine, TakesSome}
+use Rattle.ds2_top.specs.Reported.{EndReported, Reported, TakesLine, TakesSome}
 use Rattle.ds2_top.specs.RuntimeFaults.{FaultLeft}
 use Rattle.ds2_top.specs.SourceObjects.{IsBeforeStoring, StoresObject}
 use Rattle.ds2_top.proofs.CommandStops.{check_faults_never, compile_faults_never, refusal_writes_nothing, usage_only}
@@ -213,7 +213,7 @@ module _ (sources : SourcesRead) (words : List (List ℕ)) (before now : Outside
       (λ halts. (reported_before status x (LogRose before now) result before.log now.log r halts.0, files_kept d.files before now d.files_told halts.1))
       (λ halts. (reported_read status x (LogRose before now) result before.log now.log r halts.0, files_kept d.files before now d.files_told halts.1)) r
 
-  pub halted_headline : (status result : Status) (said x : List ℕ) (ran : Result (Unit {0}) Halt) (halt : Halt) → ran ≡ Err halt → halt ≡ Ended status → said ≡ []
+  halted_headline : (status result : Status) (said x : List ℕ) (ran : Result (Unit {0}) Halt) (halt : Halt) → ran ≡ Err halt → halt ≡ Ended status → said ≡ []
       → CausedBy ended.Read ran before.read_faults now.read_faults → CausedBy ended.Write ran before.write_faults now.write_faults
       → DoesCommand sources (command_line_of words) said before.files ran x now.files
       → Reported status x (LogRose before now) result before.log now.log → Headline words before now result
@@ -232,7 +232,7 @@ module _ (sources : SourcesRead) (words : List (List ℕ)) (before now : Outside
   done_no_write is = absurd (cc)
 
   -- a command that was done
-  pub done_headline : (result : Status) (said x : List ℕ) → said ≡ [] → DoesCommand sources (command_line_of words) said before.files (Ok tt) x now.files
+  done_headline : (result : Status) (said x : List ℕ) → said ≡ [] → DoesCommand sources (command_line_of words) said before.files (Ok tt) x now.files
       → Reported ended.Done x (LogRose before now) result before.log now.log → Headline words before now result
   done_headline result said x empty given r =
       let d = subst (λ (s : List ℕ). DoesCommand sources (command_line_of words) s before.files (Ok tt) x now.files) empty given in
@@ -257,8 +257,17 @@ module _ (sources : SourcesRead) (words : List (List ℕ)) (before now : Outside
       (λ none. inr refl)
 
   -- a command that has found no memory
-  pub memory_headline : (result : Status) (said x : List ℕ) (ran : Result (Unit {0}) Halt) (halt : Halt) → ran ≡ Err halt → halt ≡ OutOfMemory
+  memory_headline : (result : Status) (said x : List ℕ) (ran : Result (Unit {0}) Halt) (halt : Halt) → ran ≡ Err halt → halt ≡ OutOfMemory
       → DoesCommand sources (command_line_of words) said before.files ran x now.files → result ≡ ended.Memory → TakesLine memory_line before.log now.log → Headline words before now result
   memory_headline result said x ran halt ran_is halt_is d is taken =
       subst (λ (s : Status). Headline words before now s) (sym is)
       (memory_at x said (subst (λ (ran : Result (Unit {0}) Halt). DoesCommand sources (command_line_of words) said before.files ran x now.files) (ran_is ∙ ap (λ (h : Halt). Err h) halt_is) d) taken)
+
+  -- a command that has ended, and whose log was written
+  pub end_headline : (result : Status) (said x : List ℕ) (ran : Result (Unit {0}) Halt) → said ≡ []
+      → CausedBy ended.Read ran before.read_faults now.read_faults → CausedBy ended.Write ran before.write_faults now.write_faults
+      → DoesCommand sources (command_line_of words) said before.files ran x now.files
+      → EndReported ran x (LogRose before now) result before.log now.log → Headline words before now result
+  end_headline result said x (Ok value) empty reads writes d r = done_headline result said x empty d r
+  end_headline result said x (Err (Ended status)) empty reads writes d r = halted_headline status result said x (Err (Ended status)) (Ended status) refl refl empty reads writes d r
+  end_headline result said x (Err OutOfMemory) empty reads writes d r = memory_headline result said x (Err OutOfMemory) OutOfMemory refl refl d r.0 r.1

@@ -1,18 +1,18 @@
 -- What a command leaves, but for the writing of the log.
-use Rattle.std.specs.Prelude.{◌≡◌, ◌⊎◌, ℕ, List, IsTrue, Option, Some, None, IfSome, Result, Ok, Err}
+use Rattle.std.specs.Prelude.{◌≡◌, ◌⊎◌, ℕ, List, IsTrue, flat_map, Option, Some, None, IfSome, Result, Ok, Err}
 use Rattle.ds2_outside.specs.Files.{Files}
 use Rattle.ds2_compile.specs.AnswersOfTexts.{SourcesRead}
 use Rattle.ds2_compile.specs.StagedParts.{StagedParts}
 use Rattle.ds2_answer.specs.declared.command_line.CommandLine.{CommandLine}
 use Rattle.ds2_answer.specs.declared.command_line.CommandLine.TheVariants.{Run, Compile, Exec, Check}
-use Rattle.ds2_answer.specs.declared.status.Status.TheVariants.{Done}
 use Rattle.ds2_answer.specs.CommandLines.{is_object_name}
 use Rattle.ds2_answer.specs.CommandPlans.{plan_of_command}
 use Rattle.ds2_answer.specs.ObjectPlans.{ObjectReading}
-use Rattle.ds2_answer.specs.Plan.{Stops}
-use Rattle.ds2_answer.specs.SourcePlans.{SourceCommand, compile_programs_of, run_programs_of, source_plan}
+use Rattle.ds2_answer.specs.Lines.{checked_thread_line, verdict_text}
+use Rattle.ds2_answer.specs.SourcePlans.{SourceCommand, check_threads, compile_programs_of, run_programs_of, source_plan}
 use Rattle.ds2_answer.specs.TablePlans.{Presence, present_in}
 use Rattle.ds2_answer.specs.Words.{is_source}
+use Rattle.ds2_verdicts.specs.declared.verdicts.ThreadVerdict.{ThreadVerdict}
 use Rattle.ds2_exec.specs.Halts.{FollowsAll}
 use Rattle.ds2_exec.specs.declared.halt.Halt.{Halt}
 use Rattle.ds2_exec.specs.declared.halt.Halt.TheVariants.{Ended, OutOfMemory}
@@ -37,11 +37,15 @@ runs_with source budget object there = run_programs_of source budget object ther
 
 -- `compile`
 abbrev pub compiles : List ℕ → StoringCommand
-compiles source object there = λ held programs. compile_programs_of source object
+compiles source object there = λ held verdicts programs. compile_programs_of source object
 
 -- `check`
 abbrev pub checks : StoringCommand
-checks object there = λ held programs. Stops Done
+checks object there = λ held verdicts programs. check_threads verdicts
+
+-- the lines that tell verdicts
+abbrev pub verdicts_said : List ThreadVerdict → List ℕ
+verdicts_said verdicts = flat_map (λ (v : ThreadVerdict). checked_thread_line v.name (verdict_text v.verdict)) verdicts
 
 -- a command has ended before it stored an object, and no file has changed
 abbrev pub HaltsUnstored : Result (Unit {0}) Halt → Option Files → Option Files → Type 0

@@ -17,6 +17,8 @@ use Rattle.ds2_answer.specs.Plan.{Plan, Stops}
 use Rattle.ds2_answer.specs.PlanSteps.{PlanStep, LogLine, files_behind_all, steps_of}
 use Rattle.ds2_answer.specs.ProgramPlans.{ProgramLeft, ProgramRun, program_then}
 use Rattle.ds2_answer.specs.SourcePlans.{runs_of_programs, source_plan}
+use Rattle.ds2_verdicts.specs.ThreadVerdicts.{verdict_named}
+use Rattle.ds2_verdicts.specs.declared.verdicts.ThreadVerdict.{ThreadVerdict}
 use Rattle.ds2_top.specs.Outside.{Outside, HoldsFiles}
 use Rattle.ds2_top.specs.SourceObjects.{BecomesPrograms}
 
@@ -62,11 +64,12 @@ lines_of_faulting held first = ProgramLeft.lines (first.faulting (held_behind_ru
 -- lines and the fault's line, and no file has changed behind those first ones
 pub record LeavesFault (sources : SourcesRead) (object : List StagedParts) (source : List ℕ) (budget : ℕ) (answer : Plan) (files : Files) (before now : Outside) : Type 0 where
   pub stored : List NamedTable
+  pub verdicts : List ThreadVerdict
   pub programs : List ProgramTree
-  pub becomes : BecomesPrograms (source_plan sources source files) stored programs
+  pub becomes : BecomesPrograms (source_plan sources source files) stored verdicts programs
   pub fault : Fault
   pub place : Place
-  pub first : FirstFault (runs_of_programs budget programs object) (held_from_store stored) fault place
+  pub first : FirstFault (runs_of_programs (verdict_named verdicts) budget programs object) (held_from_store stored) fault place
   pub front : List PlanStep
   pub steps_are : steps_of answer ≡ front ++ (steps_of_runs first.earlier (held_from_store stored) ++ steps_of_fault (lines_of_faulting (held_from_store stored) first) fault place)
   pub files_are : HoldsFiles (files_behind_all (front ++ steps_of_runs first.earlier (held_from_store stored)) files) before now

@@ -13,18 +13,20 @@ use Rattle.ds2_answer.specs.HeldTables.{NamedTable, held_from_store}
 use Rattle.ds2_answer.specs.Plan.{Plan, ReadsFile, each_in_turn}
 use Rattle.ds2_answer.specs.SourcePlans.{SourceCommand, source_plan}
 use Rattle.ds2_answer.specs.StoredCodes.{HaveCodes}
+use Rattle.ds2_verdicts.specs.declared.verdicts.ThreadVerdict.{ThreadVerdict}
 use Rattle.ds2_top.specs.Outside.{Outside, HoldsFiles}
 
--- the plan of a source reads some files, and then does what the command does with these tables and programs
-pub record BecomesPrograms (plan : SourceCommand → Plan) (stored : List NamedTable) (programs : List ProgramTree) : Type 0 where
+-- the plan of a source reads some files, and then does what the command does with these tables, verdicts and programs
+pub record BecomesPrograms (plan : SourceCommand → Plan) (stored : List NamedTable) (verdicts : List ThreadVerdict) (programs : List ProgramTree) : Type 0 where
   pub names : List (List ℕ)
-  pub plan_is : (go : SourceCommand) → plan go ≡ each_in_turn ReadsFile names (go (held_from_store stored) programs)
+  pub plan_is : (go : SourceCommand) → plan go ≡ each_in_turn ReadsFile names (go (held_from_store stored) verdicts programs)
 
 -- an object is that of a source: it is valid code, and each of its programs means the same as the source's program at its place
 pub record IsObjectOf (sources : SourcesRead) (source : List ℕ) (files : Files) (object : List StagedParts) : Type 0 where
   pub stored : List NamedTable
+  pub verdicts : List ThreadVerdict
   pub programs : List ProgramTree
-  pub becomes : BecomesPrograms (source_plan sources source files) stored programs
+  pub becomes : BecomesPrograms (source_plan sources source files) stored verdicts programs
   pub codes : HaveCodes programs object
   pub valid : IsValidObject object
 

@@ -1,22 +1,24 @@
 //! The commands, each but for the writing of the log.
-ghost use Rattle.std.specs.Prelude.{◌≤◌, IsTrue, Some};
+ghost use Rattle.std.specs.Prelude.{◌≡◌, ◌≤◌, ◌++◌, IsTrue, OnOk, Some};
 ghost use Rattle.ds2_compile.specs.AnswersOfTexts.{SourcesRead};
 ghost use Rattle.ds2_answer.specs.CommandLines.{budget_on_line, command_line_of};
 ghost use Rattle.ds2_answer.specs.SourcePlans.{compile_programs_of};
 ghost use Rattle.ds2_answer.specs.Words.{is_source};
 ghost use Rattle.ds2_answer.specs.declared.words.TheConstants.{MOST_BUDGET};
 ghost use Rattle.ds2_exec.specs.Halts.{CausedBy};
-ghost use Rattle.ds2_top.specs.CommandOutcomes.{DoesCommand, DoesSource, NamesFile, checks, compiles, runs_with};
+ghost use Rattle.ds2_top.specs.CommandOutcomes.{DoesCommand, DoesSource, NamesFile, checks, compiles, runs_with, verdicts_said};
 
 use crate::objects::exec_object;
 use crate::refusals::refuse_words;
 use crate::sources::load_source;
 use crate::storing::{run_loaded, store_loaded};
+use ds2_answer::lines::say_checked_thread;
 use ds2_answer::{CommandLine, Status, read_command_line};
-use ds2_base::{Bytes, Text};
+use ds2_base::{Bytes, OutOfMemory, Text};
 use ds2_compile::sources_are_read;
 use ds2_exec::Halt;
 use ds2_outside::Store;
+use ds2_verdicts::ThreadVerdict;
 use std::alloc::Global;
 
 // `run`: compiles a source, stores its object and runs its programs.
@@ -54,7 +56,23 @@ fn compile_source<S: Store>(
     store_loaded(alloc, source, &loaded.object, log, store)
 }
 
-// `check`: tells whether a source is refused.
+// Tells the verdicts on thread programs, in order.
+fn say_verdicts(
+    alloc: Global,
+    verdicts: &[ThreadVerdict],
+    log: &mut Bytes,
+) -> Result<(), OutOfMemory>
+    ensures { OnOk result (log.new ≡ log.old ++ verdicts_said verdicts.now) }
+{
+    let mut left = verdicts;
+    'verdicts: while let [verdict, after @ ..] = left {
+        say_checked_thread(alloc, &verdict.name, &verdict.verdict, log)?;
+        left = after;
+    }
+    Ok(())
+}
+
+// `check`: tells whether a source is refused, and the verdicts on its thread programs.
 fn check_source<S: Store>(
     alloc: Global,
     source: &Text,
@@ -66,12 +84,13 @@ fn check_source<S: Store>(
     ensures read { CausedBy Status.Read result (S.read_faults store.old) (S.read_faults store.new) }
     ensures write { CausedBy Status.Write result (S.write_faults store.old) (S.write_faults store.new) }
 {
-    let _loaded = load_source(alloc, source, log, store)?;
+    let loaded = load_source(alloc, source, log, store)?;
+    say_verdicts(alloc, loaded.verdicts.as_slice(), log)?;
     Ok(())
 }
 
-// Does a command.
-fn do_command<S: Store>(
+/// Does a command.
+pub(crate) fn do_command<S: Store>(
     alloc: Global,
     line: &CommandLine,
     log: &mut Bytes,

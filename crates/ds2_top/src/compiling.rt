@@ -1,7 +1,6 @@
 //! From the tree of a source and the tables of the store that it reads to its object.
-ghost use Rattle.std.specs.Prelude.{◌≡◌, true, IfOk, map, Option};
+ghost use Rattle.std.specs.Prelude.{◌≡◌, IfOk, map, Option};
 ghost use Rattle.ds2_outside.specs.Files.{Files};
-ghost use Rattle.ds2_compile.specs.BuiltSources.{is_built_source};
 ghost use Rattle.ds2_compile.specs.SourceTexts.{StandsInText};
 ghost use Rattle.ds2_compile.specs.SourceUnit.{columns_stored};
 ghost use Rattle.ds2_compile.specs.UnitViews.{source_tree};
@@ -15,7 +14,10 @@ use crate::refusals::refuse;
 use ds2_answer::Status;
 use ds2_base::{Bytes, List, OutOfMemory, Stop};
 use ds2_compile::{NamedSchema, Schemas, Source, compile};
+use ds2_exec::laws::verdict_grains_fit;
 use ds2_exec::{Halt, KeptTable};
+use ds2_local_threads::laws::independent_code_gives_stages;
+use ds2_verdicts::laws::programs_have_verdicts;
 use std::alloc::Global;
 
 // A table's name and columns.
@@ -55,16 +57,19 @@ pub(crate) fn compile_over(
     stored: List<KeptTable>,
     log: &mut Bytes,
 ) -> Result<Loaded, Halt>
-    requires domain { is_built_source (source_tree tree.now) ≡ true }
-    requires text { StandsInText (source_tree tree.now) }
+    requires { StandsInText (source_tree tree.now) }
     ensures loads { (told : Option Files) → LoadsSource (λ files go. with_tables (source_tree tree.now) go stored) log.old told result log.new told }
     ensures unread { HaltsAs Status.Read result → ⊥ }
     ensures unwritten { HaltsAs Status.Write result → ⊥ }
 {
+    verdict_grains_fit();
+    independent_code_gives_stages();
+    programs_have_verdicts();
     let schemas = schemas_of(alloc, stored.as_slice())?;
     match compile(alloc, tree, &schemas) {
         Ok(compiled) => Ok(Loaded {
             object: compiled.object,
+            verdicts: compiled.verdicts,
             stored,
         }),
         Err(Stop::Refused(refusal)) => Err(refuse(alloc, refusal, log)),

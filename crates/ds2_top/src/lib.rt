@@ -16,6 +16,7 @@ mod report;
 mod sources;
 mod storing;
 mod top;
+mod workers;
 
 pub use ds2_answer::Status;
 pub use top::{ds2, ds2_alone};

@@ -7,9 +7,9 @@ ghost use Rattle.ds2_exec.specs.Halts.{CausedBy};
 ghost use Rattle.ds2_top.specs.ObjectRuns.{RunsBytes, RunsFile};
 
 use crate::refusals::refuse_object;
-use ds2_answer::{OBJECT_LIMIT, ObjectReason, Status};
+use ds2_answer::{OBJECT_LIMIT, Status};
 use ds2_base::{Bytes, Stop, Text};
-use ds2_exec::{Halt, is_built_object, read_file, run_object};
+use ds2_exec::{Halt, read_file, run_object};
 use ds2_object::decode;
 use ds2_outside::Store;
 use std::alloc::Global;
@@ -28,16 +28,8 @@ fn run_bytes<S: Store>(
     ensures write { CausedBy Status.Write result (S.write_faults store.old) (S.write_faults store.new) }
 {
     match decode(alloc, bytes) {
-        Ok(object) => {
-            if is_built_object(&object) {
-                run_object(alloc, &object, budget, log, store)
-            } else {
-                Err(refuse_object(alloc, &ObjectReason::NotBuilt, log))
-            }
-        }
-        Err(Stop::Refused(refusal)) => {
-            Err(refuse_object(alloc, &ObjectReason::Rule(refusal), log))
-        }
+        Ok(object) => run_object(alloc, &object, budget, log, store),
+        Err(Stop::Refused(refusal)) => Err(refuse_object(alloc, &refusal, log)),
         Err(Stop::OutOfMemory) => Err(Halt::OutOfMemory),
     }
 }

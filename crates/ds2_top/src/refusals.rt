@@ -4,10 +4,11 @@ ghost use Rattle.ds2_answer.specs.declared.kinds.SourceReason.TheVariants.{Rule}
 ghost use Rattle.ds2_exec.specs.Halts.{StopsAs};
 
 use ds2_answer::lines::{say_object_refused, say_source_refused, say_usage};
-use ds2_answer::{ObjectReason, SourceReason, Status};
+use ds2_answer::{SourceReason, Status};
 use ds2_base::{Bytes, OutOfMemory, Place};
 use ds2_compile::SourceRefusal;
 use ds2_exec::Halt;
+use ds2_object::ObjectRefusal;
 use std::alloc::Global;
 
 /// Says that the words are no command, which ends it.
@@ -43,10 +44,10 @@ pub(crate) fn refuse(alloc: Global, refusal: SourceRefusal, log: &mut Bytes) -> 
 }
 
 /// Says that the object is refused, which ends the command.
-pub(crate) fn refuse_object(alloc: Global, reason: &ObjectReason, log: &mut Bytes) -> Halt
-    ensures { StopsAs Status.Object (object_refused_line reason.now) log.old result log.new }
+pub(crate) fn refuse_object(alloc: Global, refusal: &ObjectRefusal, log: &mut Bytes) -> Halt
+    ensures { StopsAs Status.Object (object_refused_line refusal.now) log.old result log.new }
 {
-    match say_object_refused(alloc, reason, log) {
+    match say_object_refused(alloc, refusal, log) {
         Ok(()) => Halt::Ended(Status::Object),
         Err(OutOfMemory) => Halt::OutOfMemory,
     }

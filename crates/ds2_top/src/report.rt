@@ -2,15 +2,16 @@
 ghost use Rattle.std.specs.Prelude.{◌≡◌};
 ghost use Rattle.ds2_outside.specs.Causes.{Rose};
 ghost use Rattle.ds2_answer.specs.Lines.{memory_line};
-ghost use Rattle.ds2_top.specs.Reported.{Reported, TakesLine};
+ghost use Rattle.ds2_top.specs.Reported.{EndReported, Reported, TakesLine};
 
 use ds2_answer::Status;
 use ds2_base::{Bytes, List};
+use ds2_exec::Halt;
 use ds2_outside::{Sink, WriteStop};
 use std::alloc::Global;
 
-/// Writes the log of a command that has ended.
-pub(crate) fn report<L: Sink>(status: Status, text: &Bytes, log: &mut L) -> Status
+// Writes the log of a command that has ended with this status.
+fn report<L: Sink>(status: Status, text: &Bytes, log: &mut L) -> Status
     ensures { Reported status text.now (Rose (L.faults log.old) (L.faults log.new)) result (L.written log.old) (L.written log.new) }
 {
     match log.write_all(text) {
@@ -23,8 +24,8 @@ pub(crate) fn report<L: Sink>(status: Status, text: &Bytes, log: &mut L) -> Stat
     }
 }
 
-/// Says that there is no memory, as far as there is memory for that.
-pub(crate) fn report_memory<L: Sink>(alloc: Global, log: &mut L) -> Status
+// Says that there is no memory, as far as there is memory for that.
+fn report_memory<L: Sink>(alloc: Global, log: &mut L) -> Status
     ensures memory { result ≡ Status.Memory }
     ensures taken { TakesLine memory_line (L.written log.old) (L.written log.new) }
 {
@@ -35,5 +36,21 @@ pub(crate) fn report_memory<L: Sink>(alloc: Global, log: &mut L) -> Status
             Ok(()) => Status::Memory,
             Err(_) => Status::Memory,
         },
+    }
+}
+
+/// Writes the log of a command that has ended so, and gives its status.
+pub(crate) fn report_end<L: Sink>(
+    alloc: Global,
+    end: Result<(), Halt>,
+    text: &Bytes,
+    log: &mut L,
+) -> Status
+    ensures { EndReported end text.now (Rose (L.faults log.old) (L.faults log.new)) result (L.written log.old) (L.written log.new) }
+{
+    match end {
+        Ok(()) => report(Status::Done, text, log),
+        Err(Halt::Ended(status)) => report(status, text, log),
+        Err(Halt::OutOfMemory) => report_memory(alloc, log),
     }
 }

@@ -1,5 +1,5 @@
 //! From the file of a source to its object.
-ghost use Rattle.std.specs.Prelude.{◌≡◌, ◌<◌, ◌≤◌, ◌+◌, ◌^◌, true, IsTrue, length};
+ghost use Rattle.std.specs.Prelude.{◌<◌, ◌≤◌, ◌+◌, ◌^◌, IsTrue, length};
 ghost use Rattle.ds2_base.specs.Text.{text_of};
 ghost use Rattle.ds2_compile.specs.AnswersOfTexts.{SourcesRead};
 ghost use Rattle.ds2_compile.specs.BuiltSources.{is_built_source};
@@ -47,8 +47,7 @@ fn load_built<S: Store>(
     log: &mut Bytes,
     store: &mut S,
 ) -> Result<Loaded, Halt>
-    requires domain { is_built_source (source_tree tree.now) ≡ true }
-    requires text { StandsInText (source_tree tree.now) }
+    requires { StandsInText (source_tree tree.now) }
     ensures loads { LoadsSource (λ files go. with_inputs (names_or_refusal (source_inputs (source_tree tree.now))) (source_tree tree.now) files go) log.old (S.files store.old) result log.new (S.files store.new) }
     ensures read { CausedBy Status.Read result (S.read_faults store.old) (S.read_faults store.new) }
     ensures write { CausedBy Status.Write result (S.write_faults store.old) (S.write_faults store.new) }

@@ -1,14 +1,11 @@
 //! What is done with the object of a source: it is stored, and its programs run.
-ghost use Rattle.std.specs.Prelude.{◌≡◌, ◌≤◌, IfOk, IsTrue, map};
-ghost use Rattle.ds2_answer.specs.HeldTables.{held_from_store};
-ghost use Rattle.ds2_answer.specs.ObjectPlans.{run_of_code};
+ghost use Rattle.std.specs.Prelude.{◌≡◌, ◌≤◌, IfOk, IsTrue};
 ghost use Rattle.ds2_answer.specs.Plan.{Plan};
-ghost use Rattle.ds2_answer.specs.ProgramPlans.{programs_plan};
 ghost use Rattle.ds2_answer.specs.SourcePlans.{compile_programs_of, object_bytes, object_file, store_object};
 ghost use Rattle.ds2_answer.specs.Words.{is_source};
 ghost use Rattle.ds2_answer.specs.declared.words.TheConstants.{MOST_BUDGET};
 ghost use Rattle.ds2_exec.specs.Halts.{CausedBy, Follows, FollowsAll};
-ghost use Rattle.ds2_top.specs.SourceLoads.{IsRunnableObject, RunsLoaded};
+ghost use Rattle.ds2_top.specs.SourceLoads.{IsRunnableObject, RunsLoaded, StoresNew, loaded_plan};
 
 use crate::loaded::Loaded;
 use ds2_answer::Status;
@@ -56,25 +53,42 @@ fn store_object<S: Store>(
     write_file(alloc, &file, &bytes, log, store)
 }
 
-// Stores the object of a source, and runs its programs.
-fn store_and_run<S: Store>(
+/// Unless an output is there already, writes the object of a source.
+pub(crate) fn store_new<S: Store>(
     alloc: Global,
     source: &Text,
+    object: &ObjectCode,
+    log: &mut Bytes,
+    store: &mut S,
+) -> Result<(), Halt>
+    requires named { IsTrue (is_source source.now) }
+    ensures does { StoresNew source.now object.now log.old (S.files store.old) result log.new (S.files store.new) }
+    ensures read { CausedBy Status.Read result (S.read_faults store.old) (S.read_faults store.new) }
+    ensures write { CausedBy Status.Write result (S.write_faults store.old) (S.write_faults store.new) }
+{
+    let codes = object.programs().as_slice();
+    ask_outputs(alloc, codes, log, store)?;
+    store_object(alloc, source, object, log, store)
+}
+
+// Runs the programs of a source.
+fn run_codes<S: Store>(
+    alloc: Global,
     loaded: &Loaded,
     budget: u64,
     log: &mut Bytes,
     store: &mut S,
 ) -> Result<(), Halt>
-    requires named { IsTrue (is_source source.now) }
-    requires runs { IsRunnableObject loaded.now.object loaded.now.stored }
+    requires runs { IsRunnableObject loaded.now }
     requires budget { budget ≤ MOST_BUDGET }
-    ensures does { FollowsAll (store_object source.now loaded.now.object (programs_plan (map (run_of_code budget) loaded.now.object) (held_from_store loaded.now.stored))) log.old (S.files store.old) result log.new (S.files store.new) }
+    ensures does { FollowsAll (loaded_plan budget loaded.now) log.old (S.files store.old) result log.new (S.files store.new) }
     ensures read { CausedBy Status.Read result (S.read_faults store.old) (S.read_faults store.new) }
     ensures write { CausedBy Status.Write result (S.write_faults store.old) (S.write_faults store.new) }
 {
-    store_object(alloc, source, &loaded.object, log, store)?;
     let codes = loaded.object.programs().as_slice();
-    run_programs(alloc, codes, loaded.stored.as_slice(), budget, log, store)
+    let stored = loaded.stored.as_slice();
+    let verdicts = loaded.verdicts.as_slice();
+    run_programs(alloc, codes, stored, verdicts, budget, log, store)
 }
 
 /// Unless an output is there already, stores the object of a source and runs its programs.
@@ -87,16 +101,15 @@ pub(crate) fn run_loaded<S: Store>(
     store: &mut S,
 ) -> Result<(), Halt>
     requires named { IsTrue (is_source source.now) }
-    requires runs { IsRunnableObject loaded.now.object loaded.now.stored }
+    requires runs { IsRunnableObject loaded.now }
     requires budget { budget ≤ MOST_BUDGET }
-    ensures does { RunsLoaded source.now budget loaded.now.object loaded.now.stored log.old (S.files store.old) result log.new (S.files store.new) }
+    ensures does { RunsLoaded source.now budget loaded.now log.old (S.files store.old) result log.new (S.files store.new) }
     ensures read { CausedBy Status.Read result (S.read_faults store.old) (S.read_faults store.new) }
     ensures write { CausedBy Status.Write result (S.write_faults store.old) (S.write_faults store.new) }
 {
     codes_do_as_programs();
-    let codes = loaded.object.programs().as_slice();
-    ask_outputs(alloc, codes, log, store)?;
-    store_and_run(alloc, source, loaded, budget, log, store)
+    store_new(alloc, source, &loaded.object, log, store)?;
+    run_codes(alloc, loaded, budget, log, store)
 }
 
 /// Stores the object of a source, and counts its bytes in the log.

@@ -3,11 +3,11 @@ ghost use Rattle.std.specs.Prelude.{◌≡◌};
 ghost use Rattle.ds2_top.specs.Headline.{Headline};
 
 use crate::commands::run;
-use crate::report::{report, report_memory};
+use crate::report::report_end;
+use crate::workers::run_with;
 use ds2_answer::Status;
 use ds2_base::{List, Text};
 use ds2_compile::sources_are_read;
-use ds2_exec::Halt;
 use ds2_outside::{Gate, Sink, Store};
 use std::alloc::Global;
 use std::sync::Wait;
@@ -31,27 +31,27 @@ pub fn ds2_alone<T: Store, L: Sink>(
 {
     sources_are_read();
     let mut text = List::new(alloc);
-    match run(alloc, words, &mut text, store) {
-        Ok(()) => report(Status::Done, &text, log),
-        Err(Halt::Ended(status)) => report(status, &text, log),
-        Err(Halt::OutOfMemory) => report_memory(alloc, log),
-    }
+    let ran = run(alloc, words, &mut text, store);
+    report_end(alloc, ran, &text, log)
 }
 
-/// Does what a line of words says, as [`ds2_alone`] does, where stages may run on several threads. It returns if the
-/// threads that it waits for do.
+/// Does what a line of words says, with the same answer as [`ds2_alone`]. The groups of a thread program that is local run on as many workers
+/// as the line of `run` asks for or, where it doesn't, the source. It returns if the threads that it waits for do.
 pub fn ds2<T: Store, L: Sink, G: Gate + Sync>(
-    _rt: &(impl Threads + Wait + Sync),
+    rt: &(impl Threads + Wait + Sync),
     alloc: Global,
     words: &[Text],
     store: &mut T,
     log: &mut L,
-    _gate: &G,
+    gate: &G,
 ) -> Status
     ensures { Headline words.now
         (record { files = T.files store.old; log = L.written log.old; read_faults = T.read_faults store.old; write_faults = T.write_faults store.old; log_faults = L.faults log.old })
         (record { files = T.files store.new; log = L.written log.new; read_faults = T.read_faults store.new; write_faults = T.write_faults store.new; log_faults = L.faults log.new })
         result }
 {
-    ds2_alone(alloc, words, store, log)
+    sources_are_read();
+    let mut text = List::new(alloc);
+    let ran = run_with(rt, alloc, words, gate, &mut text, store);
+    report_end(alloc, ran, &text, log)
 }

@@ -1,10 +1,8 @@
 use Rattle.std.proofs.Common.{List, refl, sym, subst, ◌≡◌, ◌∙◌, true}
-use Rattle.std.specs.List.{AllByRecursion}
 use Rattle.ds2_code.specs.declared.parts.StagedParts.{StagedParts}
 use Rattle.ds2_object.specs.ObjectSpelling.{object_linked}
-use Rattle.ds2_exec.specs.CodeRuns.{StandsAlone}
 use Rattle.ds2_exec.specs.TableReads.{AreTablesRead}
-use Rattle.ds2_exec.proofs.CodeSteps.{built_alone, object_links}
+use Rattle.ds2_exec.proofs.CodeSteps.{grains_fit, object_links}
 use Rattle.ds2_exec.proofs.ExecSteps.{inputs_are, inputs_differ, object_is, object_then, object_unnamed, object_unread, outputs_not_there, outputs_there}
 use Rattle.ds2_exec.proofs.object_run.run_object.Goals as goal
 
@@ -14,8 +12,8 @@ read_tables-requires g c = record {
       (c.as_slice.ensures ∙ inputs_are c.as_slice-codes.result.now c.as_slice-references.result.now c.in_ok-names.names (c.as_slice-references.ensures ∙ c.in_ok-named.ensures) c.in_ok-names.ensures);
 }
 
-pub run_programs-requires-clause-alone : goal.run_programs-requires-clause-alone
-run_programs-requires-clause-alone g c = subst (λ (cs : List StagedParts). AllByRecursion StandsAlone cs) (sym (c.as_slice-codes.ensures ∙ c.programs.ensures.value)) (built_alone c.args.object.now c.requires.built)
+pub run_programs-requires-clause-fit : goal.run_programs-requires-clause-fit
+run_programs-requires-clause-fit g c = grains_fit c.as_slice-codes.result.now
 
 pub run_programs-requires-clause-linked : goal.run_programs-requires-clause-linked
 run_programs-requires-clause-linked g c =

@@ -11,13 +11,14 @@ use Rattle.ds2_top.proofs.compiling.compile_over.Goals as goal
 
 pub returns-in-Ok-clause-loads : goal.returns-in-Ok-clause-loads
 returns-in-Ok-clause-loads c = λ told.
-    compiled_over (columns_stored c.in_ok-schemas.schemas.tables) (source_tree c.args.tree.now) c.args.stored c.requires.domain
+    compiled_over (columns_stored c.in_ok-schemas.schemas.tables) (source_tree c.args.tree.now) c.args.stored
     (c.in_ok-schemas.ensures ∙ ap (λ (ts : List NamedTable). columns_held (held_from_store ts)) c.as_slice.ensures)
-    (record { object = c.in-Ok.compiled.object; stored = c.args.stored }) refl c.in-Ok.compiled refl c.in-Ok.ensures c.args.log.now told
+    c.verdict_grains_fit.ensures c.independent_code_gives_stages.ensures c.programs_have_verdicts.ensures
+    (record { object = c.in-Ok.compiled.object; verdicts = c.in-Ok.compiled.verdicts; stored = c.args.stored }) refl c.in-Ok.compiled refl refl c.in-Ok.ensures c.args.log.now told
 
 pub returns-in-Err-Refused-clause-loads : goal.returns-in-Err-Refused-clause-loads
 returns-in-Err-Refused-clause-loads c = λ told.
-    refused_over (columns_stored c.in_ok-schemas.schemas.tables) (source_tree c.args.tree.now) c.args.stored c.requires.domain
+    refused_over (columns_stored c.in_ok-schemas.schemas.tables) (source_tree c.args.tree.now) c.args.stored
     (c.in_ok-schemas.ensures ∙ ap (λ (ts : List NamedTable). columns_held (held_from_store ts)) c.as_slice.ensures)
     c.in-Err-Refused.refusal c.in-Err-Refused.field-0 c.args.log.now c.refuse.new.log c.refuse.result c.in-Err-Refused.field-0-is c.in-Err-Refused.ensures c.refuse.ensures told
 

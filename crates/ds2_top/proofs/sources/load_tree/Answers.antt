@@ -1,10 +1,7 @@
-use Rattle.std.proofs.Common.{◌∙◌, refl, sym}
+use Rattle.std.proofs.Common.{refl}
 use Rattle.ds2_compile.specs.UnitViews.{source_tree}
 use Rattle.ds2_top.proofs.LoadSteps.{tree_built, tree_unbuilt}
 use Rattle.ds2_top.proofs.sources.load_tree.Goals as goal
-
-pub load_built-requires-clause-domain : goal.load_built-requires-clause-domain
-load_built-requires-clause-domain g c = sym c.is_built_source.ensures.built ∙ c.if-is_built_source.true
 
 pub returns-then-is_built_source-clause-loads : goal.returns-then-is_built_source-clause-loads
 returns-then-is_built_source-clause-loads g c =

@@ -1,22 +1,12 @@
-use Rattle.std.proofs.Common.{List, subst, flat_map, Ok, Err, ◌∙◌}
-use Rattle.ds2_compile.specs.StagedParts.{StagedParts}
-use Rattle.ds2_answer.specs.ObjectPlans.{outputs_of_code}
-use Rattle.ds2_answer.specs.TablePlans.{none_made}
-use Rattle.ds2_exec.specs.OutputAsks.{AsksOutputs}
-use Rattle.ds2_top.proofs.CommandSteps.{run_asked, run_then}
+use Rattle.ds2_top.proofs.CommandSteps.{run_then, run_unstored}
 use Rattle.ds2_top.proofs.storing.run_loaded.Goals as goal
 
-pub returns-in_err-ask_outputs-clause-does : goal.returns-in_err-ask_outputs-clause-does
-returns-in_err-ask_outputs-clause-does g c =
-    run_asked c.codes_do_as_programs.ensures c.args.source.now c.args.budget c.args.loaded.now.object c.args.loaded.now.stored c.args.log.now c.ask_outputs.new.log (g.S.Store.files c.args.store.now) (g.S.Store.files c.ask_outputs.new.store)
-    c.in_err-ask_outputs.field-0.0 c.from_residual.result c.from_residual.ensures.1
-    (subst (λ (codes : List StagedParts). AsksOutputs none_made (flat_map outputs_of_code codes) c.args.log.now (g.S.Store.files c.args.store.now) (Err c.in_err-ask_outputs.field-0.0) c.ask_outputs.new.log (g.S.Store.files c.ask_outputs.new.store))
-    (c.as_slice-codes.ensures ∙ c.programs.ensures.value) c.in_err-ask_outputs.ensures.asks)
+pub returns-in_err-store_new-clause-does : goal.returns-in_err-store_new-clause-does
+returns-in_err-store_new-clause-does g c =
+    run_unstored c.codes_do_as_programs.ensures c.args.source.now c.args.budget c.args.loaded.now c.args.log.now c.store_new.new.log (g.S.Store.files c.args.store.now) (g.S.Store.files c.store_new.new.store)
+    c.in_err-store_new.field-0.0 c.from_residual.result c.from_residual.ensures.1 c.in_err-store_new.ensures.does
 
 pub returns-clause-does : goal.returns-clause-does
 returns-clause-does g c =
-    run_then c.codes_do_as_programs.ensures c.args.source.now c.args.budget c.args.loaded.now.object c.args.loaded.now.stored c.args.log.now c.ask_outputs.new.log c.store_and_run.new.log
-    (g.S.Store.files c.args.store.now) (g.S.Store.files c.ask_outputs.new.store) (g.S.Store.files c.store_and_run.new.store) c.store_and_run.result
-    (subst (λ (codes : List StagedParts). AsksOutputs none_made (flat_map outputs_of_code codes) c.args.log.now (g.S.Store.files c.args.store.now) (Ok tt) c.ask_outputs.new.log (g.S.Store.files c.ask_outputs.new.store))
-    (c.as_slice-codes.ensures ∙ c.programs.ensures.value) c.in_ok-ask_outputs.ensures.asks)
-    c.store_and_run.ensures.does
+    run_then c.codes_do_as_programs.ensures c.args.source.now c.args.budget c.args.loaded.now c.args.log.now c.store_new.new.log c.run_codes.new.log
+    (g.S.Store.files c.args.store.now) (g.S.Store.files c.store_new.new.store) (g.S.Store.files c.run_codes.new.store) c.run_codes.result c.in_ok-store_new.ensures.does c.run_codes.ensures.does

@@ -1,0 +1,43 @@
+-- The grain of a local thread program, and what its groups give there.
+use Rattle.std.proofs.Common.{◌≡◌, ◌∙◌, ℕ, List, [], ◌∷◌, get_or, length, map, Option, sym, ap, subst, arith}
+use Rattle.std.specs.List.{AllByRecursion}
+use Rattle.ds2_table.specs.Table.{Contents, IsTable}
+use Rattle.ds2_code.specs.declared.parts.ProgramParts.{ProgramParts}
+use Rattle.ds2_code.specs.declared.parts.StagedParts.{StagedParts}
+use Rattle.ds2_code_answer.specs.CodeTables.{AreTablesOfCode}
+use Rattle.ds2_group_job.specs.WhateverRan.{AreIndependentStages}
+use Rattle.ds2_locality.specs.declared.locality.Verdict.{Verdict}
+use Rattle.ds2_same_meaning.specs.SameMeaning.{number_of_bys}
+use Rattle.ds2_answer.specs.HeldTables.{HeldTables, tables_held}
+use Rattle.ds2_answer.specs.ObjectPlans.{stage_in_code, stages_of_code}
+use Rattle.ds2_answer.specs.StagesLeft.{VerdictsTold, grain_of_stages, grain_told}
+use Rattle.ds2_exec.specs.LocalCodes.{IsIndependentOver, IsIndependentWhereLocal, IsToldLocal}
+
+-- the one thread program of a list
+pub only_one : (stages : List ProgramParts) (stage : ProgramParts) → length stages ≡ 1 → stage ≡ get_or stages 0 stage → stages ≡ stage ∷ []
+only_one [] stage one is = absurd (omega (arith, one))
+only_one (s ∷ []) stage one is = ap (λ (x : ProgramParts). x ∷ []) (sym is)
+only_one (s ∷ t ∷ stages) stage one is = absurd (omega (arith, one))
+
+-- the grain that is asked for a local thread program is that of its verdict
+local_asked : (told : VerdictsTold) (stages : List ProgramParts) (grain : ℕ) → IsToldLocal told stages grain → grain_of_stages told (map stage_in_code stages) ≡ grain
+local_asked told [] grain is = absurd is
+local_asked told (stage ∷ []) grain is = ap (λ (v : Option Verdict). grain_told v (number_of_bys stage.reading)) is
+local_asked told (stage ∷ next ∷ stages) grain is = absurd is
+
+pub independent_asked : (told : VerdictsTold) (code : StagedParts) (tables : List Contents) (budget grain asked : ℕ) → IsToldLocal told code.stages grain → asked ≡ grain_of_stages told (stages_of_code code)
+    → IsIndependentOver told code tables budget → AreIndependentStages code.program code.stages tables budget asked
+independent_asked told code tables budget grain asked is asked_is independent =
+    subst (λ (g : ℕ). AreIndependentStages code.program code.stages tables budget g) (sym (asked_is ∙ local_asked told code.stages grain is)) (independent grain is)
+
+-- tables that are held are tables of the code over which its thread program is independent
+pub independent_held : (told : VerdictsTold) (code : StagedParts) (held : HeldTables) (tables : List Contents) (budget : ℕ) → tables ≡ tables_held held code → AllByRecursion IsTable tables
+    → AreTablesOfCode code (tables_held held code) → IsIndependentWhereLocal told code → IsIndependentOver told code tables budget
+independent_held told code held tables budget tables_are whole fits independent =
+    subst (λ (ts : List Contents). IsIndependentOver told code ts budget) (sym tables_are)
+    (independent held budget fits (subst (λ (ts : List Contents). AllByRecursion IsTable ts) tables_are whole))
+
+-- the first of the codes that are left, and those behind it
+pub first_local : (told : VerdictsTold) (left after : List StagedParts) (code : StagedParts) → left ≡ code ∷ after → AllByRecursion (IsIndependentWhereLocal told) left
+    → IsIndependentWhereLocal told code × AllByRecursion (IsIndependentWhereLocal told) after
+first_local told left after code is all = subst (λ (cs : List StagedParts). AllByRecursion (IsIndependentWhereLocal told) cs) is all

@@ -1,0 +1,234 @@
+//! The thread program that a program reads from: the grain of its groups, and what the log tells of it behind its end.
+ghost use Rattle.std.specs.Prelude.{◌≡◌, ◌≤◌, ◌++◌, ◌∷◌, None, [], length, map, option_map, IfOk, IfSome, OnOk, Some};
+ghost use Rattle.std.specs.List.{AllByRecursion};
+ghost use Rattle.std.specs.Option.{option_copied};
+ghost use Rattle.ds2_locality.specs.declared.locality.Verdict.TheVariants.{Local};
+ghost use Rattle.ds2_answer.specs.Lines.{count_line, thread_line, verdict_text};
+ghost use Rattle.ds2_answer.specs.ObjectPlans.{stage_in_code};
+ghost use Rattle.ds2_answer.specs.StagesLeft.{grain_of_stages, grain_told, name_of_stage};
+ghost use Rattle.ds2_same_meaning.specs.SameMeaning.{number_of_bys};
+ghost use Rattle.ds2_staged.specs.Threads.{AreGrainsOf};
+ghost use Rattle.ds2_unit.specs.ProgramRun.{grain_asked};
+ghost use Rattle.ds2_verdicts.specs.ThreadVerdicts.{verdict_named};
+ghost use Rattle.ds2_exec.specs.LocalCodes.{IsToldLocal};
+ghost use Rattle.ds2_exec.specs.StageEnds.{GrainFits, stage_noted, stages_counted, stages_noted};
+
+use ds2_answer::lines::{say_count, say_thread, verdict_text};
+use ds2_base::{Bytes, List, OutOfMemory, Text};
+use ds2_code::{ProgramParts, ReadingPart};
+use ds2_unit::StageNote;
+use ds2_verdicts::{ThreadVerdict, Verdict};
+use std::alloc::Global;
+
+/// What is told of a thread program behind its end.
+#[derive(Drop)]
+pub(crate) struct StageEnd {
+    /// Its name.
+    pub(crate) name: Text,
+    /// The text of its verdict, where one is told.
+    pub(crate) verdict: Option<Text>,
+    /// How many groups its loads made.
+    pub(crate) groups: u64,
+    /// How many instructions its units executed.
+    pub(crate) executed: u128,
+}
+
+// The name of a thread program.
+fn name_of(stage: &ProgramParts) -> &str
+    ensures { result.now ≡ name_of_stage stage.now.name }
+{
+    match &stage.name {
+        None => "",
+        Some(name) => name.as_str(),
+    }
+}
+
+// The verdict on the thread program of a name, where one is told.
+fn verdict_named<'v>(verdicts: &'v [ThreadVerdict], name: &str) -> Option<&'v Verdict>
+    ensures { option_copied result ≡ verdict_named verdicts.now name.now }
+{
+    'verdicts: for verdict in verdicts {
+        if verdict.name.as_str() == name {
+            return Some(&verdict.verdict);
+        }
+    }
+    None
+}
+
+// ---- grains
+
+// How many BY variables a reading has.
+fn number_of_bys(reading: &ReadingPart) -> usize
+    ensures { result ≡ number_of_bys reading.now }
+{
+    match reading {
+        ReadingPart::Set { bys, .. } => bys.len(),
+        ReadingPart::Merge { bys, .. } => bys.len(),
+        ReadingPart::Stage { .. } => 0,
+        ReadingPart::Once => 0,
+        ReadingPart::Nothing => 0,
+    }
+}
+
+// The coarsest grain over so many BY variables.
+fn coarsest(bys: usize) -> u32
+    ensures { result ≡ grain_told None bys }
+{
+    if bys == 0 { 0 } else { 1 }
+}
+
+// The grain of a thread program on which this verdict is told, or none.
+fn grain_told(verdict: Option<&Verdict>, bys: usize) -> u32
+    ensures { result ≡ grain_told (option_copied verdict.entry) bys }
+{
+    match verdict {
+        None => coarsest(bys),
+        Some(Verdict::Local { grain }) => *grain,
+        Some(Verdict::NotLocal { .. }) => coarsest(bys),
+    }
+}
+
+// The grain of a thread program.
+fn grain_of(stage: &ProgramParts, verdicts: &[ThreadVerdict]) -> u32
+    ensures { result ≡ grain_told (verdict_named verdicts.now (name_of_stage stage.now.name)) (number_of_bys stage.now.reading) }
+{
+    let verdict = verdict_named(verdicts, name_of(stage));
+    grain_told(verdict, number_of_bys(&stage.reading))
+}
+
+// One number, as a list.
+fn one_grain(alloc: Global, grain: u32) -> Result<List<u32>, OutOfMemory>
+    ensures { IfOk result (λ grains. grains ≡ grain ∷ []) }
+{
+    let mut grains = List::new(alloc);
+    grains.push(grain)?;
+    Ok(grains)
+}
+
+/// The grain of the thread program that a program reads from, where it reads from one.
+pub(crate) fn grains_of(
+    alloc: Global,
+    stages: &[ProgramParts],
+    verdicts: &[ThreadVerdict],
+) -> Result<List<u32>, OutOfMemory>
+    requires few { length stages.now ≤ 1 }
+    requires fit { AllByRecursion (GrainFits (verdict_named verdicts.now)) stages.now }
+    ensures fit { IfOk result (λ grains. AreGrainsOf stages.now grains) }
+    ensures asked { IfOk result (λ grains. grain_asked grains ≡ grain_of_stages (verdict_named verdicts.now) (map stage_in_code stages.now)) }
+{
+    match stages {
+        [] => Ok(List::new(alloc)),
+        [stage, ..] => one_grain(alloc, grain_of(stage, verdicts)),
+    }
+}
+
+// ---- the grain of a local thread program
+
+// The grain of a verdict that says that a thread program is local.
+fn local_by(verdict: Option<&Verdict>) -> Option<u32>
+    ensures { IfSome result (λ grain. option_copied verdict.entry ≡ Some (Local grain)) }
+{
+    match verdict {
+        Some(Verdict::Local { grain }) => Some(*grain),
+        Some(Verdict::NotLocal { .. }) => None,
+        None => None,
+    }
+}
+
+/// The grain of the one thread program that a program reads from, where its verdict says that it is local.
+pub(crate) fn local_grain(stages: &[ProgramParts], verdicts: &[ThreadVerdict]) -> Option<u32>
+    ensures { IfSome result (λ grain. IsToldLocal (verdict_named verdicts.now) stages.now grain) }
+{
+    match stages {
+        [stage] => local_by(verdict_named(verdicts, name_of(stage))),
+        _ => None,
+    }
+}
+
+// ---- the end of a thread program
+
+// The text of a verdict, where one is told.
+fn text_told(alloc: Global, verdict: Option<&Verdict>) -> Result<Option<Text>, OutOfMemory>
+    ensures { IfOk result (λ text. text ≡ option_map verdict_text (option_copied verdict.entry)) }
+{
+    match verdict {
+        None => Ok(None),
+        Some(verdict) => Ok(Some(verdict_text(alloc, verdict)?)),
+    }
+}
+
+// What is told of a thread program with this note.
+fn stage_end(
+    alloc: Global,
+    stage: &ProgramParts,
+    verdicts: &[ThreadVerdict],
+    note: &StageNote,
+) -> Result<StageEnd, OutOfMemory>
+    ensures { IfOk result (λ end. end ≡ stage_noted (verdict_named verdicts.now) stage.now note.now) }
+{
+    let name = name_of(stage);
+    let verdict = text_told(alloc, verdict_named(verdicts, name))?;
+    Ok(StageEnd {
+        name: Text::of(alloc, name)?,
+        verdict,
+        groups: note.groups,
+        executed: note.executed,
+    })
+}
+
+// What is told of a thread program with the first of these notes, where there is one.
+#[tactic(auto, using(crate::proofs::StageSteps::noted_with, crate::proofs::StageSteps::noted_without))]
+fn noted_end(
+    alloc: Global,
+    stage: &ProgramParts,
+    verdicts: &[ThreadVerdict],
+    notes: &[StageNote],
+) -> Result<List<StageEnd>, OutOfMemory>
+    ensures { IfOk result (λ ends. ends ≡ stages_noted (verdict_named verdicts.now) (stage.now ∷ []) notes.now) }
+{
+    let mut ends = List::new(alloc);
+    let [note, ..] = notes else {
+        return Ok(ends);
+    };
+    ends.push(stage_end(alloc, stage, verdicts, note)?)?;
+    Ok(ends)
+}
+
+/// What is told of the thread program that a program has read from, where it has read from one.
+pub(crate) fn stage_ends(
+    alloc: Global,
+    stages: &[ProgramParts],
+    verdicts: &[ThreadVerdict],
+    notes: &[StageNote],
+) -> Result<List<StageEnd>, OutOfMemory>
+    ensures { IfOk result (λ ends. ends ≡ stages_noted (verdict_named verdicts.now) stages.now notes.now) }
+{
+    match stages {
+        [] => Ok(List::new(alloc)),
+        [stage, ..] => noted_end(alloc, stage, verdicts, notes),
+    }
+}
+
+// Counts the groups and the instructions of a thread program in the log.
+fn count_stage(alloc: Global, stage: &StageEnd, log: &mut Bytes) -> Result<(), OutOfMemory>
+    ensures { OnOk result (log.new ≡ log.old ++ (thread_line stage.now.name stage.now.verdict stage.now.groups ++ count_line stage.now.executed)) }
+{
+    say_thread(alloc, &stage.name, &stage.verdict, stage.groups, log)?;
+    say_count(alloc, stage.executed, log)
+}
+
+/// Counts the groups and the instructions of thread programs in the log.
+pub(crate) fn count_stages(
+    alloc: Global,
+    stages: &[StageEnd],
+    log: &mut Bytes,
+) -> Result<(), OutOfMemory>
+    ensures { OnOk result (log.new ≡ log.old ++ stages_counted stages.now) }
+{
+    let mut left = stages;
+    'stages: while let [stage, after @ ..] = left {
+        count_stage(alloc, stage, log)?;
+        left = after;
+    }
+    Ok(())
+}

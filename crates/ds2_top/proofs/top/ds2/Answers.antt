@@ -1,0 +1,7 @@
+use Rattle.ds2_top.proofs.Promises.{end_headline}
+use Rattle.ds2_top.proofs.top.ds2.Goals as goal
+
+pub returns : goal.returns
+returns g c =
+    end_headline c.sources_are_read.ensures c.args.words.now _ _ c.report_end.result c.new-text.result c.run_with-ran.new.log c.run_with-ran.result c.new-text.ensures c.run_with-ran.ensures.read c.run_with-ran.ensures.write
+    (c.run_with-ran.ensures.does c.sources_are_read.ensures) c.report_end.ensures
