@@ -4,7 +4,8 @@
 #
 # usage: bench/instructions.sh [PROGRAM]
 #
-# Needs Python 3 and valgrind. Prints a line for each job of JOBS (all four where it is not set); a row of `merge` is one of its first table, a row of `billing` an order. With a folder's name in KEEP the profiles stay there.
+# Needs Python 3 and valgrind. Prints a line for each job of JOBS (all of them where it is not set); a row of `merge` is one of its first table, a row of `billing` an order. With a folder's name in KEEP the profiles stay there.
+# The thread programs of `totals` and `totals50k` run on THREADS workers, one where it is not set; the instructions of all of them count.
 set -eu
 
 top=$(cd "$(dirname "$0")/.." && pwd)
@@ -22,11 +23,11 @@ count() { # JOB ROWS
     mkdir "$folder"
     python3 "$top/bench/jobs/$1/gen.py" "$2" "$folder"
     cp "$top/bench/jobs/$1/job.ds2" "$folder"
-    (cd "$folder" && valgrind --tool=callgrind --callgrind-out-file="$keep/$1-$2.callgrind" "$program" run job.ds2 >log 2>said)
+    (cd "$folder" && valgrind --tool=callgrind --callgrind-out-file="$keep/$1-$2.callgrind" "$program" run job.ds2 --threads "${THREADS:-1}" >log 2>said)
     sed -n 's/^==.*Collected : //p' "$folder/said"
 }
 
-for job in ${JOBS:-first arith merge billing}; do
+for job in ${JOBS:-first arith merge billing totals totals50k}; do
     few=$(count "$job" 10000)
     many=$(count "$job" 60000)
     echo "$job: $(((many - few) / 50000)) instructions a row"

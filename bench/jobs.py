@@ -1,11 +1,12 @@
 #!/usr/bin/env python3
 """Times ds2 beside what its users would pick instead, in one interleaved run.
 
-usage: bench/jobs.py --product crates/ds2/out/ds2 [--jobs first arith merge billing] [--size S M L] [--runs 5] [--json FILE] [--md]
+usage: bench/jobs.py --product crates/ds2/out/ds2 [--jobs first arith merge billing totals totals50k] [--size S M L] [--threads 1,2,4] [--runs 5] [--json FILE] [--md]
 
 A folder of jobs/ has the source, a generator of its tables with a fixed seed, the commands (job.json) and the programs of the
-peers: mawk, gawk, miller, Python, pandas, sqlite3, R's data.table and, for `merge`, sort and join, those that are found here. limits/ has the same job in C, and
-`cat` copies the bytes of the input. S is 10,000 rows, M 200,000, L 1,000,000. Each tool has a folder of its own; it runs once to
+peers: mawk, gawk, miller, Python, pandas, sqlite3, R's data.table, for `merge` sort and join, and for the totals datamash, those that are found here. limits/ has
+the same job in C, and `cat` copies the bytes of the input. The product runs a job with a thread program, `totals` (40 regions) and `totals50k` (50,000), once for
+each number of --threads. S is 10,000 rows, M 200,000, L 1,000,000. Each tool has a folder of its own; it runs once to
 compare its rows with those of the Python program, and then once in each round, which begins with another tool each time. Columns:
 median and least wall seconds, median user seconds and peak MB, times the fastest peer (`*`) and the C program, nanoseconds a row.
 It ends with 1 where the product gave wrong rows. Needs Python 3 and gcc.
@@ -14,7 +15,7 @@ import argparse, csv, hashlib, json, os, platform, shutil, signal, statistics, s
 
 HERE = os.path.dirname(os.path.abspath(__file__))
 ROWS = {'tiny': 300, 'S': 10_000, 'M': 200_000, 'L': 1_000_000}
-ORDER = ['first', 'arith', 'merge', 'billing']
+ORDER = ['first', 'arith', 'merge', 'billing', 'totals', 'totals50k']
 LIMITS = ('C -O3', 'cat')
 PYTHON = '/usr/bin/python3' if os.path.exists('/usr/bin/python3') else sys.executable   # the python that is measured
 ENV = {**os.environ, 'LC_ALL': 'C', 'TZ': 'UTC'}
