@@ -1,5 +1,4 @@
 //! The schemas of tables.
-ghost use Rattle.std.specs.Prelude.{◌≡◌};
 ghost use Rattle.ds2_elaboration.specs.TypedPrograms.{HaveSchemas};
 ghost use Rattle.ds2_names.specs.SourceUnit.{columns_stored};
 

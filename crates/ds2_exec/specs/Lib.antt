@@ -8,6 +8,7 @@ pub mod CodeReferences
 pub mod CodeRuns
 pub mod StageEnds
 pub mod LocalCodes
+pub mod Workers
 pub mod VerdictGrains
 pub mod OutputSinks
 pub mod ExecOutcomes

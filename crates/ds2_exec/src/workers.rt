@@ -19,6 +19,7 @@ ghost use Rattle.ds2_exec.specs.CodeRuns.{AreLinked};
 ghost use Rattle.ds2_exec.specs.LocalCodes.{IsIndependentOver, IsIndependentWhereLocal};
 ghost use Rattle.ds2_exec.specs.OutputSinks.{HaveKept, IsCodeEnd};
 ghost use Rattle.ds2_exec.specs.StageEnds.{GrainsFit};
+ghost use Rattle.ds2_exec.specs.Workers.{threads_of_reading, within_workers, workers_given};
 
 use crate::Halt;
 use crate::kept::KeptTable;
@@ -45,20 +46,39 @@ use std::thread::Threads;
 /// The most workers of a thread program.
 const MOST_WORKERS: u32 = 64;
 
-// How many workers the code of a program asks for: those of its reading statement, where it reads from a thread program.
-fn threads_asked(program: &ProgramParts) -> u32 {
+// How many threads the source of a program asks for, where it reads from a thread program.
+fn threads_asked(program: &ProgramParts) -> u32
+    ensures { result ≡ threads_of_reading program.now.reading }
+{
     match &program.reading {
         ReadingPart::Stage { threads, .. } => u32::from(*threads),
         _ => 1,
     }
 }
 
-// How many workers the thread program of a program gets: as many as are asked for, or else as many as its code asks for, within the bounds.
-fn workers_of(program: &ProgramParts, threads: Option<u32>) -> u32
-    ensures { (1 ≤ result) × (result ≤ 64) }
+// So many workers, within the bounds.
+fn within_workers(asked: u32) -> u32
+    ensures { result ≡ within_workers asked }
 {
-    let asked = threads.unwrap_or(threads_asked(program));
-    asked.max(1).min(MOST_WORKERS)
+    if asked < 1 {
+        1
+    } else if asked > MOST_WORKERS {
+        MOST_WORKERS
+    } else {
+        asked
+    }
+}
+
+// How many workers the thread program of a program gets.
+fn workers_of(program: &ProgramParts, threads: Option<u32>) -> u32
+    ensures given { result ≡ workers_given threads program.now.reading }
+    ensures within { (1 ≤ result) × (result ≤ 64) }
+{
+    let asked = match threads {
+        None => threads_asked(program),
+        Some(workers) => workers,
+    };
+    within_workers(asked)
 }
 
 // ---- one program

@@ -1,6 +1,5 @@
 //! The groups of a thread program as a job.
-ghost use Rattle.std.specs.Prelude.{◌≡◌, ◌≤◌, false, IfOk, map, List as Items};
-ghost use Rattle.ds2_value.specs.Row.{Row as RowOf};
+ghost use Rattle.std.specs.Prelude.{◌≡◌, ◌≤◌, false, IfOk};
 ghost use Rattle.ds2_machine.specs.AtRest.{staged_program};
 ghost use Rattle.ds2_machine.specs.declared.machine.TheConstants.{MOST_BUDGET};
 ghost use Rattle.ds2_scales.specs.Scales.{IsDataScaled};

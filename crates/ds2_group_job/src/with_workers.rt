@@ -17,10 +17,8 @@ use ds2_loads::{TableRows, loaded_hashes};
 use ds2_machine::{Machine, UnitSink};
 use ds2_outside::Gate;
 use ds2_reading::Tables;
-use ds2_staged::{
-    ended_at_init, ended_behind, first_grain, run_into, run_rows, sinks_of, tables_behind,
-};
-use ds2_unit::{ProgramEnd, RunEnd};
+use ds2_staged::{ended_at_init, ended_behind, first_grain, run_into, run_rows, tables_behind};
+use ds2_unit::{ProgramEnd, RunEnd, sinks_of};
 use ds2_valid_code::ProgramCode;
 use std::alloc::Global;
 use std::sync::Wait;

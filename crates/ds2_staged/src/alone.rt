@@ -1,26 +1,23 @@
 //! A program, with what it reads from, on one thread.
-ghost use Rattle.std.specs.Prelude.{◌≡◌, ◌≤◌, [], ◌∷◌, map, IfOk};
+ghost use Rattle.std.specs.Prelude.{◌≡◌, ◌≤◌, [], ◌∷◌, IfOk};
 ghost use Rattle.ds2_machine.specs.declared.machine.TheConstants.{MOST_BUDGET};
 ghost use Rattle.ds2_code_answer.specs.CodeAnswer.{code_answer};
 ghost use Rattle.ds2_code_answer.specs.CodeTables.{AreTablesOfCode};
-ghost use Rattle.ds2_unit.specs.Outputs.{table_of_output};
 ghost use Rattle.ds2_unit.specs.ProgramRun.{IsRunEnd, grain_asked};
 ghost use Rattle.ds2_unit.specs.AloneEnd.{IsProgramEnd};
 ghost use Rattle.ds2_staged.specs.Threads.{AreGrainsOf};
 
 use crate::grains::first_grain;
 use crate::one_thread::OneThread;
-use crate::output_tables::empty_tables;
 use crate::reader::run_reader;
 use crate::thread::tables_behind;
 use ds2_base::{List, OutOfMemory};
-use ds2_code::{OutputPart, ProgramParts};
+use ds2_code::ProgramParts;
 use ds2_code_answer::laws::readings_fit_tables;
 use ds2_loads::loaded_hashes;
 use ds2_machine::UnitSink;
 use ds2_reading::Tables;
-use ds2_table::Table;
-use ds2_unit::{OutputSinks, ProgramEnd, RunEnd};
+use ds2_unit::{ProgramEnd, RunEnd, sinks_of};
 use ds2_valid_code::ProgramCode;
 use std::alloc::Global;
 
@@ -134,20 +131,5 @@ pub fn run_alone(
         ending: end.ending,
         executed: end.executed,
         stages: end.stages,
-    })
-}
-
-/// A table for each output of a program, and no lines yet.
-pub fn sinks_of(alloc: Global, code: &ProgramCode) -> Result<OutputSinks<Table>, OutOfMemory>
-    ensures tables { IfOk result (λ sinks. sinks.outputs.items ≡ map (λ (output : OutputPart). table_of_output code.now.program.slots output []) code.now.program.outputs) }
-    ensures lines { IfOk result (λ sinks. sinks.lines ≡ []) }
-{
-    let parts = code.parts();
-    let slots = parts.program.slots.as_slice();
-    let outputs = parts.program.outputs.as_slice();
-    let tables = empty_tables(alloc, slots, outputs)?;
-    Ok(OutputSinks {
-        outputs: tables.into_vec(),
-        lines: List::new(alloc),
     })
 }

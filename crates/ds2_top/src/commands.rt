@@ -2,7 +2,6 @@
 ghost use Rattle.std.specs.Prelude.{◌≡◌, ◌≤◌, ◌++◌, IsTrue, OnOk, Some};
 ghost use Rattle.ds2_compile.specs.AnswersOfTexts.{SourcesRead};
 ghost use Rattle.ds2_answer.specs.CommandLines.{budget_on_line, command_line_of};
-ghost use Rattle.ds2_answer.specs.SourcePlans.{compile_programs_of};
 ghost use Rattle.ds2_answer.specs.Words.{is_source};
 ghost use Rattle.ds2_answer.specs.declared.words.TheConstants.{MOST_BUDGET};
 ghost use Rattle.ds2_exec.specs.Halts.{CausedBy};

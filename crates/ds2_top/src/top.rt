@@ -1,5 +1,4 @@
 //! The top call.
-ghost use Rattle.std.specs.Prelude.{◌≡◌};
 ghost use Rattle.ds2_top.specs.Headline.{Headline};
 
 use crate::commands::run;

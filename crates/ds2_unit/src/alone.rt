@@ -79,8 +79,8 @@ pub fn run_alone(
     })
 }
 
-// A table for each output of a program, and no lines yet.
-fn sinks_of(alloc: Global, code: &ProgramCode) -> Result<OutputSinks<Table>, OutOfMemory>
+/// A table for each output of a program, and no lines yet.
+pub fn sinks_of(alloc: Global, code: &ProgramCode) -> Result<OutputSinks<Table>, OutOfMemory>
     ensures tables { IfOk result (λ sinks. sinks.outputs.items ≡ map (λ (output : OutputPart). table_of_output code.now.program.slots output []) code.now.program.outputs) }
     ensures lines { IfOk result (λ sinks. sinks.lines ≡ []) }
 {

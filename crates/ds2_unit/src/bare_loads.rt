@@ -1,5 +1,4 @@
 //! Loads that set nothing.
-ghost use Rattle.std.specs.Prelude.{◌≡◌};
 
 use crate::source::LoadSource;
 use ds2_base::{List, OutOfMemory};

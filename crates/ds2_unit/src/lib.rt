@@ -24,6 +24,6 @@ mod table_sink;
 mod units;
 mod units_end;
 
-pub use alone::{run_alone, run_into};
+pub use alone::{run_alone, run_into, sinks_of};
 pub use output_sinks::{OutputSinks, RowSink};
 pub use program_end::{ProgramEnd, RunEnd, StageNote};
