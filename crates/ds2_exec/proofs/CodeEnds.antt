@@ -1,10 +1,9 @@
 -- From the end of a run to what its code leaves.
-use Rattle.std.proofs.Common.{◌≡◌, ◌≤◌, ◌++◌, ◌∙◌, IfOk, ℕ, Bool, List, [], ◌∷◌, length, map, Result, Ok, Err, sym, ap, subst}
-use Rattle.std.specs.List.{AllByRecursion}
+use Rattle.std.proofs.Common.{◌≡◌, ◌≤◌, ◌++◌, ◌∙◌, IfOk, ℕ, Bool, List, [], length, map, Result, Ok, Err, sym, ap, subst}
 use Rattle.std.proofs.lemmas.List.{append-nil}
 use Rattle.ds2_value.specs.Run.{Written}
 use Rattle.ds2_table.specs.OneThread.{Answer}
-use Rattle.ds2_table.specs.Table.{Contents, IsTable}
+use Rattle.ds2_table.specs.Table.{Contents}
 use Rattle.ds2_code.specs.declared.parts.ProgramParts.{ProgramParts}
 use Rattle.ds2_code.specs.declared.parts.StagedParts.{StagedParts}
 use Rattle.ds2_code_answer.specs.CodeAnswer.{code_answer, code_opening}
@@ -56,15 +55,3 @@ module _ (keeps : List ℕ → Bool) (told : VerdictsTold) (staged : StagedParts
   pub run_left : {E : Type 0} (result : Result CodeEnd E) → IfOk result (λ left. left ≡ left_by_run told threads now end) → IfOk result (λ left. IsCodeEnd keeps told staged done left)
   run_left (Ok left) is = subst (λ (l : CodeEnd). IsCodeEnd keeps told staged done l) (sym is) left_so
   run_left (Err e) is = is
-
--- ---- tables one behind the other
-
-pub none_whole : (tables : List Contents) → tables ≡ [] → AllByRecursion IsTable tables
-none_whole tables none = subst (λ (ts : List Contents). AllByRecursion IsTable ts) (sym none) tt
-
-whole_behind : (tables : List Contents) (table : Contents) → AllByRecursion IsTable tables → IsTable table → AllByRecursion IsTable (tables ++ table ∷ [])
-whole_behind [] table all is = (is, tt)
-whole_behind (t ∷ tables) table (first, all) is = (first, whole_behind tables table all is)
-
-pub another_whole : (tables behind : List Contents) (table : Contents) → AllByRecursion IsTable tables → IsTable table → behind ≡ tables ++ table ∷ [] → AllByRecursion IsTable behind
-another_whole tables behind table all is behind_is = subst (λ (ts : List Contents). AllByRecursion IsTable ts) (sym behind_is) (whole_behind tables table all is)

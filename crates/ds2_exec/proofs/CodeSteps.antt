@@ -33,14 +33,14 @@ use Rattle.ds2_answer.specs.ObjectPlans.{answer_over, first_referred, known_too,
 use Rattle.ds2_answer.specs.ProgramPlans.{ProgramLeft}
 use Rattle.ds2_answer.specs.StagesLeft.{VerdictsTold}
 use Rattle.ds2_answer.specs.TablePlans.{are_columns_named, are_columns_of, none_made, same_columns}
-use Rattle.ds2_exec.specs.CodeReferences.{IsKeptName, known_behind_references}
+use Rattle.ds2_store_steps.specs.CodeReferences.{IsKeptName, known_behind_references}
 use Rattle.ds2_exec.specs.CodeRuns.{AreLinked, HasColumnsStored}
 use Rattle.ds2_exec.specs.OutputSinks.{HaveKept}
 use Rattle.ds2_exec.specs.StageEnds.{GrainFits, GrainsFit}
 use Rattle.ds2_stage_loads.specs.Grains.{IsGrainOf, IsGrainOfReading}
 use Rattle.ds2_verdicts.specs.ThreadVerdicts.{verdict_named}
-use Rattle.ds2_exec.specs.TableReads.{AreTablesRead, HasColumnsNamed, names_read}
-use Rattle.ds2_exec.proofs.ReferenceSteps.{both_hold}
+use Rattle.ds2_store_steps.specs.TableReads.{AreTablesRead, HasColumnsNamed, names_read}
+use Rattle.ds2_store_steps.proofs.ReferenceSteps.{both_hold}
 
 -- ---- types and columns
 

@@ -14,17 +14,17 @@ use Rattle.ds2_answer.specs.Plan.{Plan, Stops}
 use Rattle.ds2_answer.specs.ProgramPlans.{programs_plan}
 use Rattle.ds2_answer.specs.StagesLeft.{no_verdict}
 use Rattle.ds2_answer.specs.TablePlans.{Presence, none_made, present_in, read_tables}
-use Rattle.ds2_exec.specs.declared.halt.Halt.{Halt}
-use Rattle.ds2_exec.specs.declared.halt.Halt.TheVariants.{Ended, OutOfMemory}
+use Rattle.ds2_store_steps.specs.declared.halt.Halt.{Halt}
+use Rattle.ds2_store_steps.specs.declared.halt.Halt.TheVariants.{Ended, OutOfMemory}
 use Rattle.ds2_exec.specs.declared.object_run.ExecEnd.{ExecEnd}
 use Rattle.ds2_exec.specs.ExecOutcomes.{ExecutesPlan, OverStore}
-use Rattle.ds2_exec.specs.Halts.{FollowsAll, HaltsPlan, LeadsOn}
-use Rattle.ds2_exec.specs.OutputAsks.{AsksOutputs, OverAnswers}
-use Rattle.ds2_exec.specs.PlanOutcomes.{CameOfPlan, CutShort}
-use Rattle.ds2_exec.specs.TableReads.{DifferAll, DifferFrom, ReadsTables, files_read_then}
-use Rattle.ds2_exec.proofs.Leading.{does_on, leads_none, leads_read, no_memory}
-use Rattle.ds2_exec.proofs.FileSteps.{over_all}
-use Rattle.ds2_exec.proofs.OutputSteps.{answers_all}
+use Rattle.ds2_store_steps.specs.Halts.{FollowsAll, HaltsPlan, LeadsOn}
+use Rattle.ds2_store_steps.specs.OutputAsks.{AsksOutputs, OverAnswers}
+use Rattle.ds2_store_steps.specs.PlanOutcomes.{CameOfPlan, CutShort}
+use Rattle.ds2_store_steps.specs.TableReads.{DifferAll, DifferFrom, ReadsTables, files_read_then}
+use Rattle.ds2_store_steps.proofs.Leading.{does_on, leads_none, leads_read, no_memory}
+use Rattle.ds2_store_steps.proofs.FileSteps.{over_all}
+use Rattle.ds2_store_steps.proofs.OutputSteps.{answers_all}
 
 -- ---- the names of the tables that an object reads differ
 

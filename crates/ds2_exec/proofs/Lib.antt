@@ -1,8 +1,3 @@
-pub mod Leading
-pub mod FileSteps
-pub mod TableSteps
-pub mod OutputSteps
-pub mod ReferenceSteps
 pub mod CodeSteps
 pub mod SinkSteps
 pub mod StageSteps

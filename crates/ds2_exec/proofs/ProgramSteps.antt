@@ -23,17 +23,17 @@ use Rattle.ds2_answer.specs.ObjectPlans.{answer_over, run_of_code, stages_of_cod
 use Rattle.ds2_answer.specs.Plan.{Plan, Logs, WritesFile, each_in_turn}
 use Rattle.ds2_answer.specs.ProgramPlans.{ProgramLeft, count_rows_then, count_stage_then, end_then, program_then, put_then, write_then}
 use Rattle.ds2_answer.specs.StagesLeft.{VerdictsTold, grain_of_stages}
-use Rattle.ds2_exec.specs.declared.halt.Halt.{Halt}
-use Rattle.ds2_exec.specs.declared.halt.Halt.TheVariants.{OutOfMemory}
+use Rattle.ds2_store_steps.specs.declared.halt.Halt.{Halt}
+use Rattle.ds2_store_steps.specs.declared.halt.Halt.TheVariants.{OutOfMemory}
 use Rattle.ds2_exec.specs.declared.output_sink.OutputSink.{OutputSink}
 use Rattle.ds2_exec.specs.declared.programs.CodeEnd.{CodeEnd}
 use Rattle.ds2_exec.specs.declared.stages.StageEnd.{StageEnd}
 use Rattle.ds2_exec.specs.CodeRuns.{rows_counted}
 use Rattle.ds2_exec.specs.StageEnds.{count_end_then, stage_told, stages_counted}
-use Rattle.ds2_exec.specs.Halts.{Follows, HaltsPlan, LeadsOn, StopsAs}
+use Rattle.ds2_store_steps.specs.Halts.{Follows, HaltsPlan, LeadsOn, StopsAs}
 use Rattle.ds2_exec.specs.OutputSinks.{HaveKept, IsCodeEnd, code_end_then, count_sink_then, kept_before, sink_ended, sinks_then, tables_kept, write_sink_then}
-use Rattle.ds2_exec.proofs.Leading.{does_on, halts_with, leads_none, leads_say, no_memory}
-use Rattle.ds2_exec.proofs.FileSteps.{line_ends}
+use Rattle.ds2_store_steps.proofs.Leading.{does_on, halts_with, leads_none, leads_say, no_memory}
+use Rattle.ds2_store_steps.proofs.FileSteps.{line_ends}
 
 -- ---- tables of which rows are kept
 

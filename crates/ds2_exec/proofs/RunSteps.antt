@@ -14,15 +14,15 @@ use Rattle.ds2_answer.specs.ObjectPlans.{left_by_code, references_of, run_of_cod
 use Rattle.ds2_answer.specs.Plan.{Plan, Stops}
 use Rattle.ds2_answer.specs.ProgramPlans.{ProgramLeft, program_then, programs_plan}
 use Rattle.ds2_answer.specs.StagesLeft.{VerdictsTold, grain_of_stages}
-use Rattle.ds2_exec.specs.declared.halt.Halt.{Halt}
-use Rattle.ds2_exec.specs.declared.halt.Halt.TheVariants.{OutOfMemory}
-use Rattle.ds2_exec.specs.CodeReferences.{IsKeptName}
+use Rattle.ds2_store_steps.specs.declared.halt.Halt.{Halt}
+use Rattle.ds2_store_steps.specs.declared.halt.Halt.TheVariants.{OutOfMemory}
+use Rattle.ds2_store_steps.specs.CodeReferences.{IsKeptName}
 use Rattle.ds2_exec.specs.CodeRuns.{AreLinked}
-use Rattle.ds2_exec.specs.Halts.{Follows, FollowsAll, HaltsPlan, LeadsOn}
+use Rattle.ds2_store_steps.specs.Halts.{Follows, FollowsAll, HaltsPlan, LeadsOn}
 use Rattle.ds2_exec.specs.OutputSinks.{HaveKept}
 use Rattle.ds2_exec.specs.StageEnds.{GrainsFit}
 use Rattle.ds2_exec.proofs.CodeSteps.{RunsLeft, code_makes, next_runs, next_tables, others_run, runs_begin}
-use Rattle.ds2_exec.proofs.Leading.{does_on, halts_with, leads_none, no_memory}
+use Rattle.ds2_store_steps.proofs.Leading.{does_on, halts_with, leads_none, no_memory}
 
 -- tables as they are held
 abbrev pub held_with : List NamedTable → List (List NamedTable) → HeldTables

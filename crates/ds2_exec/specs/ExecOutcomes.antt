@@ -5,7 +5,7 @@ use Rattle.ds2_answer.specs.declared.status.Status.{Status}
 use Rattle.ds2_answer.specs.Plan.{Plan}
 use Rattle.ds2_answer.specs.TablePlans.{Presence, present_in}
 use Rattle.ds2_exec.specs.declared.object_run.ExecEnd.{ExecEnd}
-use Rattle.ds2_exec.specs.PlanOutcomes.{CameOfPlan, CutShort}
+use Rattle.ds2_store_steps.specs.PlanOutcomes.{CameOfPlan, CutShort}
 
 -- some files, and answers to the question whether a file is there, which are those of the store where it tells its files
 pub record OverStore (told : Option Files) (P : Files → Presence → Type 0) : Type 0 where

@@ -3,18 +3,15 @@ ghost use Rattle.std.specs.Prelude.{◌≤◌};
 ghost use Rattle.ds2_machine.specs.declared.machine.TheConstants.{MOST_BUDGET};
 ghost use Rattle.ds2_answer.specs.ObjectPlans.{object_plan};
 ghost use Rattle.ds2_exec.specs.ExecOutcomes.{ExecutesPlan, OverStore, ExecEndsAs};
-ghost use Rattle.ds2_exec.specs.Halts.{CausedBy, FollowsAll};
+ghost use Rattle.ds2_store_steps.specs.Halts.{CausedBy, FollowsAll};
 ghost use Rattle.ds2_outside.specs.Causes.{HasCause};
 
-use crate::Halt;
-use crate::outputs::ask_outputs;
 use crate::programs::run_programs;
-use crate::references::{inputs_of, references_of};
-use crate::tables::read_tables;
 use ds2_answer::Status;
 use ds2_base::{Bytes, List, OutOfMemory};
 use ds2_object::ObjectCode;
 use ds2_outside::Store;
+use ds2_store_steps::{Halt, ask_outputs, inputs_of, read_tables, references_of};
 use std::alloc::Global;
 
 /// What the run of an object leaves beside its tables.

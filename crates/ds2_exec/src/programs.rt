@@ -15,18 +15,13 @@ ghost use Rattle.ds2_answer.specs.Plan.{Plan, each_in_turn};
 ghost use Rattle.ds2_answer.specs.ProgramPlans.{ProgramLeft, program_then, programs_plan};
 ghost use Rattle.ds2_answer.specs.StagesLeft.{grain_of_stages};
 ghost use Rattle.ds2_verdicts.specs.ThreadVerdicts.{verdict_named};
-ghost use Rattle.ds2_exec.specs.Halts.{CausedBy, Follows, FollowsAll};
+ghost use Rattle.ds2_store_steps.specs.Halts.{CausedBy, Follows, FollowsAll};
 ghost use Rattle.ds2_exec.specs.CodeRuns.{AreLinked, rows_counted};
 ghost use Rattle.ds2_exec.specs.OutputSinks.{HaveKept, IsCodeEnd, code_end_then, left_by_run, sinks_then, tables_kept, write_sink_then};
 ghost use Rattle.ds2_exec.specs.StageEnds.{GrainsFit, stages_counted};
 
-use crate::Halt;
-use crate::files::{table_file, write_file};
-use crate::halt::end_in_fault;
-use crate::kept::KeptTable;
 use crate::output_rows::sinks_of;
 use crate::output_sink::OutputSink;
-use crate::references::{names_kept, references_of, references_of_code, tables_referred};
 use crate::stages::{StageEnd, count_stages, grains_of, stage_ends};
 use ds2_answer::Status;
 use ds2_answer::lines::{say_count, say_lines, say_table};
@@ -36,6 +31,10 @@ use ds2_outside::Store;
 use ds2_reading::Tables;
 use ds2_scope::NameSet;
 use ds2_staged::run_into;
+use ds2_store_steps::{
+    Halt, KeptTable, end_in_fault, names_kept, references_of, references_of_code, table_file,
+    tables_referred, write_file,
+};
 use ds2_unit::{OutputSinks, RunEnd};
 use ds2_valid_code::ProgramCode;
 use ds2_value::Ending;

@@ -20,15 +20,15 @@ use Rattle.ds2_verdicts.specs.ThreadVerdicts.{verdict_named}
 use Rattle.ds2_verdicts.specs.declared.verdicts.ThreadVerdict.{ThreadVerdict}
 use Rattle.ds2_answer.specs.StoredCodes.{CodesDoAsPrograms, HaveCodes}
 use Rattle.ds2_answer.specs.TablePlans.{OutputNamed, Presence, none_made, outputs_then, present_in}
-use Rattle.ds2_exec.specs.FileReads.{OverSomeFiles}
-use Rattle.ds2_exec.specs.Halts.{Follows, FollowsAll, HaltsPlan, LeadsOn, StopsAs}
-use Rattle.ds2_exec.specs.OutputAsks.{OverAnswers}
-use Rattle.ds2_exec.specs.PlanOutcomes.{CameOfPlan, CutShort}
-use Rattle.ds2_exec.specs.declared.halt.Halt.{Halt}
-use Rattle.ds2_exec.specs.declared.halt.Halt.TheVariants.{Ended, OutOfMemory}
-use Rattle.ds2_exec.proofs.FileSteps.{line_ends, over_all}
-use Rattle.ds2_exec.proofs.Leading.{at_once, does_on, halts_with, leads_none, leads_say, no_memory}
-use Rattle.ds2_exec.proofs.OutputSteps.{answers_all}
+use Rattle.ds2_store_steps.specs.FileReads.{OverSomeFiles}
+use Rattle.ds2_store_steps.specs.Halts.{Follows, FollowsAll, HaltsPlan, LeadsOn, StopsAs}
+use Rattle.ds2_store_steps.specs.OutputAsks.{OverAnswers}
+use Rattle.ds2_store_steps.specs.PlanOutcomes.{CameOfPlan, CutShort}
+use Rattle.ds2_store_steps.specs.declared.halt.Halt.{Halt}
+use Rattle.ds2_store_steps.specs.declared.halt.Halt.TheVariants.{Ended, OutOfMemory}
+use Rattle.ds2_store_steps.proofs.FileSteps.{line_ends, over_all}
+use Rattle.ds2_store_steps.proofs.Leading.{at_once, does_on, halts_with, leads_none, leads_say, no_memory}
+use Rattle.ds2_store_steps.proofs.OutputSteps.{answers_all}
 use Rattle.ds2_top.specs.CommandOutcomes.{DecodesUnlessHalted, DoesCommand, DoesSource, HaltsUnstored, StoresUnlessHalted, StoringCommand, checks, compiles, runs_with, verdicts_said}
 use Rattle.ds2_top.specs.ObjectRuns.{RunsFile}
 use Rattle.ds2_top.specs.SourceLoads.{LoadsSource, RunsLoaded, StoresNew, WasLoaded, loaded_plan}

@@ -21,10 +21,10 @@ use Rattle.ds2_answer.specs.Load.{within_limit}
 use Rattle.ds2_answer.specs.Plan.{Plan, ReadsFile, each_in_turn}
 use Rattle.ds2_answer.specs.TablePlans.{read_file, read_table, read_tables, with_bytes, with_read_table}
 use Rattle.ds2_answer.specs.Words.{is_file_name, is_source}
-use Rattle.ds2_exec.specs.FileReads.{WasFileRead}
-use Rattle.ds2_exec.specs.Halts.{LeadsOn}
-use Rattle.ds2_exec.proofs.FileSteps.{other_bytes}
-use Rattle.ds2_exec.proofs.Leading.{leads_none, leads_read}
+use Rattle.ds2_store_steps.specs.FileReads.{WasFileRead}
+use Rattle.ds2_store_steps.specs.Halts.{LeadsOn}
+use Rattle.ds2_store_steps.proofs.FileSteps.{other_bytes}
+use Rattle.ds2_store_steps.proofs.Leading.{leads_none, leads_read}
 
 -- ---- a file that was read
 

@@ -11,7 +11,7 @@ use Rattle.ds2_compile.specs.SourceUnit.{PlacedName, names_alone}
 use Rattle.ds2_compile.specs.InputTables.{source_inputs, names_or_refusal, unless_beyond}
 use Rattle.ds2_compile.specs.InputConstants.{MOST_TABLES}
 use Rattle.ds2_compile.specs.SourceRefusal.{SourceRefusal}
-use Rattle.ds2_exec.specs.TableReads.{DifferAll, DifferFrom}
+use Rattle.ds2_store_steps.specs.TableReads.{DifferAll, DifferFrom}
 
 -- two tests that tell the same
 same_test : (seen other : List ℕ → Bool) (names : List (List ℕ)) → ((name : List ℕ) → seen name ≡ other name) → DifferFrom seen names → DifferFrom other names

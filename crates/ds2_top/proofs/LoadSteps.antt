@@ -51,13 +51,13 @@ use Rattle.ds2_local_threads.specs.LocalThreads.{IndependentCodeGivesStages}
 use Rattle.ds2_verdicts.specs.OwnVerdicts.{ProgramsHaveVerdicts, StagesHaveVerdicts}
 use Rattle.ds2_verdicts.specs.SourceVerdicts.{source_verdicts}
 use Rattle.ds2_verdicts.specs.declared.verdicts.ThreadVerdict.{ThreadVerdict}
-use Rattle.ds2_exec.specs.FileReads.{OverSomeFiles, ReadsWholeFile, WasFileRead}
-use Rattle.ds2_exec.specs.Halts.{HaltsAs, HaltsPlan, StopsAs}
-use Rattle.ds2_exec.specs.TableReads.{ReadsTables}
-use Rattle.ds2_exec.specs.declared.halt.Halt.{Halt}
-use Rattle.ds2_exec.specs.declared.halt.Halt.TheVariants.{OutOfMemory, Ended}
-use Rattle.ds2_exec.proofs.FileSteps.{line_ends, load_then, over_all, over_map}
-use Rattle.ds2_exec.proofs.Leading.{at_once, does_on}
+use Rattle.ds2_store_steps.specs.FileReads.{OverSomeFiles, ReadsWholeFile, WasFileRead}
+use Rattle.ds2_store_steps.specs.Halts.{HaltsAs, HaltsPlan, StopsAs}
+use Rattle.ds2_store_steps.specs.TableReads.{ReadsTables}
+use Rattle.ds2_store_steps.specs.declared.halt.Halt.{Halt}
+use Rattle.ds2_store_steps.specs.declared.halt.Halt.TheVariants.{OutOfMemory, Ended}
+use Rattle.ds2_store_steps.proofs.FileSteps.{line_ends, load_then, over_all, over_map}
+use Rattle.ds2_store_steps.proofs.Leading.{at_once, does_on}
 use Rattle.ds2_top.specs.SourceLoads.{AreInputsRead, IsObjectOfPrograms, LoadsSource, ReadsInputs, WasLoaded, schema_held}
 use Rattle.ds2_top.specs.SourceObjects.{BecomesPrograms}
 use Rattle.ds2_top.specs.declared.loaded.Loaded.{Loaded}

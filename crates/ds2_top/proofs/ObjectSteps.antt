@@ -20,14 +20,14 @@ use Rattle.ds2_answer.specs.ObjectPlans.{IsDecoding, ObjectReading, exec_plan, o
 use Rattle.ds2_answer.specs.Plan.{Plan, Stops, Logs, ReadsFile}
 use Rattle.ds2_answer.specs.TablePlans.{Presence, present_in, read_file, refuse_file, with_bytes}
 use Rattle.ds2_exec.specs.ExecOutcomes.{OverStore}
-use Rattle.ds2_exec.specs.FileReads.{OverSomeFiles, ReadsWholeFile}
-use Rattle.ds2_exec.specs.Halts.{Follows, FollowsAll, HaltsPlan, StopsAs}
-use Rattle.ds2_exec.specs.PlanOutcomes.{CameOfPlan, CutShort}
-use Rattle.ds2_exec.specs.declared.halt.Halt.{Halt}
-use Rattle.ds2_exec.specs.declared.halt.Halt.TheVariants.{Ended, OutOfMemory}
-use Rattle.ds2_exec.proofs.FileSteps.{line_ends, over_all}
-use Rattle.ds2_exec.proofs.Leading.{at_once, does_on, leads_read}
-use Rattle.ds2_exec.proofs.OutputSteps.{answers_all}
+use Rattle.ds2_store_steps.specs.FileReads.{OverSomeFiles, ReadsWholeFile}
+use Rattle.ds2_store_steps.specs.Halts.{Follows, FollowsAll, HaltsPlan, StopsAs}
+use Rattle.ds2_store_steps.specs.PlanOutcomes.{CameOfPlan, CutShort}
+use Rattle.ds2_store_steps.specs.declared.halt.Halt.{Halt}
+use Rattle.ds2_store_steps.specs.declared.halt.Halt.TheVariants.{Ended, OutOfMemory}
+use Rattle.ds2_store_steps.proofs.FileSteps.{line_ends, over_all}
+use Rattle.ds2_store_steps.proofs.Leading.{at_once, does_on, leads_read}
+use Rattle.ds2_store_steps.proofs.OutputSteps.{answers_all}
 use Rattle.ds2_top.specs.DecodedFiles.{DecodesFile}
 use Rattle.ds2_top.specs.ObjectRuns.{HaltsUndecoded, RunsBytes, RunsFile}
 use Rattle.ds2_top.proofs.FileReads.{HoldsFile, file_found, holds_file, same_over, same_tables, table_is_no_object}

@@ -7,7 +7,7 @@ use Rattle.ds2_answer.specs.Status.{IsAnswerStatus}
 use Rattle.ds2_answer.specs.PlanSteps.{PlanStep, LogLine, ReadFile, AskFor, WriteFile, logged_by, files_behind, text_logged, files_behind_all, steps_of, status_at_end}
 use Rattle.ds2_top.specs.Leaves.{ReadsOrAsks, ReadFailed, WriteFailed, Between, AtWrite, IsText, MemoryLog, Leaves}
 use Rattle.ds2_answer.specs.Lines.{fault_line, memory_line}
-use Rattle.ds2_exec.specs.PlanOutcomes.{CameOfPlan, CutShort, files_told_with}
+use Rattle.ds2_store_steps.specs.PlanOutcomes.{CameOfPlan, CutShort, files_told_with}
 use Rattle.ds2_top.specs.Outside.{Outside, HoldsFiles, LogGainsPart, LogRose, ReadsRose, WritesRose}
 use Rattle.ds2_top.specs.Reported.{Reported, TakesSome}
 use Rattle.ds2_answer.specs.Plan.{Plan, Stops, Logs, ReadsFile, AsksFor, WritesFile}

@@ -16,10 +16,10 @@ use Rattle.ds2_answer.specs.Plan.{Plan}
 use Rattle.ds2_answer.specs.PlanSteps.{status_at_end, steps_of, text_logged}
 use Rattle.ds2_answer.specs.Status.{IsRefusal, log_failed}
 use Rattle.ds2_answer.specs.TablePlans.{Presence, present_in}
-use Rattle.ds2_exec.specs.Halts.{CausedBy, FollowsAll}
-use Rattle.ds2_exec.specs.PlanOutcomes.{CameOfPlan, CutShort}
-use Rattle.ds2_exec.specs.declared.halt.Halt.{Halt}
-use Rattle.ds2_exec.specs.declared.halt.Halt.TheVariants.{Ended, OutOfMemory}
+use Rattle.ds2_store_steps.specs.Halts.{CausedBy, FollowsAll}
+use Rattle.ds2_store_steps.specs.PlanOutcomes.{CameOfPlan, CutShort}
+use Rattle.ds2_store_steps.specs.declared.halt.Halt.{Halt}
+use Rattle.ds2_store_steps.specs.declared.halt.Halt.TheVariants.{Ended, OutOfMemory}
 use Rattle.ds2_top.specs.CommandOutcomes.{DecodesUnlessHalted, DoesCommand, HaltsUnstored, StoresUnlessHalted}
 use Rattle.ds2_top.specs.DecodedFiles.{DecodesObject, EndsBeforeDecoding}
 use Rattle.ds2_top.specs.Headline.{Headline, IsAnswered, LeavesRefusal}

@@ -14,14 +14,14 @@ use Rattle.ds2_answer.specs.TablePlans.{Presence, none_made, outputs_then}
 use Rattle.ds2_answer.specs.SourcePlans.{SourceCommand, compile_programs_of, object_bytes, object_file, store_object}
 use Rattle.ds2_exec.specs.CodeRuns.{AreLinked}
 use Rattle.ds2_exec.specs.LocalCodes.{IsIndependentWhereLocal}
-use Rattle.ds2_exec.specs.OutputAsks.{AsksOutputs}
+use Rattle.ds2_store_steps.specs.OutputAsks.{AsksOutputs}
 use Rattle.ds2_exec.specs.StageEnds.{GrainsFit}
 use Rattle.ds2_verdicts.specs.ThreadVerdicts.{verdict_named}
 use Rattle.ds2_verdicts.specs.declared.verdicts.ThreadVerdict.{ThreadVerdict}
-use Rattle.ds2_exec.specs.Halts.{Follows, FollowsAll, HaltsPlan, LeadsOn}
-use Rattle.ds2_exec.specs.declared.halt.Halt.{Halt}
-use Rattle.ds2_exec.specs.declared.halt.Halt.TheVariants.{OutOfMemory}
-use Rattle.ds2_exec.proofs.Leading.{does_on, halts_with, leads_none, leads_say, no_memory}
+use Rattle.ds2_store_steps.specs.Halts.{Follows, FollowsAll, HaltsPlan, LeadsOn}
+use Rattle.ds2_store_steps.specs.declared.halt.Halt.{Halt}
+use Rattle.ds2_store_steps.specs.declared.halt.Halt.TheVariants.{OutOfMemory}
+use Rattle.ds2_store_steps.proofs.Leading.{does_on, halts_with, leads_none, leads_say, no_memory}
 use Rattle.ds2_top.specs.SourceLoads.{IsRunnableObject, LoadsSource, StoresNew, loaded_plan}
 use Rattle.ds2_top.specs.declared.loaded.Loaded.{Loaded}
 

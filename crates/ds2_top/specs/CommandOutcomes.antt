@@ -13,9 +13,9 @@ use Rattle.ds2_answer.specs.SourcePlans.{SourceCommand, check_threads, compile_p
 use Rattle.ds2_answer.specs.TablePlans.{Presence, present_in}
 use Rattle.ds2_answer.specs.Words.{is_source}
 use Rattle.ds2_verdicts.specs.declared.verdicts.ThreadVerdict.{ThreadVerdict}
-use Rattle.ds2_exec.specs.Halts.{FollowsAll}
-use Rattle.ds2_exec.specs.declared.halt.Halt.{Halt}
-use Rattle.ds2_exec.specs.declared.halt.Halt.TheVariants.{Ended, OutOfMemory}
+use Rattle.ds2_store_steps.specs.Halts.{FollowsAll}
+use Rattle.ds2_store_steps.specs.declared.halt.Halt.{Halt}
+use Rattle.ds2_store_steps.specs.declared.halt.Halt.TheVariants.{Ended, OutOfMemory}
 use Rattle.ds2_top.specs.DecodedFiles.{DecodesFile}
 use Rattle.ds2_top.specs.ObjectRuns.{HaltsUndecoded}
 use Rattle.ds2_top.specs.SourceObjects.{IsBeforeStoring, IsObjectOf}

@@ -5,9 +5,9 @@ use Rattle.ds2_outside.specs.Files.{Files}
 use Rattle.ds2_answer.specs.ObjectPlans.{IsDecoding, ObjectReading, exec_plan, on_object}
 use Rattle.ds2_answer.specs.TablePlans.{Presence, present_in}
 use Rattle.ds2_answer.specs.declared.status.Status.TheVariants.{Read}
-use Rattle.ds2_exec.specs.Halts.{FollowsAll}
-use Rattle.ds2_exec.specs.declared.halt.Halt.{Halt}
-use Rattle.ds2_exec.specs.declared.halt.Halt.TheVariants.{Ended, OutOfMemory}
+use Rattle.ds2_store_steps.specs.Halts.{FollowsAll}
+use Rattle.ds2_store_steps.specs.declared.halt.Halt.{Halt}
+use Rattle.ds2_store_steps.specs.declared.halt.Halt.TheVariants.{Ended, OutOfMemory}
 use Rattle.ds2_top.specs.DecodedFiles.{DecodesFile}
 
 -- a command has ended before it decoded a file, and no file has changed

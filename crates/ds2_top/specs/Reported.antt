@@ -5,8 +5,8 @@ use Rattle.ds2_answer.specs.declared.status.Status.{Status}
 use Rattle.ds2_answer.specs.declared.status.Status.TheVariants.{Done, Memory}
 use Rattle.ds2_answer.specs.Lines.{memory_line}
 use Rattle.ds2_answer.specs.Status.{log_failed}
-use Rattle.ds2_exec.specs.declared.halt.Halt.{Halt}
-use Rattle.ds2_exec.specs.declared.halt.Halt.TheVariants.{Ended, OutOfMemory}
+use Rattle.ds2_store_steps.specs.declared.halt.Halt.{Halt}
+use Rattle.ds2_store_steps.specs.declared.halt.Halt.TheVariants.{Ended, OutOfMemory}
 
 -- where the log told what it held, it has taken this text
 abbrev pub Takes : List ℕ → Option (List ℕ) → Option (List ℕ) → Type 0

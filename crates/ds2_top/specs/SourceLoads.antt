@@ -19,10 +19,10 @@ use Rattle.ds2_exec.specs.CodeRuns.{AreLinked}
 use Rattle.ds2_exec.specs.LocalCodes.{IsIndependentWhereLocal}
 use Rattle.ds2_exec.specs.StageEnds.{GrainsFit}
 use Rattle.ds2_verdicts.specs.ThreadVerdicts.{verdict_named}
-use Rattle.ds2_exec.specs.FileReads.{OverSomeFiles}
-use Rattle.ds2_exec.specs.Halts.{Follows, FollowsAll, HaltsPlan}
-use Rattle.ds2_exec.specs.OutputAsks.{OverAnswers}
-use Rattle.ds2_exec.specs.declared.halt.Halt.{Halt}
+use Rattle.ds2_store_steps.specs.FileReads.{OverSomeFiles}
+use Rattle.ds2_store_steps.specs.Halts.{Follows, FollowsAll, HaltsPlan}
+use Rattle.ds2_store_steps.specs.OutputAsks.{OverAnswers}
+use Rattle.ds2_store_steps.specs.declared.halt.Halt.{Halt}
 use Rattle.ds2_top.specs.SourceObjects.{BecomesPrograms}
 use Rattle.ds2_top.specs.declared.loaded.Loaded.{Loaded}
 

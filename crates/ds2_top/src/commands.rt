@@ -4,7 +4,7 @@ ghost use Rattle.ds2_compile.specs.AnswersOfTexts.{SourcesRead};
 ghost use Rattle.ds2_answer.specs.CommandLines.{budget_on_line, command_line_of};
 ghost use Rattle.ds2_answer.specs.Words.{is_source};
 ghost use Rattle.ds2_answer.specs.declared.words.TheConstants.{MOST_BUDGET};
-ghost use Rattle.ds2_exec.specs.Halts.{CausedBy};
+ghost use Rattle.ds2_store_steps.specs.Halts.{CausedBy};
 ghost use Rattle.ds2_top.specs.CommandOutcomes.{DoesCommand, DoesSource, NamesFile, checks, compiles, runs_with, verdicts_said};
 
 use crate::objects::exec_object;
@@ -15,8 +15,8 @@ use ds2_answer::lines::say_checked_thread;
 use ds2_answer::{CommandLine, Status, read_command_line};
 use ds2_base::{Bytes, OutOfMemory, Text};
 use ds2_compile::sources_are_read;
-use ds2_exec::Halt;
 use ds2_outside::Store;
+use ds2_store_steps::Halt;
 use ds2_verdicts::ThreadVerdict;
 use std::alloc::Global;
 

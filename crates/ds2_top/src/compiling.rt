@@ -6,7 +6,7 @@ ghost use Rattle.ds2_compile.specs.SourceUnit.{columns_stored};
 ghost use Rattle.ds2_compile.specs.UnitViews.{source_tree};
 ghost use Rattle.ds2_answer.specs.HeldTables.{columns_held, held_from_store};
 ghost use Rattle.ds2_answer.specs.SourcePlans.{with_tables};
-ghost use Rattle.ds2_exec.specs.Halts.{HaltsAs};
+ghost use Rattle.ds2_store_steps.specs.Halts.{HaltsAs};
 ghost use Rattle.ds2_top.specs.SourceLoads.{LoadsSource, schema_held};
 
 use crate::loaded::Loaded;
@@ -15,8 +15,8 @@ use ds2_answer::Status;
 use ds2_base::{Bytes, List, OutOfMemory, Stop};
 use ds2_compile::{NamedSchema, Schemas, Source, compile};
 use ds2_exec::laws::verdict_grains_fit;
-use ds2_exec::{Halt, KeptTable};
 use ds2_local_threads::laws::independent_code_gives_stages;
+use ds2_store_steps::{Halt, KeptTable};
 use ds2_verdicts::laws::programs_have_verdicts;
 use std::alloc::Global;
 

@@ -1,7 +1,7 @@
 //! A source that was read and compiled.
 use ds2_base::List;
-use ds2_exec::KeptTable;
 use ds2_object::ObjectCode;
+use ds2_store_steps::KeptTable;
 use ds2_verdicts::ThreadVerdict;
 
 /// The object of a source, the verdicts on its thread programs, and the tables of the store that it reads.

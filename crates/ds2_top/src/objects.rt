@@ -3,15 +3,16 @@ ghost use Rattle.std.specs.Prelude.{◌≤◌, IsTrue};
 ghost use Rattle.ds2_answer.specs.CommandLines.{is_object_name};
 ghost use Rattle.ds2_answer.specs.declared.kinds.TheConstants.{OBJECT_LIMIT};
 ghost use Rattle.ds2_answer.specs.declared.words.TheConstants.{MOST_BUDGET};
-ghost use Rattle.ds2_exec.specs.Halts.{CausedBy};
+ghost use Rattle.ds2_store_steps.specs.Halts.{CausedBy};
 ghost use Rattle.ds2_top.specs.ObjectRuns.{RunsBytes, RunsFile};
 
 use crate::refusals::refuse_object;
 use ds2_answer::{OBJECT_LIMIT, Status};
 use ds2_base::{Bytes, Stop, Text};
-use ds2_exec::{Halt, read_file, run_object};
+use ds2_exec::run_object;
 use ds2_object::decode;
 use ds2_outside::Store;
+use ds2_store_steps::{Halt, read_file};
 use std::alloc::Global;
 
 // Runs the object of these bytes, or refuses it.

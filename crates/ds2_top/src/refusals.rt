@@ -1,14 +1,14 @@
 //! What is refused before programs run: words, sources and objects.
 ghost use Rattle.ds2_answer.specs.Lines.{object_refused_line, source_line, usage_line};
 ghost use Rattle.ds2_answer.specs.declared.kinds.SourceReason.TheVariants.{Rule};
-ghost use Rattle.ds2_exec.specs.Halts.{StopsAs};
+ghost use Rattle.ds2_store_steps.specs.Halts.{StopsAs};
 
 use ds2_answer::lines::{say_object_refused, say_source_refused, say_usage};
 use ds2_answer::{SourceReason, Status};
 use ds2_base::{Bytes, OutOfMemory, Place};
 use ds2_compile::SourceRefusal;
-use ds2_exec::Halt;
 use ds2_object::ObjectRefusal;
+use ds2_store_steps::Halt;
 use std::alloc::Global;
 
 /// Says that the words are no command, which ends it.

@@ -6,8 +6,8 @@ ghost use Rattle.ds2_top.specs.Reported.{EndReported, Reported, TakesLine};
 
 use ds2_answer::Status;
 use ds2_base::{Bytes, List};
-use ds2_exec::Halt;
 use ds2_outside::{Sink, WriteStop};
+use ds2_store_steps::Halt;
 use std::alloc::Global;
 
 // Writes the log of a command that has ended with this status.

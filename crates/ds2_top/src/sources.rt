@@ -9,7 +9,7 @@ ghost use Rattle.ds2_compile.specs.UnitViews.{source_tree};
 ghost use Rattle.ds2_answer.specs.SourcePlans.{source_plan, with_built, with_inputs, with_text, with_tree};
 ghost use Rattle.ds2_answer.specs.Words.{is_source};
 ghost use Rattle.ds2_answer.specs.declared.kinds.TheConstants.{SOURCE_LIMIT};
-ghost use Rattle.ds2_exec.specs.Halts.{CausedBy};
+ghost use Rattle.ds2_store_steps.specs.Halts.{CausedBy};
 ghost use Rattle.ds2_top.specs.SourceLoads.{LoadsSource, ReadsInputs};
 
 use crate::compiling::compile_over;
@@ -18,8 +18,8 @@ use crate::refusals::{refuse, refuse_source};
 use ds2_answer::{FileKind, SOURCE_LIMIT, SourceReason, Status};
 use ds2_base::{Bytes, List, Place, Stop, Text};
 use ds2_compile::{Source, input_names, is_built_source, one_source_answer, read_source};
-use ds2_exec::{Halt, KeptTable, read_file, read_tables, refuse_file};
 use ds2_outside::Store;
+use ds2_store_steps::{Halt, KeptTable, read_file, read_tables, refuse_file};
 use std::alloc::Global;
 
 // Reads the tables of the store that a source mentions, or refuses it where they are too many.

@@ -4,7 +4,7 @@ ghost use Rattle.ds2_answer.specs.Plan.{Plan};
 ghost use Rattle.ds2_answer.specs.SourcePlans.{compile_programs_of, object_bytes, object_file, store_object};
 ghost use Rattle.ds2_answer.specs.Words.{is_source};
 ghost use Rattle.ds2_answer.specs.declared.words.TheConstants.{MOST_BUDGET};
-ghost use Rattle.ds2_exec.specs.Halts.{CausedBy, Follows, FollowsAll};
+ghost use Rattle.ds2_store_steps.specs.Halts.{CausedBy, Follows, FollowsAll};
 ghost use Rattle.ds2_top.specs.SourceLoads.{IsRunnableObject, RunsLoaded, StoresNew, loaded_plan};
 
 use crate::loaded::Loaded;
@@ -12,9 +12,10 @@ use ds2_answer::Status;
 use ds2_answer::laws::codes_do_as_programs;
 use ds2_answer::lines::say_object;
 use ds2_base::{Bytes, OutOfMemory, Text};
-use ds2_exec::{Halt, ask_outputs, run_programs, write_file};
+use ds2_exec::run_programs;
 use ds2_object::{ObjectCode, encode};
 use ds2_outside::Store;
+use ds2_store_steps::{Halt, ask_outputs, write_file};
 use std::alloc::Global;
 
 // The name of the object's file: that of the source, with another ending.

@@ -1,7 +1,7 @@
 use Rattle.std.proofs.Common.{List, refl, sym, subst, ◌≡◌, ◌∙◌, true}
 use Rattle.ds2_code.specs.declared.parts.StagedParts.{StagedParts}
 use Rattle.ds2_object.specs.ObjectSpelling.{object_linked}
-use Rattle.ds2_exec.specs.TableReads.{AreTablesRead}
+use Rattle.ds2_store_steps.specs.TableReads.{AreTablesRead}
 use Rattle.ds2_exec.proofs.CodeSteps.{grains_fit, object_links}
 use Rattle.ds2_exec.proofs.ExecSteps.{inputs_are, inputs_differ, object_is, object_then, object_unnamed, object_unread, outputs_not_there, outputs_there}
 use Rattle.ds2_exec.proofs.object_run.run_object.Goals as goal

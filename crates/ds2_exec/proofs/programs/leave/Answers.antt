@@ -1,7 +1,7 @@
 use Rattle.std.proofs.Common.{Err, refl}
 use Rattle.ds2_value.specs.declared.fault.Ending.TheVariants.{Normal, Faulted}
 use Rattle.ds2_exec.specs.OutputSinks.{code_end_then}
-use Rattle.ds2_exec.proofs.Leading.{no_memory}
+use Rattle.ds2_store_steps.proofs.Leading.{no_memory}
 use Rattle.ds2_exec.proofs.ProgramSteps.{fault_ends, lines_then}
 use Rattle.ds2_exec.proofs.programs.leave.Goals as goal
 

@@ -5,7 +5,7 @@ use Rattle.std.specs.HashSet.{contains}
 use Rattle.ds2_verdicts.specs.ThreadVerdicts.{verdict_named}
 use Rattle.ds2_answer.specs.Plan.{Stops}
 use Rattle.ds2_answer.specs.declared.status.Status.TheVariants.{Done}
-use Rattle.ds2_exec.proofs.Leading.{item_is, no_memory, none_is_left}
+use Rattle.ds2_store_steps.proofs.Leading.{item_is, no_memory, none_is_left}
 use Rattle.ds2_exec.proofs.RunSteps.{next_program, plan_of, run_all, run_another, run_halts, run_kept, run_unkept, running_begins}
 use Rattle.ds2_exec.proofs.programs.run_programs.Goals as goal
 

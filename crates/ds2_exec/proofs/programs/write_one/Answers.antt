@@ -1,5 +1,5 @@
 use Rattle.ds2_exec.specs.OutputSinks.{write_sink_then}
-use Rattle.ds2_exec.proofs.Leading.{no_memory}
+use Rattle.ds2_store_steps.proofs.Leading.{no_memory}
 use Rattle.ds2_exec.proofs.ProgramSteps.{table_written}
 use Rattle.std.proofs.Common.{refl}
 use Rattle.ds2_exec.proofs.programs.write_one.Goals as goal

@@ -1,6 +1,6 @@
 use Rattle.std.proofs.Common.{arith, Ok}
 use Rattle.ds2_exec.specs.OutputSinks.{write_sink_then}
-use Rattle.ds2_exec.proofs.Leading.{part_more, part_halts, item_is, parts_done}
+use Rattle.ds2_store_steps.proofs.Leading.{part_more, part_halts, item_is, parts_done}
 use Rattle.ds2_exec.proofs.programs.write_tables.Goals as goal
 
 pub loop-left-preserved : goal.loop-left-preserved

@@ -1,7 +1,7 @@
 use Rattle.std.proofs.Common.{◌≤◌, length}
 use Rattle.ds2_answer.specs.Plan.{Plan, each_in_turn}
 use Rattle.ds2_exec.specs.OutputSinks.{write_sink_then}
-use Rattle.ds2_exec.specs.Halts.{LeadsOn}
+use Rattle.ds2_store_steps.specs.Halts.{LeadsOn}
 use Rattle.ds2_exec.proofs.programs.write_tables.Given as goal
 
 abbrev pub invariant-loop-left : goal.invariant-loop-left

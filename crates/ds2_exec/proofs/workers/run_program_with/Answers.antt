@@ -7,7 +7,7 @@ use Rattle.ds2_answer.specs.ObjectPlans.{run_of_code}
 use Rattle.ds2_answer.specs.ProgramPlans.{program_then}
 use Rattle.ds2_exec.specs.OutputSinks.{code_end_then}
 use Rattle.ds2_exec.proofs.LocalSteps.{independent_held}
-use Rattle.ds2_exec.proofs.Leading.{no_memory}
+use Rattle.ds2_store_steps.proofs.Leading.{no_memory}
 use Rattle.ds2_exec.proofs.ProgramSteps.{program_is, program_runs, settled_left}
 use Rattle.ds2_exec.proofs.RunSteps.{held_with}
 use Rattle.ds2_exec.proofs.workers.run_program_with.Goals as goal

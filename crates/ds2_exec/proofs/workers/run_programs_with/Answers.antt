@@ -6,7 +6,7 @@ use Rattle.ds2_verdicts.specs.ThreadVerdicts.{verdict_named}
 use Rattle.ds2_answer.specs.Plan.{Stops}
 use Rattle.ds2_answer.specs.declared.status.Status.TheVariants.{Done}
 use Rattle.ds2_exec.proofs.LocalSteps.{first_local}
-use Rattle.ds2_exec.proofs.Leading.{item_is, no_memory, none_is_left}
+use Rattle.ds2_store_steps.proofs.Leading.{item_is, no_memory, none_is_left}
 use Rattle.ds2_exec.proofs.RunSteps.{next_program, plan_of, run_all, run_another, run_halts, run_kept, run_unkept, running_begins}
 use Rattle.ds2_exec.proofs.workers.run_programs_with.Goals as goal
 

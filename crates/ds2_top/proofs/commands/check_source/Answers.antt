@@ -3,7 +3,7 @@ use Rattle.ds2_answer.specs.Plan.{Stops}
 use Rattle.ds2_answer.specs.SourcePlans.{check_threads}
 use Rattle.ds2_answer.specs.declared.status.Status.TheVariants.{Done}
 use Rattle.ds2_verdicts.specs.declared.verdicts.ThreadVerdict.{ThreadVerdict}
-use Rattle.ds2_exec.proofs.Leading.{no_memory}
+use Rattle.ds2_store_steps.proofs.Leading.{no_memory}
 use Rattle.ds2_top.specs.CommandOutcomes.{checks, verdicts_said}
 use Rattle.ds2_top.proofs.CommandSteps.{source_does_one, source_ends, verdicts_told}
 use Rattle.ds2_top.proofs.commands.check_source.Goals as goal

@@ -2,7 +2,7 @@ use Rattle.std.proofs.Common.{refl}
 use Rattle.ds2_answer.specs.SourcePlans.{compile_programs_of}
 use Rattle.ds2_answer.specs.Plan.{Stops}
 use Rattle.ds2_answer.specs.declared.status.Status.TheVariants.{Done}
-use Rattle.ds2_exec.proofs.Leading.{no_memory}
+use Rattle.ds2_store_steps.proofs.Leading.{no_memory}
 use Rattle.ds2_top.proofs.StoreSteps.{line_behind, line_said, line_unsaid, written_halts}
 use Rattle.ds2_top.proofs.storing.store_loaded.Goals as goal
 

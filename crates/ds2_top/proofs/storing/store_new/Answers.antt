@@ -2,7 +2,7 @@ use Rattle.std.proofs.Common.{List, subst, flat_map, Ok, Err, ◌∙◌}
 use Rattle.ds2_compile.specs.StagedParts.{StagedParts}
 use Rattle.ds2_answer.specs.ObjectPlans.{outputs_of_code}
 use Rattle.ds2_answer.specs.TablePlans.{none_made}
-use Rattle.ds2_exec.specs.OutputAsks.{AsksOutputs}
+use Rattle.ds2_store_steps.specs.OutputAsks.{AsksOutputs}
 use Rattle.ds2_top.proofs.StoreSteps.{new_halts, new_stored}
 use Rattle.ds2_top.proofs.storing.store_new.Goals as goal
 

@@ -1,8 +1,8 @@
 use Rattle.std.proofs.Common.{List, ℕ, refl, subst}
 use Rattle.ds2_answer.specs.Plan.{Plan, WritesFile}
 use Rattle.ds2_answer.specs.SourcePlans.{store_object}
-use Rattle.ds2_exec.specs.Halts.{Follows}
-use Rattle.ds2_exec.proofs.Leading.{no_memory}
+use Rattle.ds2_store_steps.specs.Halts.{Follows}
+use Rattle.ds2_store_steps.proofs.Leading.{no_memory}
 use Rattle.ds2_top.proofs.StoreSteps.{object_written}
 use Rattle.ds2_top.proofs.storing.store_object.Goals as goal
 

@@ -1,6 +1,0 @@
-use Rattle.ds2_exec.proofs.FileSteps.{write_failed}
-use Rattle.ds2_exec.proofs.files.write_file.Goals as goal
-
-pub returns-in-Err-Failed-clause-does : goal.returns-in-Err-Failed-clause-does
-returns-in-Err-Failed-clause-does g c rest =
-    write_failed c.args.name.now c.args.bytes.now c.args.log.now rest (g.S.Store.files c.args.store.now) (g.S.Store.files c.write.new.self) c.fail_write.result c.fail_write.new.log c.fail_write.ensures c.in-Err-Failed.ensures.err

@@ -1,6 +1,0 @@
-use Rattle.ds2_csv.specs.Reads.{reads}
-use Rattle.ds2_exec.proofs.TableSteps.{nothing_kept}
-use Rattle.ds2_exec.proofs.tables.kept_table.Goals as goal
-
-pub returns-in-Err-OutOfMemory : goal.returns-in-Err-OutOfMemory
-returns-in-Err-OutOfMemory c = λ told go. nothing_kept c.args.references.now c.args.name.now (reads c.args.bytes.now) c.args.log.now c.args.log.now told go

@@ -1,0 +1,5 @@
+pub mod Leading
+pub mod FileSteps
+pub mod TableSteps
+pub mod OutputSteps
+pub mod ReferenceSteps

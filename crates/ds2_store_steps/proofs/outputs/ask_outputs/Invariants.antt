@@ -1,0 +1,18 @@
+use Rattle.std.proofs.Common.{◌≤◌, length, flat_map}
+use Rattle.std.specs.Prelude.{nat_eq}
+use Rattle.std.specs.Cmp.Lexicographic.{pointwise}
+use Rattle.std.specs.HashSet.{contains}
+use Rattle.ds2_answer.specs.ObjectPlans.{outputs_of_code}
+use Rattle.ds2_answer.specs.TablePlans.{none_made}
+use Rattle.ds2_store_steps.proofs.OutputSteps.{AskedSoFar}
+use Rattle.ds2_store_steps.proofs.outputs.ask_outputs.Given as goal
+
+abbrev pub invariant-codes : goal.invariant-codes
+invariant-codes g l = record {
+  asked : AskedSoFar none_made (flat_map outputs_of_code l.codes) (flat_map outputs_of_code l.left) l.initial.log (g.S.Store.files l.initial.store) (contains (pointwise nat_eq) l.made) l.log (g.S.Store.files l.store);
+  reads : g.S.Store.read_faults l.initial.store ≤ g.S.Store.read_faults l.store;
+  writes : g.S.Store.write_faults l.initial.store ≤ g.S.Store.write_faults l.store;
+}
+
+abbrev pub decreases-codes : goal.decreases-codes
+decreases-codes g l = length l.left

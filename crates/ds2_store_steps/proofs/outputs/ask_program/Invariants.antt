@@ -1,0 +1,17 @@
+use Rattle.std.proofs.Common.{◌≤◌, length, map}
+use Rattle.std.specs.Prelude.{nat_eq}
+use Rattle.std.specs.Cmp.Lexicographic.{pointwise}
+use Rattle.std.specs.HashSet.{contains}
+use Rattle.ds2_store_steps.specs.OutputAsks.{output_named}
+use Rattle.ds2_store_steps.proofs.OutputSteps.{AskedSoFar}
+use Rattle.ds2_store_steps.proofs.outputs.ask_program.Given as goal
+
+abbrev pub invariant-outputs : goal.invariant-outputs
+invariant-outputs g l = record {
+  asked : AskedSoFar (contains (pointwise nat_eq) l.initial.made) (map output_named l.outputs) (map output_named l.left) l.initial.log (g.S.Store.files l.initial.store) (contains (pointwise nat_eq) l.made) l.log (g.S.Store.files l.store);
+  reads : g.S.Store.read_faults l.initial.store ≤ g.S.Store.read_faults l.store;
+  writes : g.S.Store.write_faults l.initial.store ≤ g.S.Store.write_faults l.store;
+}
+
+abbrev pub decreases-outputs : goal.decreases-outputs
+decreases-outputs g l = length l.left
