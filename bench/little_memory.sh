@@ -4,9 +4,10 @@
 #
 # usage: bench/little_memory.sh [EXAMPLE [WORD ..]]
 #
-# The job is a sum of two columns, or the one of a folder of examples/, run with these further words: a worker that finds no memory leaves its
-# groups to others, so with --threads 4 some runs end with status 0 all the same. Needs a C compiler (cc). Goes on until three runs in turn had all
-# their memory, since workers do not allocate in the same order each time, and prints how many runs had not.
+# The job is a sum of two columns, or the one of a folder of examples/, run with these further words. A worker that finds no memory leaves its
+# groups to others, so with --threads some runs have to end with status 0 all the same: `bench/little_memory.sh visits --threads 4`. Needs a C
+# compiler (cc). Goes on until three runs in turn had all their memory, since workers do not allocate in the same order each time, and prints how
+# many runs had not.
 set -eu
 
 top=$(cd "$(dirname "$0")/.." && pwd)
@@ -79,4 +80,7 @@ while [ "$whole_in_turn" -lt 3 ]; do
     esac
 done
 [ "$said" -gt 0 ] || { echo "no log told the want of memory"; exit 1; }
+case " $* " in
+*" --threads "*) [ "$helped" -gt 0 ] || { echo "no run ended with status 0 where a worker found no memory"; exit 1; } ;;
+esac
 echo "$lacking runs ended with status 11, $said of them with the line on it, and $helped with status 0 without one of their allocations; there are $((number - 3))"
