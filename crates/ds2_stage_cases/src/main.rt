@@ -10,7 +10,6 @@
 
 mod sample;
 mod telling;
-mod waiting;
 
 use crate::telling::{answers, answers_at_gate};
 use std::io;

@@ -2,8 +2,8 @@
 ghost use Rattle.std.specs.Prelude.{◌≤◌};
 
 use crate::sample::Sample;
-use crate::waiting::Waiting;
 use ds2_bags::StageEnd;
+use ds2_case_gate::WaitingGate;
 use ds2_outside::{Gate, NoGate};
 use ds2_stage::run_stage;
 use std::alloc::{AllocError, Global};
@@ -65,7 +65,7 @@ fn answer_at_gate<R: Threads + Wait + Sync>(
 ) -> Result<String, AllocError>
     requires { (1 ≤ workers) × (workers ≤ 64) }
 {
-    let gate = Waiting::new(held, awaited);
+    let gate = WaitingGate::new(held, awaited);
     let text = answer(rt, alloc, job, workers, &gate)?;
     let way = if gate.has_waited(workers) {
         "waited"
