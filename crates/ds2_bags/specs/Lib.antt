@@ -1,2 +1,3 @@
 pub mod Endings
+pub mod Rest
 pub mod StageEnds

@@ -1,5 +1,6 @@
 //! What the caller makes of what workers have brought.
-ghost use Rattle.std.specs.Prelude.{◌≡◌, ℕ, ◌<◌, false, None, IfOk, length, slice_index_or};
+ghost use Rattle.std.specs.Prelude.{◌≡◌, ℕ, ◌+◌, ◌<◌, ◌≤◌, ◌++◌, [], false, None, IfOk, length, slice_index_or, vec_len, vec_capacity};
+ghost use Rattle.ds2_bags.specs.Rest.{HasRunRest, unless_brought};
 ghost use Rattle.ds2_bags.specs.Endings.{ended_by_fault};
 ghost use Rattle.ds2_bags.specs.StageEnds.{Brings, IsStageEnd};
 
@@ -18,6 +19,14 @@ pub struct StageEnd {
     pub faulted: Option<u64>,
 }
 
+/// What the caller makes of a stage.
+#[derive(Debug, Drop)]
+pub struct Finished {
+    pub end: StageEnd,
+    /// The groups that the caller ran itself, in order.
+    pub ran: List<u64>,
+}
+
 /// The answers in order, up to and with the first fault. Runs the groups that nobody brought, as far as they are needed, on a state of
 /// its own. `caller` is the caller's number for the gate.
 pub fn finish<J: Job, G: Gate>(
@@ -26,33 +35,51 @@ pub fn finish<J: Job, G: Gate>(
     caller: u32,
     placed: List<Option<GroupEnd>>,
     gate: &G,
-) -> Result<StageEnd, OutOfMemory>
+) -> Result<Finished, OutOfMemory>
     requires len { length placed ≡ J.count job.now }
     requires each { (g : ℕ) → g < J.count job.now → Brings (J.answer job.now) g (slice_index_or placed g None) }
-    ensures { IfOk result (λ e. IsStageEnd (J.answer job.now) (J.count job.now) e) }
+    ensures end { IfOk result (λ f. IsStageEnd (J.answer job.now) (J.count job.now) f.end) }
+    ensures ran { IfOk result (λ f. HasRunRest (J.answer job.now) (λ g. slice_index_or placed g None) (J.count job.now) f.ran) }
 {
     let groups = job.groups();
     let mut placed = placed.into_vec();
     let mut worker = job.start(alloc)?;
     let mut ends = Vec::with_capacity(alloc, groups as usize)?;
+    let mut ran = Vec::with_capacity(alloc, groups as usize)?;
     for g in 0..groups {
         let brought = placed[g as usize].take();
+        note(&mut ran, g, &brought);
         let end = answer_of(alloc, job, &mut worker, caller, g, brought, gate)?;
         let fault = end.is_fault();
         ends.push_reserved(end);
         if fault {
-            return Ok(stage_end(ends, Some(g)));
+            return Ok(ended(ends, Some(g), ran));
         }
     }
-    Ok(stage_end(ends, None))
+    Ok(ended(ends, None, ran))
 }
 
-fn stage_end(ends: Vec<GroupEnd>, faulted: Option<u64>) -> StageEnd
-    ensures { result ≡ record { ends = ends.items; faulted = faulted } }
+// Notes a group that the caller has to run.
+fn note(ran: &mut Vec<u64>, g: u64, brought: &Option<GroupEnd>)
+    requires { vec_len ran.old < vec_capacity ran.old }
+    ensures items { ran.new.items ≡ ran.old.items ++ unless_brought brought.now g [] }
+    ensures room { (vec_capacity ran.new ≡ vec_capacity ran.old) × (vec_len ran.new ≤ vec_len ran.old + 1) }
 {
-    StageEnd {
-        ends: List::of(ends),
-        faulted,
+    if brought.is_none() {
+        ran.push_reserved(g);
+    }
+}
+
+fn ended(ends: Vec<GroupEnd>, faulted: Option<u64>, ran: Vec<u64>) -> Finished
+    ensures end { result.end ≡ record { ends = ends.items; faulted = faulted } }
+    ensures ran { result.ran ≡ ran.items }
+{
+    Finished {
+        end: StageEnd {
+            ends: List::of(ends),
+            faulted,
+        },
+        ran: List::of(ran),
     }
 }
 

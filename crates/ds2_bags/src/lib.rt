@@ -2,11 +2,12 @@
 //! the stage's answer of that.
 //!
 //! A [`Job`] has numbered groups, each with one answer, a [`GroupEnd`], whoever runs it. A [`Done`] is a group that was run. [`place`]
-//! puts the answers in order of group, and [`finish`] gives what one thread gives, a [`StageEnd`]: it runs the groups that nobody brought.
+//! puts the answers in order of group, and [`finish`] gives what one thread gives, a [`StageEnd`]: it runs the groups that nobody brought,
+//! as far as they are needed, and tells which these were.
 //!
 //! ```text
 //! let placed = place(alloc, &job, bags)?;
-//! let end = finish(alloc, &job, workers, placed, &gate)?;
+//! let Finished { end, ran } = finish(alloc, &job, workers, placed, &gate)?;
 //! ```
 #![tactic(auto)]
 
@@ -17,7 +18,7 @@ mod job;
 mod placing;
 
 pub use done::{Done, run_group};
-pub use finishing::{StageEnd, finish};
+pub use finishing::{Finished, StageEnd, finish};
 pub use group_end::GroupEnd;
 pub use job::{Answers, Job};
 pub use placing::place;

@@ -5,7 +5,9 @@ use Rattle.ds2_dealer.specs.declared.rule.SeatView.TheVariants.{First, Other, Sp
 use Rattle.ds2_dealer.specs.declared.tickets.Tickets.{Tickets}
 use Rattle.ds2_dealer.specs.Rule.{shown, past}
 use Rattle.ds2_dealer.specs.Seats.{view_of, IsSeatOf}
-use Rattle.ds2_schedule.specs.Bags.{GroupRun, group_in, groups_of_runs, AreFrom, IsAscending, OnlyLastFaults}
+use Rattle.ds2_schedule.specs.Bags.{GroupRun, group_in, groups_of_runs, AreFrom, IsAscending, OnlyLastFaults, AreAnswers}
+use Rattle.ds2_bags.specs.declared.group_end.GroupEnd.{GroupEnd}
+use Rattle.ds2_bags.specs.StageEnds.{program_of_job}
 use Rattle.std.specs.List.{list_any}
 use Rattle.ds2_stage.specs.declared.desk.Odd.{Odd}
 use Rattle.ds2_stage.specs.Odds.{IsOdd}
@@ -35,8 +37,8 @@ pub record EndedEarly : Type 0 where
 abbrev pub not_early : EndedEarly
 not_early = record { short = false; odd = None; stop = None }
 
--- What a worker brings that has run these groups: they are the first ones of the runs that its seat drew, in order, and `rest` are the others; only the last may be a fault.
-pub record HasWorked (t : Tickets) (before after : PassView) (runs : List GroupRun) (early : EndedEarly) : Type 0 where
+-- What a worker brings that has run these groups: they are the first ones of the runs that its seat drew, in order, and `rest` are the others; each gave the job's answer, and only the last may be a fault.
+pub record HasWorked (answer : ℕ → GroupEnd) (t : Tickets) (before after : PassView) (runs : List GroupRun) (early : EndedEarly) : Type 0 where
   -- The pass is the worker's own, and counts what was handed in.
   pub number : after.number ≡ before.number
   pub parts : after.parts ≡ before.parts
@@ -50,9 +52,14 @@ pub record HasWorked (t : Tickets) (before after : PassView) (runs : List GroupR
   pub rest : List ℕ
   pub begins : map group_in runs ++ rest ≡ groups_of_runs t.groups t.length (shown (view_of after.seat))
   pub faults : OnlyLastFaults runs
+  pub answers : AreAnswers (program_of_job answer) tt runs
   -- Where the worker ended neither early nor at a fault, no group is left, and a number past the last run was drawn.
   pub whole : early ≡ not_early → has_fault runs ≡ false → (rest ≡ []) × (1 ≤ past t.runs (shown (view_of after.seat)))
   -- The group that made it stop is below every group that is left.
   pub stopped : IfSome early.stop (λ f. AreFrom (f + 1) rest)
   -- A test that failed tells two numbers that differ.
   pub tested : IfSome early.odd (IsOdd t.groups)
+
+-- A worker ended neither early nor at a fault.
+abbrev pub EndedInFull : EndedEarly → List GroupRun → Type 0
+EndedInFull early runs = (early ≡ not_early) × (has_fault runs ≡ false)

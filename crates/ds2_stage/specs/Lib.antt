@@ -5,3 +5,4 @@ pub mod Working
 pub mod Steps
 pub mod Next
 pub mod Gathered
+pub mod Ended

@@ -1,5 +1,5 @@
 -- What a party's pass shows.
-use Rattle.std.specs.Prelude.{◌≡◌, ℕ, ◌+◌, []}
+use Rattle.std.specs.Prelude.{◌≡◌, ℕ, ◌+◌, ◌<◌, List, [], length, slice_index_or}
 use Rattle.ds2_dealer.specs.declared.rule.SeatView.TheVariants.{First, Other}
 use Rattle.ds2_dealer.specs.declared.tickets.Tickets.{Tickets}
 use Rattle.ds2_dealer.specs.declared.tickets.TicketSeat.{TicketSeat}
@@ -48,3 +48,7 @@ pub record MayWork (groups : ℕ) (t : Tickets) (p : PassView) : Type 0 where
   pub same : groups ≡ t.groups
   pub number : ℕ
   pub pass : IsWorkerPass t number p
+
+-- The passes of several parties stand in order of number, from 0 on.
+abbrev pub AreInOrderOfNumber : List PassView → Type 0
+AreInOrderOfNumber passes = (i : ℕ) (p : PassView) → i < length passes → (slice_index_or passes i p).number ≡ i

@@ -43,7 +43,7 @@ pub(crate) fn run_one<'j, J: Job, G: Gate, C: Ledger, R: Ledger, W: Wait>(
     requires part { 0 < pass.old.parts }
     requires of { All (λ d. d.job.now ≡ job.now) dones.old.items }
     ensures of { All (λ d. d.job.now ≡ job.now) dones.new.items }
-    ensures gone { HasGone (J.count job.now) g pass.old pass.new (map (λ d. record { group = d.group; rows = length d.end.rows; faulted = ended_by_fault d.end.ending }) dones.old.items) (map (λ d. record { group = d.group; rows = length d.end.rows; faulted = ended_by_fault d.end.ending }) dones.new.items) result }
+    ensures gone { HasGone (J.answer job.now) (J.count job.now) g pass.old pass.new (map (λ d. record { group = d.group; rows = length d.end.rows; faulted = ended_by_fault d.end.ending }) dones.old.items) (map (λ d. record { group = d.group; rows = length d.end.rows; faulted = ended_by_fault d.end.ending }) dones.new.items) result }
     ensures fits { goes_on result ≡ true → J.fits job.now worker.new }
 {
     if dones.reserve(1).is_err() {
@@ -69,11 +69,12 @@ fn keep<'j, J: Job, C: Ledger, R: Ledger, W: Wait>(
     done: Done<'j, J>,
 ) -> Went
     requires job { done.job.now ≡ job.now }
+    requires end { done.end ≡ J.answer job.now done.group }
     requires part { 0 < pass.old.parts }
     requires room { vec_len dones.old + 1 ≤ vec_capacity dones.old }
     requires of { All (λ d. d.job.now ≡ job.now) dones.old.items }
     ensures of { All (λ d. d.job.now ≡ job.now) dones.new.items }
-    ensures gone { HasGone (J.count job.now) done.entry.group pass.old pass.new (map (λ d. record { group = d.group; rows = length d.end.rows; faulted = ended_by_fault d.end.ending }) dones.old.items) (map (λ d. record { group = d.group; rows = length d.end.rows; faulted = ended_by_fault d.end.ending }) dones.new.items) result }
+    ensures gone { HasGone (J.answer job.now) (J.count job.now) done.entry.group pass.old pass.new (map (λ d. record { group = d.group; rows = length d.end.rows; faulted = ended_by_fault d.end.ending }) dones.old.items) (map (λ d. record { group = d.group; rows = length d.end.rows; faulted = ended_by_fault d.end.ending }) dones.new.items) result }
     ensures calm { goes_on result ≡ true → ended_by_fault done.entry.end.ending ≡ false }
 {
     let rows = done.rows();

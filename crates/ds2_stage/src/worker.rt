@@ -2,6 +2,7 @@
 ghost use Rattle.std.specs.Prelude.{◌≡◌, ◌<◌, ◌≤◌, ℕ, List as Items, length, map, IfSome};
 ghost use Rattle.std.specs.List.{All};
 ghost use Rattle.ds2_bags.specs.Endings.{ended_by_fault};
+ghost use Rattle.ds2_bags.specs.declared.group_end.GroupEnd.{GroupEnd};
 ghost use Rattle.ds2_dealer.specs.Rule.{MayDraw};
 ghost use Rattle.ds2_dealer.specs.Seats.{view_of, IsSeatOf};
 ghost use Rattle.ds2_schedule.specs.Bags.{GroupRun};
@@ -36,7 +37,7 @@ pub fn work<'j, J: Job, G: Gate, C: Ledger, R: Ledger, W: Wait>(
 ) -> Bag<'j, J, C, R>
     requires { MayWork (J.count job.now) shared.now.tickets pass }
     ensures of { All (λ d. d.job.now ≡ job.now) result.dones }
-    ensures worked { HasWorked shared.now.tickets pass result.pass (map (λ d. record { group = d.group; rows = length d.end.rows; faulted = ended_by_fault d.end.ending }) result.dones) (record { short = result.short; odd = result.odd; stop = result.stop }) }
+    ensures worked { HasWorked (J.answer job.now) shared.now.tickets pass result.pass (map (λ d. record { group = d.group; rows = length d.end.rows; faulted = ended_by_fault d.end.ending }) result.dones) (record { short = result.short; odd = result.odd; stop = result.stop }) }
 {
     let mut dones = Vec::new(alloc);
     let Ok(mut worker) = job.start(alloc) else {
@@ -84,7 +85,7 @@ fn next_group<C: Ledger, R: Ledger>(
     requires inside { next ≤ end }
     requires of { IsSeatOf tickets.now pass.old.seat }
     requires may { MayDraw tickets.now.runs (view_of pass.old.seat) }
-    ensures { (before : PassView) (runs : Items GroupRun) → IsWorking tickets.now before pass.old runs next end → IsAtNext tickets.now before pass.new runs result }
+    ensures { (answer : ℕ → GroupEnd) (before : PassView) (runs : Items GroupRun) → IsWorking answer tickets.now before pass.old runs next end → IsAtNext answer tickets.now before pass.new runs result }
 {
     if next < end {
         return Some((next, end));

@@ -12,7 +12,7 @@ returns g c =
     let job = c.args.job.now in
     let ready = c.is_ready.ensures in
     let code = staged_program job.code job.number in
-    let is = ap given_together c.in_ok-end.ensures.in_turn
+    let is = ap given_together c.in_ok-end.ensures.end.in_turn
     ∙ groups_in_turn code job.budget job.groups (none_strays c.valid_code_ends.ensures job.code job.number job.budget job.groups ready.valid) job.first ready.independent in
     let P : GroupEnd → Type 0 = λ given. IfOk c.keep_all.result (λ end. HasKeptGroups c.args.written.now c.keep_all.new.written given end) in
     subst P is c.keep_all.ensures

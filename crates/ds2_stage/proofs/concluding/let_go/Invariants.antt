@@ -1,4 +1,4 @@
-use Rattle.ds2_stage.proofs.stage.let_go.Given as goal
+use Rattle.ds2_stage.proofs.concluding.let_go.Given as goal
 
 abbrev pub decreases-loop-bag : goal.decreases-loop-bag
 decreases-loop-bag g l = goal.left-loop-bag g l
