@@ -1,8 +1,10 @@
 pub mod Bits
+pub mod Digits
 pub mod FirstLeft
 pub mod FlagLemmas
 pub mod Flagged
 pub mod HeadLemmas
+pub mod HeadsTell
 pub mod Keys
 pub mod Parts
 pub mod Ranges

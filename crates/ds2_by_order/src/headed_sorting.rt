@@ -1,23 +1,23 @@
-//! The rows of a table in BY order, where each key begins with a BIGINT.
-ghost use Rattle.std.specs.Prelude.{◌≡◌, [], map, get_or, IfOk, IfSome, OnOk};
+//! The rows of a table in BY order, where each key has a head.
+ghost use Rattle.std.specs.Prelude.{◌≡◌, [], map, get_or, pos, IfOk, IfSome, OnOk};
 ghost use Rattle.std.specs.List.Sorted.{IsPermutation, IsSortedBy, IsStableBy};
 ghost use Rattle.ds2_value.specs.Order.{key_order};
 ghost use Rattle.ds2_value.specs.declared.value.Value.TheVariants.{Int};
 ghost use Rattle.ds2_table.specs.LoadLaws.{AreKeys};
 ghost use Rattle.ds2_table.specs.Loads.{value_order};
-ghost use Rattle.ds2_by_order.specs.KeyHeads.{AreHeadedRows, headed_key, is_headed_before, number_in_table};
+ghost use Rattle.ds2_by_order.specs.KeyHeads.{AreHeadedRows, headed_directions, headed_key, is_headed_before, number_in_table};
 ghost use Rattle.ds2_by_order.specs.KeyOrder.{parts_order, IsOrderOfRows};
 
 use crate::TableRow;
 use crate::headed_row::HeadedRow;
-use crate::heads::tells;
+use crate::heads::tells_all;
 use crate::keyed_table::KeyedTable;
-use crate::order::compare_rows_from;
+use crate::order::{compare_rows, compare_rows_from};
 use ds2_base::{List, OutOfMemory};
 use std::alloc::{AllocError, Global};
 use std::cmp::Ordering;
 
-/// The rows of a table with the heads of their keys; None where one of these tells nothing, or none are kept.
+/// The rows of a table with the heads of their keys; None where none are kept.
 pub(crate) fn headed_rows(
     alloc: Global,
     keyed: &KeyedTable,
@@ -33,27 +33,24 @@ pub(crate) fn headed_rows(
         let Some(head) = keyed.head(row) else {
             return Ok(None);
         };
-        if !tells(head) {
-            return Ok(None);
-        }
         rows.push(HeadedRow { head: *head, row })?;
     }
     Ok(Some(rows))
 }
 
-// How two whole numbers stand.
-#[tactic(auto, using(crate::proofs::HeadLemmas::number_order))]
-fn compare_numbers(a: &i64, b: &i64) -> Ordering
-    ensures { result ≡ key_order (Int a.now) (Int b.now) }
+// How two heads stand.
+#[tactic(auto, using(crate::proofs::HeadsTell::number_order))]
+fn compare_heads(a: &u128, b: &u128) -> Ordering
+    ensures { result ≡ key_order (Int (pos a.now)) (Int (pos b.now)) }
 {
     a.cmp(b)
 }
 
 // How two rows stand by their heads, in the direction of the first BY variable.
 fn compare_first(is_descending: bool, a: &HeadedRow, b: &HeadedRow) -> Ordering
-    ensures { result ≡ value_order is_descending (Int a.now.head) (Int b.now.head) }
+    ensures { result ≡ value_order is_descending (Int (pos a.now.head)) (Int (pos b.now.head)) }
 {
-    let order = compare_numbers(&a.head, &b.head);
+    let order = compare_heads(&a.head, &b.head);
     if is_descending {
         order.reverse()
     } else {
@@ -61,7 +58,7 @@ fn compare_first(is_descending: bool, a: &HeadedRow, b: &HeadedRow) -> Ordering
     }
 }
 
-// How two rows of a table stand by their heads, and where these are equal by the rest of their keys.
+// How two rows of a table stand by their heads, and where these are equal by what they leave of the keys.
 fn compare_headed(
     directions: &[bool],
     tables: &[KeyedTable],
@@ -70,7 +67,7 @@ fn compare_headed(
     b: &HeadedRow,
 ) -> Ordering
     ensures { let keys = get_or tables.now table [] in
-        result ≡ parts_order directions.now (headed_key keys a.now) (headed_key keys b.now) }
+        result ≡ parts_order (headed_directions directions.now) (headed_key keys a.now) (headed_key keys b.now) }
 {
     let Some(is_descending) = directions.get(0) else {
         return Ordering::Equal;
@@ -79,13 +76,12 @@ fn compare_headed(
     if order.is_ne() {
         return order;
     }
-    compare_rows_from(
-        1,
-        directions,
-        tables,
-        TableRow { table, row: a.row },
-        TableRow { table, row: b.row },
-    )
+    let first = TableRow { table, row: a.row };
+    let second = TableRow { table, row: b.row };
+    if tells_all(a.head) {
+        return compare_rows_from(1, directions, tables, first, second);
+    }
+    compare_rows(directions, tables, first, second)
 }
 
 // Sorts rows of a table by their heads and the rest of their keys; those of equal ones stay as they stand.

@@ -22,7 +22,7 @@ pub(crate) struct KeyedTable {
     table: Arc<Table, Global>,
     columns: List<usize>,
     // for each row the head of its key, or for none
-    heads: List<i64>,
+    heads: List<u128>,
 }
 
 impl Model for KeyedTable {
@@ -64,17 +64,6 @@ impl KeyedTable {
         }
     }
 
-    /// The same table once more.
-    pub(crate) fn copy(&self, alloc: Global) -> Result<KeyedTable, OutOfMemory>
-        ensures { IfOk result (λ keyed. keyed ≡ self.now) }
-    {
-        Ok(KeyedTable {
-            table: self.table.clone()?,
-            columns: self.columns.copy(alloc)?,
-            heads: self.heads.copy(alloc)?,
-        })
-    }
-
     /// The number of rows.
     pub(crate) fn len(&self) -> usize
         ensures { result ≡ length self.now }
@@ -92,7 +81,7 @@ impl KeyedTable {
     }
 
     /// The head of a row's key; None where heads are not kept, or there is no such row.
-    pub(crate) fn head(&self, row: usize) -> Option<&i64>
+    pub(crate) fn head(&self, row: usize) -> Option<&u128>
         ensures { IfSome result (λ head. IsKeyHead head.now (part_of_key (get_or self.now row []) 0)) }
     {
         let head = self.heads.get(row)?;

@@ -7,7 +7,7 @@ ghost use Rattle.ds2_by_order.specs.KeyHeads.{IsKeyHead};
 ghost use Rattle.ds2_by_order.specs.KeyOrder.{row_in, part_of_key, parts_order, parts_in_common};
 
 use crate::TableRow;
-use crate::heads::tells;
+use crate::heads::tells_all;
 use crate::keyed_table::KeyedTable;
 use ds2_value::{Value, key_compare};
 use std::cmp::Ordering;
@@ -50,25 +50,24 @@ fn part(tables: &[KeyedTable], row: TableRow, by: usize) -> Option<&Value>
 }
 
 // The head of a row's key; None where there is none.
-fn head(tables: &[KeyedTable], row: TableRow) -> Option<&i64>
+fn head(tables: &[KeyedTable], row: TableRow) -> Option<&u128>
     ensures { IfSome result (λ head. IsKeyHead head.now (part_of_key (row_in tables.now row).key 0)) }
 {
     tables.get(row.table)?.head(row.row)
 }
 
 // How two rows stand by the heads of their keys; None where these do not tell.
-#[tactic(auto, using(crate::proofs::HeadLemmas::heads_tell))]
 fn compare_heads(tables: &[KeyedTable], a: TableRow, b: TableRow) -> Option<Ordering>
     ensures { IfSome result (λ order. order
         ≡ key_order (part_of_key (row_in tables.now a).key 0) (part_of_key (row_in tables.now b).key 0)) }
 {
     let x = head(tables, a)?;
     let y = head(tables, b)?;
-    if tells(x) && tells(y) {
-        Some(x.cmp(y))
-    } else {
-        None
+    let order = x.cmp(y);
+    if order.is_ne() {
+        return Some(order);
     }
+    if tells_all(*x) { Some(order) } else { None }
 }
 
 // How two rows stand by a BY variable, as if it were ascending.

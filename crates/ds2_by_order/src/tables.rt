@@ -19,26 +19,34 @@ use ds2_reading::{ByKey, ReadTable, Reading, Tables};
 use std::alloc::Global;
 use std::cmp::Ordering;
 use std::marker::Model;
+use std::sync::Arc;
 
 /// The tables of a reading statement, and for each the numbers of its rows in BY order. A contract sees the keys of their rows, and
 /// which BY variables are descending.
 #[derive(Drop)]
 pub struct SortedTables {
+    shared: Arc<Sorted, Global>,
+}
+
+// What copies share: which BY variables are descending, the tables, and for each the numbers of its rows in BY order.
+#[derive(Drop)]
+struct Sorted {
     directions: List<bool>,
     tables: List<KeyedTable>,
     orders: List<List<usize>>,
 }
 
 impl Model for SortedTables {
-    ghost use Rattle.std.specs.Prelude.{◌≤◌, length};
+    ghost use Rattle.std.specs.Arc.{arc_value};
     ghost use Rattle.ds2_table.specs.LoadLaws.{HaveTableKeys};
     ghost use Rattle.ds2_by_order.specs.KeyOrder.{InputKeys, AreOrdersOfRows};
 
     ghost Value = { InputKeys };
 
-    ghost view = { λ t. record { descending = t.directions; tables = t.tables } };
+    ghost view = { λ t. record { descending = (arc_value t.shared).directions; tables = (arc_value t.shared).tables } };
 
-    ghost invariant = { λ t. HaveTableKeys t.directions t.tables × AreOrdersOfRows t.directions t.orders t.tables };
+    ghost invariant = { λ t. HaveTableKeys (arc_value t.shared).directions (arc_value t.shared).tables
+        × AreOrdersOfRows (arc_value t.shared).directions (arc_value t.shared).orders (arc_value t.shared).tables };
 }
 
 // The tables that a statement reads, with the columns of its BY variables.
@@ -60,32 +68,6 @@ fn keyed_tables(
     Ok(keyed)
 }
 
-// The same tables once more.
-fn copies(alloc: Global, tables: &[KeyedTable]) -> Result<List<KeyedTable>, OutOfMemory>
-    ensures { IfOk result (λ copies. copies ≡ tables.now) }
-{
-    let mut copies = List::new(alloc);
-    let mut rest = tables;
-    'tables: while let [table, after @ ..] = rest {
-        copies.push(table.copy(alloc)?)?;
-        rest = after;
-    }
-    Ok(copies)
-}
-
-// The same lists of numbers once more.
-fn copies_of_orders(alloc: Global, orders: &[List<usize>]) -> Result<List<List<usize>>, OutOfMemory>
-    ensures { IfOk result (λ copies. copies ≡ orders.now) }
-{
-    let mut copies = List::new(alloc);
-    let mut rest = orders;
-    'orders: while let [order, after @ ..] = rest {
-        copies.push(order.copy(alloc)?)?;
-        rest = after;
-    }
-    Ok(copies)
-}
-
 impl SortedTables {
     /// Sorts the rows of each table that the statement reads.
     #[tactic(auto, using(crate::proofs::Keys::tables_have))]
@@ -102,24 +84,22 @@ impl SortedTables {
         let directions = directions_of(alloc, bys)?;
         let tables = keyed_tables(alloc, tables, bys, reading.tables.as_slice())?;
         let orders = orders_of_rows(alloc, directions.as_slice(), tables.as_slice())?;
-        Ok(SortedTables {
+        let sorted = Sorted {
             directions,
             tables,
             orders,
+        };
+        Ok(SortedTables {
+            shared: Arc::new(alloc, sorted)?,
         })
     }
 
-    /// The same tables once more; the tables themselves are shared.
-    pub fn copy(&self, alloc: Global) -> Result<SortedTables, OutOfMemory>
+    /// The same tables once more, shared; however many rows they have, this takes no walk over them.
+    pub fn copy(&self, _alloc: Global) -> Result<SortedTables, OutOfMemory>
         ensures { IfOk result (λ copy. copy ≡ self.now) }
     {
-        let directions = self.directions.copy(alloc)?;
-        let tables = copies(alloc, self.tables.as_slice())?;
-        let orders = copies_of_orders(alloc, self.orders.as_slice())?;
         Ok(SortedTables {
-            directions,
-            tables,
-            orders,
+            shared: self.shared.clone()?,
         })
     }
 
@@ -127,28 +107,28 @@ impl SortedTables {
     pub fn have_keys(&self)
         ensures { HaveTableKeys self.now.descending self.now.tables }
     {
-        let _tables = &self.tables;
+        let _shared = &self.shared;
     }
 
     /// The number of tables.
     pub fn len(&self) -> usize
         ensures { result ≡ length self.now.tables }
     {
-        self.tables.len()
+        self.shared.tables.len()
     }
 
     /// The number of BY variables.
     pub fn bys(&self) -> usize
         ensures { result ≡ length self.now.descending }
     {
-        self.directions.len()
+        self.shared.directions.len()
     }
 
     /// The number of rows of a table, 0 past the last one.
     pub fn rows_of(&self, table: usize) -> usize
         ensures { result ≡ length (get_or self.now.tables table []) }
     {
-        match self.tables.get(table) {
+        match self.shared.tables.get(table) {
             None => 0,
             Some(keyed) => keyed.len(),
         }
@@ -162,7 +142,7 @@ impl SortedTables {
         ensures row { option_map (numbered_row table (get_or self.now.tables table [])) result
             ≡ slice_get (ordered_rows self.now.descending table (get_or self.now.tables table [])) place }
     {
-        let numbers = self.orders.get(table)?.as_slice();
+        let numbers = self.shared.orders.get(table)?.as_slice();
         if place < numbers.len() {
             Some(numbers[place])
         } else {
@@ -174,14 +154,24 @@ impl SortedTables {
     pub fn compare(&self, a: TableRow, b: TableRow) -> Ordering
         ensures { result ≡ parts_order self.now.descending (row_in self.now.tables a).key (row_in self.now.tables b).key }
     {
-        compare_rows(self.directions.as_slice(), self.tables.as_slice(), a, b)
+        compare_rows(
+            self.shared.directions.as_slice(),
+            self.shared.tables.as_slice(),
+            a,
+            b,
+        )
     }
 
     /// In how many BY variables two rows are equal, from the first one on.
     pub fn parts_in_common(&self, a: TableRow, b: TableRow) -> usize
         ensures { result ≡ parts_in_common (length self.now.descending) (row_in self.now.tables a).key (row_in self.now.tables b).key }
     {
-        parts_in_common(self.directions.len(), self.tables.as_slice(), a, b)
+        parts_in_common(
+            self.shared.directions.len(),
+            self.shared.tables.as_slice(),
+            a,
+            b,
+        )
     }
 
     /// Whether a load of a row opens a group at a grain, behind a load of another row or as the first one.

@@ -3,7 +3,7 @@ use Rattle.std.specs.Prelude.{get_or}
 use Rattle.std.proofs.lemmas.Fn.{always_returns_same}
 use Rattle.std.proofs.lemmas.List.Sorted.{ranks_by}
 use Rattle.std.proofs.lemmas.Result.{on_ok_weaker}
-use Rattle.ds2_by_order.specs.KeyHeads.{headed_key, is_headed_before}
+use Rattle.ds2_by_order.specs.KeyHeads.{headed_directions, headed_key, is_headed_before}
 use Rattle.ds2_by_order.proofs.Parts.{parts_total}
 use Rattle.ds2_by_order.proofs.headed_sorting.sort_headed.Goals as goal
 
@@ -11,10 +11,10 @@ pub returns-clause-sorted : goal.returns-clause-sorted
 returns-clause-sorted c =
     let keys = get_or c.args.tables.now c.args.table [] in
     on_ok_weaker c.sort_by.result
-    (λ sorted. sorted (is_headed_before c.args.directions.now keys) (ranks_by (parts_total c.args.directions.now) (headed_key keys)) (always_returns_same _ _ _ (λ a r f k. search rules)))
+    (λ sorted. sorted (is_headed_before c.args.directions.now keys) (ranks_by (parts_total (headed_directions c.args.directions.now)) (headed_key keys)) (always_returns_same _ _ _ (λ a r f k. search rules)))
     c.sort_by.ensures.sorted
 
 pub returns-clause-stable : goal.returns-clause-stable
 returns-clause-stable c =
     let keys = get_or c.args.tables.now c.args.table [] in
-    c.sort_by.ensures.stable (is_headed_before c.args.directions.now keys) (ranks_by (parts_total c.args.directions.now) (headed_key keys)) (always_returns_same _ _ _ (λ a r f k. search rules))
+    c.sort_by.ensures.stable (is_headed_before c.args.directions.now keys) (ranks_by (parts_total (headed_directions c.args.directions.now)) (headed_key keys)) (always_returns_same _ _ _ (λ a r f k. search rules))
