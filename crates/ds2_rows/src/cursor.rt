@@ -14,6 +14,7 @@ use ds2_by_order::{Place, SortedTables};
 use ds2_reading::{Load, Reading, Tables};
 use std::alloc::Global;
 use std::marker::Model;
+use std::sync::Arc;
 
 /// A cursor over the loads of `set`. All its memory is taken at opening.
 #[derive(Drop)]
@@ -21,11 +22,12 @@ pub struct SetCursor {
     tables: SortedTables,
     grain: u32,
     place: Place,
-    // where each group begins, and behind the last one
-    groups: List<Place>,
+    // where each group begins, and behind the last one; copies share it
+    groups: Arc<List<Place>, Global>,
 }
 
 impl Model for SetCursor {
+    ghost use Rattle.std.specs.Arc.{arc_value};
     ghost use Rattle.std.specs.Prelude.{length};
     ghost use Rattle.ds2_table.specs.Loads.{set_loads};
     ghost use Rattle.ds2_by_order.specs.CursorState.{Cursor};
@@ -41,7 +43,7 @@ impl Model for SetCursor {
       given = c.place.loads;
     } };
 
-    ghost invariant = { λ c. IsReady c.tables c.place × StandAtGroups c.tables c.grain c.groups };
+    ghost invariant = { λ c. IsReady c.tables c.place × StandAtGroups c.tables c.grain (arc_value c.groups) };
 }
 
 impl SetCursor {
@@ -63,7 +65,8 @@ impl SetCursor {
         let tables = SortedTables::open(alloc, reading, tables)?;
         let _ = tables.count_rows()?;
         tables.have_keys();
-        let groups = group_places(alloc, &tables, grain as usize)?;
+        let places = group_places(alloc, &tables, grain as usize)?;
+        let groups = Arc::new(alloc, places)?;
         let place = Place::start();
         Ok(SetCursor {
             tables,
@@ -111,7 +114,7 @@ impl SetCursor {
         }
     }
 
-    /// A cursor over the same loads, at the same load; the tables are shared.
+    /// A cursor over the same loads, at the same load. What was found at opening is shared, so this takes no walk over the rows.
     pub fn copy(&self, alloc: Global) -> Result<SetCursor, OutOfMemory>
         ensures { IfOk result (λ cursor. cursor ≡ self.now) }
     {
@@ -119,7 +122,7 @@ impl SetCursor {
             tables: self.tables.copy(alloc)?,
             grain: self.grain,
             place: self.place,
-            groups: self.groups.copy(alloc)?,
+            groups: self.groups.clone()?,
         })
     }
 }

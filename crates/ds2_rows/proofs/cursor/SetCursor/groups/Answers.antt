@@ -1,5 +1,6 @@
-use Rattle.std.proofs.Common.{arith}
+use Rattle.std.proofs.Common.{List, length, ap, arith}
+use Rattle.ds2_by_order.specs.declared.place.Place.{Place}
 use Rattle.ds2_rows.proofs.cursor.SetCursor.groups.Goals as goal
 
 pub returns : goal.returns
-returns c = rw (← c.self.view_is) (omega (arith, c.self.invariant.1.count, c.len.ensures))
+returns c = rw (← c.self.view_is) (omega (arith, c.self.invariant.1.count, c.len.ensures, ap (λ (ps : List Place). length ps) c.deref.ensures))

@@ -1,7 +1,8 @@
-use Rattle.std.proofs.Common.{ap, arith, length}
+use Rattle.std.proofs.Common.{ap, arith, length, List, sym, subst}
 use Rattle.ds2_by_order.specs.KeyOrder.{InputKeys}
 use Rattle.ds2_by_order.specs.declared.place.Place.{Place}
 use Rattle.ds2_rows.proofs.Opening.{few_tables, table_count, by_count, ready_at_start, opened_is}
+use Rattle.ds2_rows.specs.SetPlaces.{StandAtGroups}
 use Rattle.ds2_rows.proofs.cursor.SetCursor.open.Goals as goal
 
 pub group_places-requires-clause-grain : goal.group_places-requires-clause-grain
@@ -20,7 +21,7 @@ group_places-requires-clause-tables c =
 pub invariant_of-result : goal.invariant_of-result
 invariant_of-result c = (
   rw c.start-place.ensures (ready_at_start c.args.tables.now c.args.reading.now c.in_ok-tables.tables c.requires.fits c.in_ok-tables.ensures c.have_keys.ensures c.in_ok-count_rows.ensures),
-  c.in_ok-groups.ensures,
+  let P : List Place → Type 0 = λ ps. StandAtGroups c.in_ok-tables.tables c.args.grain ps in subst P (sym c.in_ok-groups.ensures.ok) c.in_ok-places.ensures,
 )
 
 pub returns : goal.returns
