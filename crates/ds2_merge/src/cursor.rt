@@ -15,6 +15,7 @@ use ds2_by_order::SortedTables;
 use ds2_reading::{Load, Reading, Tables};
 use std::alloc::Global;
 use std::marker::Model;
+use std::sync::Arc;
 
 /// A cursor over the loads of `merge`. All its memory is taken at opening.
 #[derive(Drop)]
@@ -22,11 +23,12 @@ pub struct MergeCursor {
     tables: SortedTables,
     grain: u32,
     place: MergePlace,
-    // where each group begins, and behind the last one
-    groups: List<KeyPlace>,
+    // where each group begins, and behind the last one; copies share it
+    groups: Arc<List<KeyPlace>, Global>,
 }
 
 impl Model for MergeCursor {
+    ghost use Rattle.std.specs.Arc.{arc_value};
     ghost use Rattle.std.specs.Prelude.{length};
     ghost use Rattle.ds2_table.specs.Loads.{merge_loads};
     ghost use Rattle.ds2_by_order.specs.CursorState.{Cursor};
@@ -42,7 +44,7 @@ impl Model for MergeCursor {
       given = loads_given c.place;
     } };
 
-    ghost invariant = { λ c. IsReadyToMerge c.tables c.place × StandAtKeys c.tables c.grain c.groups };
+    ghost invariant = { λ c. IsReadyToMerge c.tables c.place × StandAtKeys c.tables c.grain (arc_value c.groups) };
 }
 
 impl MergeCursor {
@@ -63,7 +65,8 @@ impl MergeCursor {
         let tables = SortedTables::open(alloc, reading, tables)?;
         let _ = tables.count_rows()?;
         tables.have_keys();
-        let groups = group_places(alloc, &tables, grain as usize)?;
+        let places = group_places(alloc, &tables, grain as usize)?;
+        let groups = Arc::new(alloc, places)?;
         let place = MergePlace::between(KeyPlace::start());
         Ok(MergeCursor {
             tables,
@@ -110,7 +113,7 @@ impl MergeCursor {
         }
     }
 
-    /// A cursor over the same loads, at the same load; the tables are shared.
+    /// A cursor over the same loads, at the same load. What was found at opening is shared, so this takes no walk over the rows.
     pub fn copy(&self, alloc: Global) -> Result<MergeCursor, OutOfMemory>
         ensures { IfOk result (λ cursor. cursor ≡ self.now) }
     {
@@ -118,7 +121,7 @@ impl MergeCursor {
             tables: self.tables.copy(alloc)?,
             grain: self.grain,
             place: self.place,
-            groups: self.groups.copy(alloc)?,
+            groups: self.groups.clone()?,
         })
     }
 }

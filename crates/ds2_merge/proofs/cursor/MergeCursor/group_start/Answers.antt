@@ -1,6 +1,9 @@
-use Rattle.std.proofs.Common.{◌≤◌, sym, subst, arith}
+use Rattle.std.proofs.Common.{◌≤◌, sym, subst, arith, List, ap, ◌∙◌}
+use Rattle.std.specs.Arc.{arc_value}
+use Rattle.std.specs.Prelude.{slice_get}
 use Rattle.ds2_by_order.specs.CursorState.{Cursor, group_count}
 use Rattle.ds2_merge.specs.KeyPlaces.{loads_given}
+use Rattle.ds2_merge.specs.declared.key_place.KeyPlace.{KeyPlace}
 use Rattle.ds2_merge.proofs.Opening.{cursor_of, not_past}
 use Rattle.ds2_merge.proofs.cursor.MergeCursor.group_start.Goals as goal
 
@@ -8,7 +11,10 @@ pub unreachable-requires : goal.unreachable-requires
 unreachable-requires c =
     let P : Cursor → Type 0 = λ v. c.args.g ≤ group_count v in
     let few : P (cursor_of c.self.inside.tables c.self.inside.grain (loads_given c.self.inside.place)) = subst P (sym c.self.view_is) c.requires in
-    not_past c.self.inside.groups c.args.g (omega (arith, few, c.self.invariant.1.count)) (sym c.in-None.ensures)
+    not_past (arc_value c.self.inside.groups) c.args.g (omega (arith, few, c.self.invariant.1.count))
+    (ap (λ (ps : List KeyPlace). slice_get ps c.args.g) (sym c.deref.ensures) ∙ sym c.in-None.ensures)
 
 pub returns : goal.returns
-returns c = let start = c.self.invariant.1.each c.args.g _ (sym c.in-Some.ensures) in rw (← c.self.view_is) start.1
+returns c =
+    let start = c.self.invariant.1.each c.args.g _ (ap (λ (ps : List KeyPlace). slice_get ps c.args.g) (sym c.deref.ensures) ∙ sym c.in-Some.ensures) in
+    rw (← c.self.view_is) start.1

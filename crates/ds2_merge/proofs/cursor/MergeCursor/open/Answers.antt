@@ -1,7 +1,8 @@
-use Rattle.std.proofs.Common.{ap, arith, length, ◌∙◌}
+use Rattle.std.proofs.Common.{ap, arith, length, ◌∙◌, List, sym, subst}
 use Rattle.ds2_by_order.specs.KeyOrder.{InputKeys}
-use Rattle.ds2_merge.specs.KeyPlaces.{between_keys, loads_given}
+use Rattle.ds2_merge.specs.KeyPlaces.{between_keys, loads_given, StandAtKeys}
 use Rattle.ds2_merge.proofs.Opening.{by_count, can_read, ready_at_start, opened_is}
+use Rattle.ds2_merge.specs.declared.key_place.KeyPlace.{KeyPlace}
 use Rattle.ds2_merge.proofs.cursor.MergeCursor.open.Goals as goal
 
 pub group_places-requires-clause-grain : goal.group_places-requires-clause-grain
@@ -17,7 +18,7 @@ invariant_of-result c = (
   rw (c.between-place.ensures, c.start.ensures)
       (ready_at_start c.in_ok-tables.tables
       (can_read c.args.tables.now c.args.reading.now c.in_ok-tables.tables c.requires.fits c.in_ok-tables.ensures c.have_keys.ensures c.in_ok-count_rows.ensures)),
-  c.in_ok-groups.ensures,
+  let P : List KeyPlace → Type 0 = λ ps. StandAtKeys c.in_ok-tables.tables c.args.grain ps in subst P (sym c.in_ok-groups.ensures.ok) c.in_ok-places.ensures,
 )
 
 pub returns : goal.returns
