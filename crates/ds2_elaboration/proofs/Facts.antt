@@ -1,11 +1,12 @@
 -- What holds of a unit that breaks no rule: its names, its types in bounds, and its rules one by one.
-use Rattle.std.proofs.Common.{◌≡◌, ℕ, bytes_eq, Bool, true, false, not, ◌&&◌, ◌||◌, List, [], ◌∷◌, ◌++◌, map, is_none, is_some, if◌then◌else◌, option_map, option_and_then, Option, Some, None, refl, sym, ap, ◌∙◌, subst}
+use Rattle.std.proofs.Common.{◌≡◌, ℕ, bytes_eq, Bool, true, false, not, ◌&&◌, ◌||◌, List, [], ◌∷◌, ◌++◌, codes, map, is_none, is_some, if◌then◌else◌, option_map, option_and_then, Option, Some, None, refl, sym, ap, ◌∙◌, subst}
 use Rattle.std.specs.List.{AllByRecursion}
 use Rattle.std.specs.Option.{option_map_or}
 use Rattle.ds2_base.specs.declared.place.Place.{Place}
 use Rattle.ds2_token.specs.declared.token.Token.{Token}
 use Rattle.ds2_tree.specs.Globals.{Method}
 use Rattle.ds2_tree.specs.declared.globals.Parameter as source_parameter
+use Rattle.ds2_tree.specs.declared.readings.Reading as source_reading
 use Rattle.ds2_tree.specs.declared.units.OutputTable as source_output
 use Rattle.ds2_value.specs.Types.{JoinTakesBoth, TakesItself, TakesOnward}
 use Rattle.ds2_value.specs.declared.ty.Ty.{Ty}
@@ -13,10 +14,10 @@ use Rattle.ds2_meaning.specs.declared.globals.Variable as typed
 use Rattle.ds2_meaning.specs.declared.refusals.TypeKind.TheVariants.{TypeClash}
 use Rattle.ds2_meaning.specs.IsTyped.{type_in, AreInBounds, variable_names}
 use Rattle.ds2_meaning.specs.ProgramTree.{ProgramTree, is_listed, reader_of}
-use Rattle.ds2_names.specs.NameRules.{from_each, place_unless, from_uses, columns_are_known, unknown_in_use, may_be_column, may_be_global, options_of, all_listed_tokens, is_in_all_tables, unknown_in_instance, is_stage_name, is_thread_instance, unknown_stage, later_places, not_variable_in_use, not_variable_in_instance}
+use Rattle.ds2_names.specs.NameRules.{from_each, place_unless, from_uses, columns_are_known, unknown_in_use, may_be_column, may_be_global, options_of, all_listed_tokens, is_in_all_tables, unknown_in_instance, is_stage_name, is_thread_instance, unknown_stage, later_places, not_variable_in_use, not_variable_in_instance, uses_in}
 use Rattle.ds2_names.specs.Refusals.{broken_at}
-use Rattle.ds2_names.specs.SourceUnit.{TableColumns, UnitSource, spelled_name, PlacedName, names_alone, variable_declarations, source_methods, is_package, InstanceOf, AnyPackage, HashObject, HashIterator, AnyThread, SourceInstance, instance_named, KnownThread, thread_named, thread_of_instance, reading_of_run, tables_of_reading, stage_token, stage_read, SourceNames, all_globals, is_named}
-use Rattle.ds2_names.specs.UnitRules.{bad_type_numbers, declared_types, method_types, bad_reading_number, unit_types, misplaced_in_method, misplaced_in_kind, misplaced_null, option_word}
+use Rattle.ds2_names.specs.SourceUnit.{TableColumns, UnitSource, spelled_name, PlacedName, names_alone, variable_declarations, source_methods, UnitKind, OfPackage, OfThread, OfData, is_package, is_thread, InstanceOf, AnyPackage, HashObject, HashIterator, AnyThread, SourceInstance, instance_named, KnownThread, thread_named, thread_of_instance, reading_of_run, reads_thread, reading_by_kind, tables_of_reading, stage_token, stage_read, SourceNames, all_globals, is_named}
+use Rattle.ds2_names.specs.UnitRules.{bad_type_numbers, declared_types, method_types, bad_reading_number, unit_types, reading_place, misplaced_reading, misplaced_head, misplaced_in_all, misplaced_setting, is_system_method, may_write, may_read, misplaced_in_method, misplaced_in_kind, misplaced_null, option_word}
 use Rattle.ds2_elaboration.specs.ElaborationLaws.{BreaksNoRule}
 use Rattle.ds2_elaboration.specs.ProgramTypes.{instance_refusals, scope_of_declarations, method_refusals}
 use Rattle.ds2_elaboration.specs.SourceTypes.{spelled_type, program_variables, parameter_variables, unit_names, program_inputs, unit_stage, stage_typing, column_variables, unjoined_columns, clashing_at, clashing_tables, vector_variables}
@@ -74,6 +75,40 @@ nothing_mapped f xs e = ap (λ ys. map f ys) e
 -- a name at a place
 abbrev placed_at : List ℕ → Place → PlacedName
 placed_at name place = record { name = name; place = place }
+
+-- ---- reading statements
+
+tables_kept : (b run : Bool) (reading : source_reading.Reading) (place : Place) → place_unless (not b && run) place ≡ [] → (if b then None else Some reading) ≡ Some reading
+tables_kept true run reading place h = cc
+tables_kept false run reading place h = refl
+
+-- a reading statement of a program that stands where it may stand gives it names
+stands_kept : (kind : UnitKind) (run : Bool) (reading : Option source_reading.Reading) → is_package kind ≡ false
+    → misplaced_reading (λ r. (not (is_thread kind) || not (reads_thread r)) && run) reading ≡ [] → reading_by_kind kind reading ≡ reading
+stands_kept OfPackage run reading p h = cc
+stands_kept OfThread run None p h = refl
+stands_kept OfThread run (Some reading) p h = tables_kept (reads_thread reading) run reading (reading_place reading) h
+stands_kept OfData run reading p h = refl
+
+kept_if : (b : Bool) (kind : UnitKind) (own rest : Option source_reading.Reading) → reading_by_kind kind own ≡ own → reading_by_kind kind rest ≡ rest
+    → reading_by_kind kind (if b then own else rest) ≡ (if b then own else rest)
+kept_if true kind own rest f g = f
+kept_if false kind own rest f g = g
+
+-- so does that of `run`
+run_kept : (names : SourceNames) (methods : List Method) → is_package names.unit.kind ≡ false → from_each (misplaced_in_method names) methods ≡ []
+    → reading_by_kind names.unit.kind (reading_of_run methods) ≡ reading_of_run methods
+run_kept names [] p h = stands_kept names.unit.kind false None p refl
+run_kept names (m ∷ methods) p h =
+    let kind = names.unit.kind in
+    let head = misplaced_head names m in
+    let reading = misplaced_reading (may_read names m) m.reading in
+    let body = misplaced_in_all (may_write names m) (is_some m.returns) false m.body in
+    let settings = from_each (misplaced_setting names m) (uses_in names m) in
+    let q = both_empty (misplaced_in_method names m) (from_each (misplaced_in_method names) methods) h in
+    let own = (both_empty head reading (both_empty (head ++ reading) body (both_empty (head ++ reading ++ body) settings q.0).0).0).1 in
+    kept_if (bytes_eq (spelled_name m.name) (codes "run")) kind m.reading (reading_of_run methods)
+    (stands_kept kind (is_system_method (codes "run") names m) m.reading p own) (run_kept names methods p q.1)
 
 module _ (laws : JoinLaws) (tables : TableColumns) (before : UnitsBefore) (u : UnitSource) (given : UnitHolds tables before u) where
   abbrev names_here : SourceNames
@@ -306,4 +341,4 @@ module _ (laws : JoinLaws) (tables : TableColumns) (before : UnitsBefore) (u : U
   -- ---- the reading statement of a program
 
   pub reading_is : is_package u.kind ≡ false → names_here.reading ≡ reading_of_run methods_here
-  reading_is p = ap (λ b. if b then None else reading_of_run methods_here) p
+  reading_is p = run_kept names_here methods_here p placed_methods

@@ -17,7 +17,7 @@ use Rattle.ds2_value.specs.Row.{Columns}
 use Rattle.ds2_meaning.specs.IsTyped.{are_distinct}
 use Rattle.ds2_meaning.specs.ProgramTree.{is_listed}
 use Rattle.ds2_names.specs.NameRules.{from_each, later_places}
-use Rattle.ds2_names.specs.SourceUnit.{TableColumns, spelled_name, PlacedName, placed_name, names_alone, variable_declarations, source_methods, is_package, UnitSource, SourceInstance, source_instances, KnownThread, KnownUnit, reading_of_run, tables_of_reading, new_columns_of, new_columns, stage_token, stage_columns_at, stage_read, columns_of_stage, SourceNames, names_of_unit, vector_names, plain_globals, instance_names, all_globals}
+use Rattle.ds2_names.specs.SourceUnit.{TableColumns, spelled_name, PlacedName, placed_name, names_alone, variable_declarations, source_methods, UnitKind, OfPackage, OfThread, OfData, reads_thread, reading_by_kind, UnitSource, SourceInstance, source_instances, KnownThread, KnownUnit, reading_of_run, tables_of_reading, new_columns_of, new_columns, stage_token, stage_columns_at, stage_read, columns_of_stage, SourceNames, names_of_unit, vector_names, plain_globals, instance_names, all_globals}
 use Rattle.ds2_elaboration.specs.ElaborationLaws.{StandsAmong}
 use Rattle.ds2_elaboration.proofs.Distinct.{NoneListed, distinct_append}
 use Rattle.ds2_elaboration.proofs.Limits.{tables_within}
@@ -190,10 +190,17 @@ run_among [] t m = absurd m
 run_among (x ∷ methods) t m =
     run_if (bytes_eq (spelled_name x.name) (codes "run")) x.reading (reading_of_run methods) (from_each (λ (y : Method). if_any reading_spelling y.reading) methods) t (run_among methods t) m
 
-read_if : (b : Bool) (methods : List Method) (t : Token) → StandsAmong (if_any reading_spelling (if b then None else reading_of_run methods)) t
-    → StandsAmong (from_each (λ (m : Method). if_any reading_spelling m.reading) methods) t
-read_if true methods t m = absurd m
-read_if false methods t m = run_among methods t m
+tables_if : (b : Bool) (reading : source_reading.Reading) (t : Token) → StandsAmong (if_any reading_spelling (if b then None else Some reading)) t
+    → StandsAmong (if_any reading_spelling (Some reading)) t
+tables_if true reading t m = absurd m
+tables_if false reading t m = m
+
+kind_among : (kind : UnitKind) (reading : Option source_reading.Reading) (t : Token) → StandsAmong (if_any reading_spelling (reading_by_kind kind reading)) t
+    → StandsAmong (if_any reading_spelling reading) t
+kind_among OfPackage reading t m = absurd m
+kind_among OfThread None t m = absurd m
+kind_among OfThread (Some reading) t m = tables_if (reads_thread reading) reading t m
+kind_among OfData reading t m = m
 
 -- ---- names that stand apart
 
@@ -221,7 +228,7 @@ module _ (tables : TableColumns) (known : List KnownUnit) (u : UnitSource) (sour
 
   -- the tokens of the reading statement of the unit
   read_here : (t : Token) → StandsAmong (if_any reading_spelling names_here.reading) t → StandsAmong (from_each reading_tokens u.globals) t
-  read_here t m = subst (λ (ts : List Token). StandsAmong ts t) (readings_as_tokens u.globals) (read_if (is_package u.kind) (source_methods u.globals) t m)
+  read_here t m = subst (λ (ts : List Token). StandsAmong ts t) (readings_as_tokens u.globals) (run_among (source_methods u.globals) t (kind_among u.kind (reading_of_run (source_methods u.globals)) t m))
 
   columns_stand : AllByRecursion (StandsAt (from_each reading_tokens u.globals)) names_here.columns
   columns_stand =

@@ -26,7 +26,7 @@ use Rattle.ds2_meaning.specs.ProgramTree.{UnitTree, is_listed, methods_of}
 use Rattle.ds2_meaning.specs.Reading.{inputs_of, bys_of}
 use Rattle.ds2_names.specs.NameRules.{from_each, later_places, is_system, uses_in}
 use Rattle.ds2_names.specs.SourceUnit.{TableColumns, UnitKind, OfPackage, OfThread, OfData, is_package, is_thread, UnitSource, spelled_name, placed_name, names_alone, source_methods, is_system_name, local_names, reading_of_run, tables_of_reading, bys_of_reading, flag_names, SourceNames}
-use Rattle.ds2_names.specs.UnitRules.{misplaced_in_all, misplaced_head, misplaced_reading, is_system_method, may_write, misplaced_setting, misplaced_in_method}
+use Rattle.ds2_names.specs.UnitRules.{misplaced_in_all, misplaced_head, misplaced_reading, may_write, may_read, misplaced_setting, misplaced_in_method}
 use Rattle.ds2_names.specs.Uses.{method_named}
 use Rattle.ds2_elaboration.specs.ExpressionTypes.{ObjectCalls, InstanceCalls, HashCalls, IteratorCalls, ParameterCalls, callable_methods, number_of_method}
 use Rattle.ds2_elaboration.specs.ProgramTypes.{made_outputs, made_names, return_rule, methods_to_call, is_init_method, scope_with, scope_of_method, scope_of_declarations, method_refusals, method_tree_of, method_trees, body_of_method, made_output, thread_output, unit_outputs, typed_unit}
@@ -172,7 +172,7 @@ module _ (laws : JoinLaws) (tables : TableColumns) (before : UnitsBefore) (u : U
   places_hold : (m : Method) → misplaced_in_method names_here m ≡ [] → PlacesHold m
   places_hold m h =
       let head = misplaced_head names_here m in
-      let reading = misplaced_reading (is_system_method (codes "run") names_here m) m.reading in
+      let reading = misplaced_reading (may_read names_here m) m.reading in
       let body = misplaced_in_all (may_write names_here m) (is_some m.returns) false m.body in
       let settings = from_each (misplaced_setting names_here m) (uses_in names_here m) in
       let p = both_empty (head ++ reading ++ body) settings h in

@@ -1,16 +1,16 @@
 -- What is misplaced in a unit, part by part.
-use Rattle.std.proofs.Common.{◌≡◌, ℕ, ◌+◌, Bool, true, false, not, ◌&&◌, ◌||◌, List, [], ◌∷◌, ◌++◌, bytes_eq, nat_le, nat_eq, nat_lt, length, Option, Some, None, refl, sym, ap, ◌∙◌}
+use Rattle.std.proofs.Common.{◌≡◌, ◌+◌, Bool, true, false, not, ◌&&◌, ◌||◌, List, [], ◌∷◌, ◌++◌, bytes_eq, nat_le, nat_eq, nat_lt, length, Option, Some, None, refl, sym, ap, ◌∙◌}
 use Rattle.std.specs.Prelude.{if◌then◌else◌, codes, map, filter, is_some}
 use Rattle.std.specs.Option.{option_map, option_map_or}
 use Rattle.ds2_base.specs.declared.place.Place.{Place}
 use Rattle.ds2_token.specs.declared.token.Token.{Token}
 use Rattle.ds2_tree.specs.Globals.{Method, GlobalItem, Declared, Listed, Defined}
 use Rattle.ds2_tree.specs.declared.units.OutputTable as source_output
-use Rattle.ds2_names.specs.NameRules.{from_each, from_uses, place_unless, uses_in}
+use Rattle.ds2_names.specs.NameRules.{from_each, place_unless, uses_in}
 use Rattle.ds2_names.specs.SourceUnit.{spelled_name, is_system_name, is_package, is_thread, UnitKind, OfPackage, OfThread, OfData, InstanceOf, AnyPackage, HashObject, HashIterator, AnyThread, SourceInstance, KnownUnit, KnownThread, thread_of_instance, thread_named, SourceNames}
-use Rattle.ds2_names.specs.UnitRules.{misplaced_null, misplaced_setting, misplaced_reading, misplaced_in_all, misplaced_in_method, misplaced_in_kind, may_write, makes_long_chain, instance_keywords, list_keywords, misplaced}
+use Rattle.ds2_names.specs.UnitRules.{misplaced_null, misplaced_setting, misplaced_reading, misplaced_in_all, misplaced_in_method, misplaced_in_kind, longest_chain, makes_long_chain, instance_keywords, list_keywords}
 use Rattle.ds2_scope.specs.Earliest.{earlier_of, earliest}
-use Rattle.ds2_misplaced.specs.MisplacedParts.{allows, rule_on_outputs, is_system_in, may_read_in, misplaced_method_head, misplaced_body, misplaced_in_method_of, keyword_where, list_keyword_in, null_place, repeated_options, misplaced_aside, misplaced_settings, MisplacedIsBoth}
+use Rattle.ds2_misplaced.specs.MisplacedParts.{allows, rule_on_outputs, is_system_in, may_read_in, misplaced_method_head, misplaced_body, misplaced_in_method_of, chain_or_one, keyword_where, list_keyword_in, null_place, repeated_options, misplaced_aside, misplaced_settings, MisplacedIsBoth}
 use Rattle.ds2_scope.specs.UnitsKnown.{kept_thread}
 use Rattle.ds2_scope.specs.declared.known.KnownThread as code_thread
 use Rattle.ds2_scope.proofs.EarliestLemmas.{earlier_of_assoc, earliest_append, swap_last, interchange}
@@ -101,38 +101,21 @@ list_item (Declared d) gs = refl
 list_item (Listed keyword names end) gs = refl
 list_item (Defined m) gs = refl
 
--- an instance of a thread program that is not known makes no long chain
-pub no_chain : (known : List KnownUnit) (i : SourceInstance) → None ≡ option_map kept_thread (thread_of_instance known (Some i)) → false ≡ makes_long_chain known i.sort
-no_chain known i h = by i.sort h
+-- an instance of a thread program makes a long chain by what is kept of that
+pub chain_is : (known : List KnownUnit) (i : SourceInstance) (t : Token) (thread : Option code_thread.KnownThread) → i.sort ≡ AnyThread t
+    → thread ≡ option_map kept_thread (thread_of_instance known (Some i)) → nat_lt longest_chain (chain_or_one thread + 1) ≡ makes_long_chain known i.sort
+chain_is known i t thread = by i.sort
   where
-    none : (r : Option KnownThread) → None ≡ option_map kept_thread r → false ≡ option_map_or (λ (t : KnownThread). nat_lt 8 (t.chain + 1)) r false
-    none None k = refl
-    none (Some t) k = absurd (cc k)
+    kept_chain : (r : Option KnownThread) → chain_or_one (option_map kept_thread r) ≡ option_map_or (λ (k : KnownThread). k.chain) r 1
+    kept_chain None = refl
+    kept_chain (Some r) = refl
 
-    by : (sort : InstanceOf) → None ≡ option_map kept_thread (thread_of_instance known (Some (record i { sort = sort }))) → false ≡ makes_long_chain known sort
-    by (AnyPackage package' arguments) k = refl
-    by (HashObject keys items table) k = refl
-    by (HashIterator hash) k = refl
-    by (AnyThread thread) k = none (thread_named known (spelled_name thread)) k
-
--- one of a known thread program makes one by the chain of that
-pub chain_is : (known : List KnownUnit) (i : SourceInstance) (thread : code_thread.KnownThread) → Some thread ≡ option_map kept_thread (thread_of_instance known (Some i))
-    → nat_lt 8 (thread.chain + 1) ≡ makes_long_chain known i.sort
-chain_is known i thread h = by i.sort h
-  where
-    chain_in : Option code_thread.KnownThread → ℕ
-    chain_in None = 0
-    chain_in (Some t) = t.chain
-
-    some : (r : Option KnownThread) → Some thread ≡ option_map kept_thread r → nat_lt 8 (thread.chain + 1) ≡ option_map_or (λ (t : KnownThread). nat_lt 8 (t.chain + 1)) r false
-    some None k = absurd (cc k)
-    some (Some t) k = ap (λ o. nat_lt 8 (chain_in o + 1)) k
-
-    by : (sort : InstanceOf) → Some thread ≡ option_map kept_thread (thread_of_instance known (Some (record i { sort = sort }))) → nat_lt 8 (thread.chain + 1) ≡ makes_long_chain known sort
-    by (AnyPackage package' arguments) k = absurd (cc k)
-    by (HashObject keys items table) k = absurd (cc k)
-    by (HashIterator hash) k = absurd (cc k)
-    by (AnyThread thread') k = some (thread_named known (spelled_name thread')) k
+    by : (sort : InstanceOf) → sort ≡ AnyThread t → thread ≡ option_map kept_thread (thread_of_instance known (Some (record i { sort = sort })))
+        → nat_lt longest_chain (chain_or_one thread + 1) ≡ makes_long_chain known sort
+    by (AnyPackage package' arguments) h k = absurd (cc h)
+    by (HashObject keys items table) h k = absurd (cc h)
+    by (HashIterator hash) h k = absurd (cc h)
+    by (AnyThread t') h k = ap (λ n. nat_lt longest_chain (n + 1)) (ap chain_or_one k ∙ kept_chain (thread_named known (spelled_name t')))
 
 -- ---- a unit
 

@@ -1,5 +1,5 @@
 -- What is misplaced in one part of a unit, calls of `setparms` aside.
-use Rattle.std.specs.Prelude.{◌≡◌, ℕ, Bool, true, false, not, ◌&&◌, ◌||◌, nat_eq, bytes_eq, codes, if◌then◌else◌, List, [], ◌∷◌, ◌++◌, length, map, is_some, is_none}
+use Rattle.std.specs.Prelude.{◌≡◌, ℕ, Bool, true, false, not, ◌&&◌, ◌||◌, nat_eq, bytes_eq, codes, if◌then◌else◌, List, [], ◌∷◌, ◌++◌, length, map, is_some, is_none, Option}
 use Rattle.std.specs.Option.{option_map_or}
 use Rattle.ds2_base.specs.declared.place.Place.{Place}
 use Rattle.ds2_token.specs.declared.token.Token.{Token}
@@ -7,6 +7,7 @@ use Rattle.ds2_tree.specs.Globals.{Method, GlobalItem}
 use Rattle.ds2_tree.specs.declared.globals.Parameter as source_parameter
 use Rattle.ds2_tree.specs.Statements as s
 use Rattle.ds2_tree.specs.StatementViews.{statement_tree}
+use Rattle.ds2_tree.specs.declared.readings.Reading.{Reading}
 use Rattle.ds2_tree.specs.declared.statements.DoControl.{DoControl}
 use Rattle.ds2_tree.specs.declared.statements.DoControl.TheVariants as control
 use Rattle.ds2_tree.specs.declared.statements.ElseIf.{ElseIf}
@@ -14,9 +15,10 @@ use Rattle.ds2_tree.specs.declared.units.OutputOption.{OutputOption}
 use Rattle.ds2_tree.specs.declared.units.OutputOption.TheVariants as option
 use Rattle.ds2_tree.specs.declared.units.OutputTable as source_output
 use Rattle.ds2_names.specs.NameRules.{from_each, from_uses, place_unless, later_places, options_of}
-use Rattle.ds2_names.specs.SourceUnit.{spelled_name, is_system_name, is_package, PlacedName, UnitKind, OfPackage, OfThread, OfData, InstanceOf, SourceInstance, SourceNames}
+use Rattle.ds2_names.specs.SourceUnit.{spelled_name, is_system_name, is_package, is_thread, PlacedName, UnitKind, OfPackage, OfThread, OfData, InstanceOf, SourceInstance, reads_thread, SourceNames}
 use Rattle.ds2_names.specs.UnitRules.{option_word, misplaced_reading, misplaced_in, misplaced_in_all, misplaced_in_whens, misplaced_in_otherwise, misplaced_in_kind, misplaced_null, misplaced_setting, misplaced, list_keywords}
 use Rattle.ds2_scope.specs.Earliest.{earlier_of, earliest}
+use Rattle.ds2_scope.specs.declared.known.KnownThread.{KnownThread}
 use Rattle.ds2_misplaced.specs.declared.output_rule.OutputRule.{OutputRule}
 use Rattle.ds2_misplaced.specs.declared.output_rule.OutputRule.TheVariants as output_rule_is
 
@@ -63,8 +65,8 @@ abbrev pub is_system_in : UnitKind → List ℕ → Bool
 is_system_in kind name = not (is_package kind) && is_system_name name
 
 -- a reading statement may stand in a method of this name of a unit of a kind
-abbrev pub may_read_in : UnitKind → List ℕ → Bool
-may_read_in kind name = not (is_package kind) && bytes_eq name (codes "run")
+abbrev pub may_read_in : UnitKind → List ℕ → Reading → Bool
+may_read_in kind name reading = (not (is_thread kind) || not (reads_thread reading)) && (not (is_package kind) && bytes_eq name (codes "run"))
 
 -- a method with parameters or a result, where it is a system method
 abbrev pub misplaced_method_head : Bool → Method → List Place
@@ -104,6 +106,10 @@ null_place o = place_unless (not (bytes_eq (spelled_name o.table) (codes "_null_
 -- the word of the declaration of an instance for which a test holds
 abbrev pub keyword_where : (InstanceOf → Bool) → SourceInstance → List Place
 keyword_where test i = place_unless (not (test i.sort)) i.keyword.place
+
+-- how many thread programs the chain has that ends with one, by what is kept of it: one that is not known counts as one
+abbrev pub chain_or_one : Option KnownThread → ℕ
+chain_or_one thread = option_map_or (λ (t : KnownThread). t.chain) thread 1
 
 -- the word of a list, where a part of a unit is one
 abbrev pub list_keyword_in : GlobalItem → List Place

@@ -1,18 +1,19 @@
 //! What a unit of a kind may not hold: a package no instances of packages and thread programs and no lists, a thread program no
 //! `in_out` parameters and no instance that makes a long chain of thread programs.
-ghost use Rattle.std.specs.Prelude.{◌≡◌, ◌+◌, IfOk, List as Items, map, nat_lt};
+ghost use Rattle.std.specs.Prelude.{◌≡◌, ◌+◌, IfOk, List as Items, map, nat_lt, option_copied};
 ghost use Rattle.ds2_tree.specs.UnitViews.{global_tree};
 ghost use Rattle.ds2_names.specs.NameRules.{from_each};
 ghost use Rattle.ds2_names.specs.SourceUnit.{TableColumns, KnownUnit, source_instances, names_of_unit};
-ghost use Rattle.ds2_names.specs.UnitRules.{is_kept_from_packages, list_keywords, makes_long_chain, in_out_words, misplaced_in_kind};
+ghost use Rattle.ds2_names.specs.UnitRules.{is_kept_from_packages, list_keywords, longest_chain, makes_long_chain, in_out_words, misplaced_in_kind};
 ghost use Rattle.ds2_scope.specs.CodeUnits.{unit_kind, unit_source, instance_sort, instances_in_source};
 ghost use Rattle.ds2_scope.specs.Earliest.{earliest};
-ghost use Rattle.ds2_misplaced.specs.MisplacedParts.{keyword_where, list_keyword_in, in_out_word};
+ghost use Rattle.ds2_misplaced.specs.MisplacedParts.{chain_or_one, keyword_where, list_keyword_in, in_out_word};
 ghost use Rattle.ds2_scope.specs.UnitsKnown.{KnowsUnits};
 
 use ds2_base::{OutOfMemory, Place};
 use ds2_scope::{
-    Instance, InstanceSort, KnownUnits, Unit, UnitKind, earlier_of, place_unless, thread_of,
+    Instance, InstanceSort, KnownThread, KnownUnits, Unit, UnitKind, earlier_of, place_unless,
+    thread_of,
 };
 use ds2_tree::{GlobalItem, Parameter};
 use std::alloc::Global;
@@ -84,11 +85,24 @@ fn earliest_in_out(parameters: &[Parameter]) -> Option<Place>
     found
 }
 
+// How many thread programs a chain may have.
+const LONGEST_CHAIN: u32 = 1;
+
 // Whether a chain of so many thread programs is too long with one more.
 fn is_long(chain: u32) -> bool
-    ensures { result ≡ nat_lt 8 (chain + 1) }
+    ensures { result ≡ nat_lt longest_chain (chain + 1) }
 {
-    chain >= 8
+    chain >= LONGEST_CHAIN
+}
+
+// How many thread programs the chain has that ends with this one: one that is not known counts as one.
+fn chain_or_one(thread: Option<&KnownThread>) -> u32
+    ensures { result ≡ chain_or_one (option_copied thread.entry) }
+{
+    match thread {
+        None => 1,
+        Some(thread) => thread.chain,
+    }
 }
 
 // Whether an instance makes a long chain.
@@ -99,9 +113,14 @@ fn makes_long_chain(
 ) -> Result<bool, OutOfMemory>
     ensures { IfOk result (λ is_long. (units : Items KnownUnit) → KnowsUnits known.now units → is_long ≡ makes_long_chain units (instance_sort instance.now.sort)) }
 {
-    match thread_of(alloc, known, instance)? {
-        None => Ok(false),
-        Some(thread) => Ok(is_long(thread.chain)),
+    match instance.sort {
+        InstanceSort::Package { .. } => Ok(false),
+        InstanceSort::Hash { .. } => Ok(false),
+        InstanceSort::Iterator(_) => Ok(false),
+        InstanceSort::Thread(_) => {
+            let thread = thread_of(alloc, known, instance)?;
+            Ok(is_long(chain_or_one(thread)))
+        }
     }
 }
 

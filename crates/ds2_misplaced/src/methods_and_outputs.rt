@@ -3,7 +3,7 @@ ghost use Rattle.std.specs.Prelude.{◌≡◌, ◌++◌, IfOk, List as Items, ma
 ghost use Rattle.ds2_tree.specs.UnitViews.{method_tree, global_tree};
 ghost use Rattle.ds2_names.specs.NameRules.{from_each, later_places, options_of};
 ghost use Rattle.ds2_names.specs.SourceUnit.{TableColumns, KnownUnit, source_instances, source_methods, names_of_unit};
-ghost use Rattle.ds2_names.specs.UnitRules.{misplaced_reading, misplaced_null};
+ghost use Rattle.ds2_names.specs.UnitRules.{reading_place, misplaced_reading, misplaced_null};
 ghost use Rattle.ds2_scope.specs.Collected.{methods_in};
 ghost use Rattle.ds2_scope.specs.Earliest.{earlier_of, earliest};
 ghost use Rattle.ds2_misplaced.specs.MisplacedParts.{is_system_in, may_read_in, rule_on_outputs, misplaced_method_head, misplaced_body, misplaced_in_method_of, misplaced_aside, option_token, option_names, repeated_options, null_place};
@@ -17,7 +17,7 @@ use ds2_base::{List, OutOfMemory, Place};
 use ds2_names::PlacedName;
 use ds2_scope::{
     Instance, KnownUnits, Unit, UnitKind, earlier_of, earliest_later, is_system_name, place_unless,
-    placed_name, spelled_name,
+    placed_name, reads_thread, spelled_name,
 };
 use ds2_token::Token;
 use ds2_tree::{GlobalItem, Method, OutputOption, OutputOptions, OutputTable, Reading};
@@ -57,28 +57,35 @@ fn rule_on_outputs(kind: UnitKind, is_system: bool) -> OutputRule
     }
 }
 
-// The place of the first token of a reading statement that may not stand there.
-fn misplaced_reading(may_read: bool, reading: &Option<Reading>) -> Option<Place>
-    ensures { result ≡ earliest (misplaced_reading may_read reading.now) }
+// The place of the first token of a reading statement.
+fn reading_place(reading: &Reading) -> Place
+    ensures { result ≡ reading_place reading.now }
 {
     match reading {
-        None => None,
-        Some(reading) => match reading {
-            Reading::Set { keyword, .. } => place_unless(may_read, keyword.place),
-            Reading::SetFrom { keyword, .. } => place_unless(may_read, keyword.place),
-            Reading::Merge { keyword, .. } => place_unless(may_read, keyword.place),
-        },
+        Reading::Set { keyword, .. } => keyword.place,
+        Reading::SetFrom { keyword, .. } => keyword.place,
+        Reading::Merge { keyword, .. } => keyword.place,
     }
 }
 
-// Whether a reading statement may stand in a method of this name.
-fn may_read_in(kind: UnitKind, name: &[u8]) -> bool
-    ensures { result ≡ may_read_in (unit_kind kind) name.now }
+// Whether a reading statement may stand in a method of this name: a thread program reads tables alone.
+fn may_read_in(kind: UnitKind, name: &[u8], reading: &Reading) -> bool
+    ensures { result ≡ may_read_in (unit_kind kind) name.now reading.now }
 {
     match kind {
         UnitKind::Package => false,
-        UnitKind::Thread => name == b"run".as_slice(),
+        UnitKind::Thread => !reads_thread(reading) && name == b"run".as_slice(),
         UnitKind::Data => name == b"run".as_slice(),
+    }
+}
+
+// The place of a reading statement that may not stand in a method of this name.
+fn misplaced_reading(kind: UnitKind, name: &[u8], reading: &Option<Reading>) -> Option<Place>
+    ensures { result ≡ earliest (misplaced_reading (may_read_in (unit_kind kind) name.now) reading.now) }
+{
+    match reading {
+        None => None,
+        Some(reading) => place_unless(may_read_in(kind, name, reading), reading_place(reading)),
     }
 }
 
@@ -105,9 +112,8 @@ fn in_method(alloc: Global, kind: UnitKind, m: &Method) -> Result<Option<Place>,
 {
     let name = spelled_name(alloc, &m.name)?;
     let is_system = is_system_in(kind, name.as_slice());
-    let may_read = may_read_in(kind, name.as_slice());
     let head = misplaced_head(is_system, m);
-    let reading = misplaced_reading(may_read, &m.reading);
+    let reading = misplaced_reading(kind, name.as_slice(), &m.reading);
     let body = within_body(rule_on_outputs(kind, is_system), m);
     Ok(earlier_of(head, earlier_of(reading, body)))
 }

@@ -6,15 +6,14 @@ use Rattle.ds2_base.specs.declared.place.Place.{Place}
 use Rattle.ds2_token.specs.declared.token.Token.{Token}
 use Rattle.ds2_tree.specs.Globals.{GlobalItem, Declared, Listed, Defined}
 use Rattle.ds2_tree.specs.declared.readings.Input as source_input
-use Rattle.ds2_tree.specs.declared.readings.Reading.{Reading}
 use Rattle.ds2_tree.specs.declared.units.OutputTable as source_output
 use Rattle.ds2_calls.specs.InstanceSorts.{sort_of, sort_if_any, sort_named}
 use Rattle.ds2_names.specs.NameRules.{from_each, place_unless, options_of, option_tokens, all_listed_tokens, is_in_all_tables, may_be_global, unknown_stage, is_thread_instance}
-use Rattle.ds2_names.specs.SourceUnit.{TableColumns, is_earlier, PlacedName, UnitKind, OfPackage, OfThread, OfData, is_package, UnitSource, InstanceOf, AnyPackage, HashObject, HashIterator, AnyThread, SourceInstance, KnownUnit, SourceNames, spelled_name, listed_tokens, source_methods, instance_named, tables_of_reading, reading_of_run, stage_token, names_of_unit}
+use Rattle.ds2_names.specs.SourceUnit.{TableColumns, is_earlier, PlacedName, UnitSource, InstanceOf, AnyPackage, HashObject, HashIterator, AnyThread, SourceInstance, KnownUnit, SourceNames, spelled_name, listed_tokens, source_methods, instance_named, tables_of_reading, stage_token, names_of_unit}
 use Rattle.ds2_name_uses.specs.BrokenUses.{broken_in_method, unknown_beside_uses, unknown_names_used, BreaksFirst}
 use Rattle.ds2_name_uses.specs.declared.scope.UsageRule.TheVariants as usage
 use Rattle.ds2_scope.specs.Earliest.{earlier_of, earliest}
-use Rattle.ds2_scope.specs.UnitNames.{reading_by_kind, reading_in_unit}
+use Rattle.ds2_scope.specs.UnitNames.{reading_in_unit}
 use Rattle.ds2_name_uses.specs.ListedParts.{unknown_global, unknown_globals, unknown_in_lists, unknown_in_output, lacking_column, lacking_by, is_stage_sort, unknown_stage_by}
 use Rattle.ds2_name_uses.specs.UseRules.{NameTests, is_global_there}
 use Rattle.ds2_value.specs.Schema.{has_column}
@@ -124,14 +123,9 @@ stage_is names t (Some n) sorts =
 
 -- ---- a unit
 
-by_kind : (k : UnitKind) (reading : Option Reading) → (if is_package k then None else reading) ≡ reading_by_kind k reading
-by_kind OfPackage reading = refl
-by_kind OfThread reading = refl
-by_kind OfData reading = refl
-
 module _ (tables : TableColumns) (known : List KnownUnit) (u : UnitSource) where
   reading_is : (names_of_unit tables known u).reading ≡ reading_in_unit u
-  reading_is = by_kind u.kind (reading_of_run (source_methods u.globals))
+  reading_is = refl
 
   -- the names that are not there: those in uses, and the others
   unknown_parts : (t : NameTests) → ((name : List ℕ) → may_be_global (names_of_unit tables known u) name ≡ is_global_there t name)

@@ -47,8 +47,13 @@ unit_name_examples = record {
   in_out_of_a_thread = refl;
   parameter_of_a_thread = refl;
   output_of_a_name = refl;
-  chain_of_nine = refl;
-  chain_of_eight = refl;
+  thread_in_a_thread = refl;
+  unknown_thread_in_a_thread = refl;
+  thread_read_by_a_thread = refl;
+  no_column_of_the_read_thread = refl;
+  column_of_the_read_thread_kept = refl;
+  no_instance_read_by_a_thread = refl;
+  table_read_by_a_thread = refl;
 }
 
 pub limit_examples : LimitExamples

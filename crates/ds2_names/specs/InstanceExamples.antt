@@ -161,9 +161,17 @@ package_p in_out = Packaged (record {
 abbrev pub thread_t : ℕ → List KnownUnit
 thread_t chain = Threaded (record { name = codes "t"; parameters = codes "n" ∷ []; columns = codes "c" ∷ []; chain = chain }) ∷ []
 
+-- the thread program a with a column c, which reads tables
+abbrev pub thread_a : List KnownUnit
+thread_a = Threaded (record { name = codes "a"; parameters = []; columns = codes "c" ∷ []; chain = 1 }) ∷ []
+
 -- set from i;
 abbrev pub from_i : Option source_reading.Reading
 from_i = Some (reading.SetFrom (word_in 215 (codes "set")) (word_in 219 (codes "from")) (word_in 224 (codes "i")) None (col 225))
+
+-- set s;
+abbrev pub from_s : Option source_reading.Reading
+from_s = Some (reading.Set (word_in 215 (codes "set")) (record { table = word_in 219 (codes "s"); flag = None } ∷ []) (col 220) None)
 
 -- ---- instances
 
@@ -228,12 +236,21 @@ pub record UnitNameExamples : Type 0 where
   pub parameters_in_init : refused (thread_t 1) (data_unit (bigints_at 20 (codes "k" ∷ []) ∷ thread_at 50 (codes "t") (codes "i") ∷ Defined (method_placed_at 70 (codes "init") [] None (call_on 90 (codes "i") (codes "setparms") (word_in 101 (codes "k") ∷ []) ∷ [])) ∷ running [] ∷ [])) ≡ None
   pub parameters_in_run : refused (thread_t 1) (data_unit (bigints_at 20 (codes "k" ∷ []) ∷ thread_at 50 (codes "t") (codes "i") ∷ running (call_on 220 (codes "i") (codes "setparms") (word_in 231 (codes "k") ∷ []) ∷ []) ∷ [])) ≡ refused_at Misplaced 220
   pub missing_parameter : refused (thread_t 1) (data_unit (bigints_at 20 (codes "k" ∷ []) ∷ thread_at 50 (codes "t") (codes "i") ∷ Defined (method_placed_at 70 (codes "init") [] None (call_on 90 (codes "i") (codes "setparms") [] ∷ [])) ∷ running [] ∷ [])) ≡ refused_at WrongCount 92
-  -- thread t; in_out in its parameters, output t; and a chain of nine
+  -- thread t; in_out in its parameters, and output t;
   pub in_out_of_a_thread : refused [] (record (thread_unit (bigints_at 50 (codes "k" ∷ []) ∷ [])) { parameters = parameter_placed_at 20 (word_in_out 13) (codes "n") ∷ [] }) ≡ refused_at Misplaced 13
   pub parameter_of_a_thread : refused [] (record (thread_unit (bigints_at 50 (codes "k" ∷ []) ∷ running (name_into 220 (codes "n") (codes "n") ∷ []) ∷ [])) { parameters = parameter_placed_at 20 None (codes "n") ∷ [] }) ≡ None
   pub output_of_a_name : refused [] (thread_unit (bigints_at 50 (codes "k" ∷ []) ∷ running (s.Output (word_in 220 (codes "output")) (word_in 227 (codes "t") ∷ []) (col 228) ∷ []) ∷ [])) ≡ refused_at Misplaced 220
-  pub chain_of_nine : refused (Threaded (record { name = codes "a"; parameters = []; columns = codes "c" ∷ []; chain = 8 }) ∷ []) (thread_unit (bigints_at 20 (codes "k" ∷ []) ∷ thread_at 50 (codes "a") (codes "i") ∷ [])) ≡ refused_at Misplaced 50
-  pub chain_of_eight : refused (Threaded (record { name = codes "a"; parameters = []; columns = codes "c" ∷ []; chain = 7 }) ∷ []) (thread_unit (bigints_at 20 (codes "k" ∷ []) ∷ thread_at 50 (codes "a") (codes "i") ∷ [])) ≡ None
+  -- in a thread program: dcl thread a i; where there is an a, and where there is none
+  pub thread_in_a_thread : refused thread_a (thread_unit (bigints_at 20 (codes "k" ∷ []) ∷ thread_at 50 (codes "a") (codes "i") ∷ [])) ≡ refused_at Misplaced 50
+  pub unknown_thread_in_a_thread : refused [] (thread_unit (bigints_at 20 (codes "k" ∷ []) ∷ thread_at 50 (codes "a") (codes "i") ∷ [])) ≡ refused_at Misplaced 50
+  -- set from i; before that, and where there is no i; and set s;
+  pub thread_read_by_a_thread : refused thread_a (thread_unit (bigints_at 20 (codes "k" ∷ []) ∷ Defined (method_placed_at 200 (codes "run") [] from_i []) ∷ thread_at 400 (codes "a") (codes "i") ∷ [])) ≡ refused_at Misplaced 215
+  -- it gives no columns: without one of its own there is none, and `keep c` names none
+  pub no_column_of_the_read_thread : refused thread_a (thread_unit (Defined (method_placed_at 200 (codes "run") [] from_i []) ∷ thread_at 400 (codes "a") (codes "i") ∷ [])) ≡ refused_at NoColumns 8
+  pub column_of_the_read_thread_kept : refused thread_a (thread_unit (bigints_at 20 (codes "k" ∷ []) ∷ Listed (word_in 50 (codes "keep")) (word_in 55 (codes "k") ∷ word_in 57 (codes "c") ∷ []) (col 58)
+      ∷ Defined (method_placed_at 200 (codes "run") [] from_i []) ∷ thread_at 400 (codes "a") (codes "i") ∷ [])) ≡ refused_at UnknownName 57
+  pub no_instance_read_by_a_thread : refused [] (thread_unit (bigints_at 20 (codes "k" ∷ []) ∷ Defined (method_placed_at 200 (codes "run") [] from_i []) ∷ [])) ≡ refused_at Misplaced 215
+  pub table_read_by_a_thread : refused [] (thread_unit (bigints_at 20 (codes "k" ∷ []) ∷ Defined (method_placed_at 200 (codes "run") [] from_s []) ∷ [])) ≡ None
 
 -- ---- limits
 
@@ -242,10 +259,6 @@ abbrev pub sixteen_tables : List (List ℕ)
 sixteen_tables =
     codes "a" ∷ codes "b" ∷ codes "c" ∷ codes "d" ∷ codes "e" ∷ codes "f" ∷ codes "g" ∷ codes "h" ∷ codes "i" ∷ codes "j" ∷ codes "k" ∷ codes "l"
     ∷ codes "m" ∷ codes "n" ∷ codes "o" ∷ codes "p" ∷ []
-
--- set s;
-abbrev pub from_s : Option source_reading.Reading
-from_s = Some (reading.Set (word_in 215 (codes "set")) (record { table = word_in 219 (codes "s"); flag = None } ∷ []) (col 220) None)
 
 -- outputs of these names
 abbrev pub outputs_named : List (List ℕ) → List source_output.OutputTable

@@ -248,6 +248,22 @@ abbrev pub reading_of_run : List Method → Option source_reading.Reading
 reading_of_run [] = None
 reading_of_run (m ∷ methods) = if bytes_eq (spelled_name m.name) (codes "run") then m.reading else reading_of_run methods
 
+-- a reading statement reads from a thread program
+abbrev pub reads_thread : source_reading.Reading → Bool
+reads_thread (reading.SetFrom keyword from instance threads end) = true
+reads_thread _ = false
+
+-- a reading statement that reads tables
+abbrev pub reading_of_tables : Option source_reading.Reading → Option source_reading.Reading
+reading_of_tables None = None
+reading_of_tables (Some reading) = if reads_thread reading then None else Some reading
+
+-- the reading statement that gives a unit names: any in a data program, one that reads tables in a thread program, none in a package
+abbrev pub reading_by_kind : UnitKind → Option source_reading.Reading → Option source_reading.Reading
+reading_by_kind OfPackage reading = None
+reading_by_kind OfThread reading = reading_of_tables reading
+reading_by_kind OfData reading = reading
+
 -- the tables of a reading statement
 abbrev pub tables_of_reading : Option source_reading.Reading → List source_input.Input
 tables_of_reading None = []
@@ -319,7 +335,7 @@ pub record SourceNames : Type 0 where
   pub bys : List PlacedName
   pub instances : List SourceInstance
   pub methods : List Method
-  -- the reading statement of `run`, which a package has not
+  -- the reading statement of `run` that gives it names
   pub reading : Option source_reading.Reading
   pub outputs : List source_output.OutputTable
 
@@ -339,7 +355,7 @@ names_of_unit tables known u =
     let declared = declared_names (variable_declarations u.globals) in
     let instances = source_instances u.globals in
     let methods = source_methods u.globals in
-    let reading = if is_package u.kind then None else reading_of_run methods in
+    let reading = reading_by_kind u.kind (reading_of_run methods) in
     let inputs = tables_of_reading reading in
     record {
       unit = u;

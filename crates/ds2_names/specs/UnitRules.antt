@@ -23,7 +23,7 @@ use Rattle.ds2_tree.specs.declared.units.OutputOption.{OutputOption}
 use Rattle.ds2_tree.specs.declared.units.OutputOption.TheVariants as option
 use Rattle.ds2_tree.specs.declared.units.OutputTable as source_output
 use Rattle.ds2_names.specs.Refusals.{broken_at}
-use Rattle.ds2_names.specs.SourceUnit.{TableColumns, spelled_name, PlacedName, placed_name, is_earlier, variable_declarations, local_names, UnitKind, OfPackage, OfThread, OfData, is_package, is_thread, InstanceOf, AnyPackage, HashObject, AnyThread, SourceInstance, KnownThread, KnownUnit, thread_named, tables_of_reading, SourceNames, instance_names, all_globals}
+use Rattle.ds2_names.specs.SourceUnit.{TableColumns, spelled_name, PlacedName, placed_name, is_earlier, variable_declarations, local_names, UnitKind, OfPackage, OfThread, OfData, is_package, is_thread, InstanceOf, AnyPackage, HashObject, AnyThread, SourceInstance, KnownThread, KnownUnit, thread_named, reads_thread, tables_of_reading, SourceNames, instance_names, all_globals}
 use Rattle.ds2_names.specs.Uses.{NameUse, CallsOn}
 use Rattle.ds2_meaning.specs.declared.refusals.ScopeKind.{ScopeKind}
 use Rattle.ds2_meaning.specs.declared.refusals.ScopeKind.TheVariants as kind
@@ -118,10 +118,10 @@ reading_place (reading.Set keyword inputs end by) = keyword.place
 reading_place (reading.SetFrom keyword from instance threads end) = keyword.place
 reading_place (reading.Merge keyword inputs retain end by) = keyword.place
 
--- a reading statement where it may not stand
-abbrev pub misplaced_reading : Bool → Option source_reading.Reading → List Place
+-- a reading statement where it may not stand, by a test that tells which one may stand there
+abbrev pub misplaced_reading : (source_reading.Reading → Bool) → Option source_reading.Reading → List Place
 misplaced_reading may_read None = []
-misplaced_reading may_read (Some reading) = place_unless may_read (reading_place reading)
+misplaced_reading may_read (Some reading) = place_unless (may_read reading) (reading_place reading)
 
 -- a `return` with a value where no type is returned, or without one where one is
 abbrev pub misplaced_return : Bool → Token → Option Expression → List Place
@@ -172,6 +172,10 @@ is_system_method name names m = not (is_package names.unit.kind) && bytes_eq (sp
 abbrev pub may_write : SourceNames → Method → List Token → Bool
 may_write names m tables = is_system names (spelled_name m.name) && (not (is_thread names.unit.kind) || nat_eq (length tables) 0)
 
+-- a reading statement stands in `run` alone, and reads from no thread program in a thread program
+abbrev pub may_read : SourceNames → Method → source_reading.Reading → Bool
+may_read names m reading = (not (is_thread names.unit.kind) || not (reads_thread reading)) && is_system_method (codes "run") names m
+
 -- a call of `setparms` of an instance of a known thread program
 abbrev pub is_setting : SourceNames → Method → Token → Token → Bool
 is_setting names m object method =
@@ -188,7 +192,7 @@ misplaced_setting names m _ = []
 abbrev pub misplaced_in_method : SourceNames → Method → List Place
 misplaced_in_method names m =
     misplaced_head names m
-    ++ misplaced_reading (is_system_method (codes "run") names m) m.reading
+    ++ misplaced_reading (may_read names m) m.reading
     ++ misplaced_in_all (may_write names m) (is_some m.returns) false m.body
     ++ from_each (misplaced_setting names m) (uses_in names m)
 
@@ -204,9 +208,15 @@ list_keywords [] = []
 list_keywords (Listed keyword names end ∷ globals) = keyword.place ∷ list_keywords globals
 list_keywords (_ ∷ globals) = list_keywords globals
 
--- an instance of a thread program that makes a chain of more than eight thread programs
+-- how many thread programs a chain may have, each of which reads from the next: one, which reads tables alone
+abbrev pub longest_chain : ℕ
+longest_chain = 1
+
+-- an instance of a thread program that makes a chain of more thread programs than it may have; one of a thread program that is not
+-- known adds one, too
 abbrev pub makes_long_chain : List KnownUnit → InstanceOf → Bool
-makes_long_chain known (AnyThread thread) = option_map_or (λ (t : KnownThread). nat_lt 8 (t.chain + 1)) (thread_named known (spelled_name thread)) false
+makes_long_chain known (AnyThread thread) =
+    nat_lt longest_chain (option_map_or (λ (t : KnownThread). t.chain) (thread_named known (spelled_name thread)) 1 + 1)
 makes_long_chain known _ = false
 
 -- the words of declarations of instances for which a test holds

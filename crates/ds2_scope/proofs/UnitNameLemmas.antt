@@ -1,5 +1,5 @@
 -- The names of a unit, from the lists that its parts give.
-use Rattle.std.proofs.Common.{◌≡◌, ℕ, Bool, true, false, not, List, [], ◌∷◌, ◌++◌, Option, Some, None, refl, sym, ap, ◌∙◌, append-nil, append_assoc}
+use Rattle.std.proofs.Common.{◌≡◌, ℕ, Bool, true, false, not, List, [], ◌∷◌, ◌++◌, Option, Some, None, refl, ap, ◌∙◌, append-nil, append_assoc}
 use Rattle.std.specs.Prelude.{if◌then◌else◌, map, filter, is_some}
 use Rattle.std.specs.Option.{option_map}
 use Rattle.ds2_base.specs.declared.place.Place.{Place}
@@ -7,13 +7,12 @@ use Rattle.ds2_token.specs.declared.token.Token.{Token}
 use Rattle.ds2_tree.specs.declared.readings.Reading.{Reading}
 use Rattle.ds2_tree.specs.declared.readings.Reading.TheVariants as reading
 use Rattle.ds2_meaning.specs.ProgramTree.{is_listed}
-use Rattle.ds2_names.specs.SourceUnit.{TableColumns, PlacedName, names_alone, declared_names, variable_declarations, SourceInstance, source_instances, source_methods, UnitKind, OfPackage, OfThread, OfData, is_package, UnitSource, KnownUnit, KnownThread, SourceNames, names_of_unit, flag_names, new_columns, stage_columns_at, columns_of_stage, reading_of_run, tables_of_reading, bys_of_reading, stage_token, stage_read}
+use Rattle.ds2_names.specs.SourceUnit.{TableColumns, PlacedName, names_alone, declared_names, variable_declarations, SourceInstance, source_instances, UnitSource, KnownUnit, KnownThread, names_of_unit, flag_names, new_columns, stage_columns_at, columns_of_stage, tables_of_reading, bys_of_reading, stage_token, stage_read}
 use Rattle.ds2_scope.specs.Collected.{by_name, output_table_name, parameter_name, instance_name}
-use Rattle.ds2_scope.specs.NameSets.{stage_column_by, stage_columns_by}
-use Rattle.ds2_scope.specs.UnitNames.{NamesAre, reading_by_kind, reading_in_unit, is_stage_open}
+use Rattle.ds2_scope.specs.NameSets.{stage_columns_by}
+use Rattle.ds2_scope.specs.UnitNames.{NamesAre, reading_in_unit, is_stage_open}
 use Rattle.ds2_scope.specs.UnitsKnown.{kept_thread}
 use Rattle.ds2_scope.specs.declared.known.KnownThread as code_thread
-use Rattle.ds2_scope.specs.declared.unit_names.UnitNames.{UnitNames}
 
 -- ---- columns of a thread program
 
@@ -58,14 +57,9 @@ module _ (known : List KnownUnit) (is : List SourceInstance) (names : List (List
 
 -- ---- a unit
 
-by_kind : (kind : UnitKind) (r : Option Reading) → reading_by_kind kind r ≡ (if is_package kind then None else r)
-by_kind OfPackage r = refl
-by_kind OfThread r = refl
-by_kind OfData r = refl
-
 -- the reading statement of a unit is that among its names
 pub reading_is : (tables : TableColumns) (known : List KnownUnit) (u : UnitSource) → reading_in_unit u ≡ (names_of_unit tables known u).reading
-reading_is tables known u = by_kind u.kind (reading_of_run (source_methods u.globals))
+reading_is tables known u = refl
 
 -- declared variables, the columns of tables and those of a thread program
 pub read_is : (tables : TableColumns) (known : List KnownUnit) (is : List SourceInstance) (d : List PlacedName) (r : Option Reading)

@@ -27,7 +27,9 @@ pub use earliest::{earlier, earlier_of, is_earlier, place_unless};
 pub use instances::{Instance, InstanceSort, instance_names, instances_of};
 pub use known::{KnownThread, KnownUnits, one_more};
 pub use names::{is_system_name, placed_name, push_names, spelled_name};
-pub use reading::{by_names, bys_of, push_flags, reading_of_run, stage_of, tables_of};
+pub use reading::{
+    by_names, bys_of, push_flags, reading_of_run, reads_thread, stage_of, tables_of,
+};
 pub use refusal::BrokenRules;
 pub use repeated::earliest_later;
 pub use unit::{Unit, UnitKind, unit_of_data, unit_of_package, unit_of_thread};

@@ -1,7 +1,7 @@
 //! The reading statement of a unit.
 ghost use Rattle.std.specs.Prelude.{◌≡◌, ◌++◌, [], IfOk, OnOk, map, option_copied};
 ghost use Rattle.ds2_tree.specs.UnitViews.{global_tree};
-ghost use Rattle.ds2_names.specs.SourceUnit.{placed_name, source_methods, reading_of_run, tables_of_reading, by_list, bys_of_reading, flag_names, stage_token};
+ghost use Rattle.ds2_names.specs.SourceUnit.{placed_name, source_methods, reading_of_run, reads_thread, reading_of_tables, tables_of_reading, by_list, bys_of_reading, flag_names, stage_token};
 ghost use Rattle.ds2_scope.specs.Collected.{by_name, flags_in};
 
 use crate::names::{placed_name, spelled_name};
@@ -27,6 +27,33 @@ pub fn reading_of_run<'t>(
         }
     }
     Ok(None)
+}
+
+/// Whether a reading statement reads from a thread program.
+pub fn reads_thread(reading: &Reading) -> bool
+    ensures { result ≡ reads_thread reading.now }
+{
+    match reading {
+        Reading::Set { .. } => false,
+        Reading::SetFrom { .. } => true,
+        Reading::Merge { .. } => false,
+    }
+}
+
+/// A reading statement that reads tables.
+pub(crate) fn reading_of_tables(reading: Option<&Reading>) -> Option<&Reading>
+    ensures { option_copied result ≡ reading_of_tables (option_copied reading.entry) }
+{
+    match reading {
+        None => None,
+        Some(reading) => {
+            if reads_thread(reading) {
+                None
+            } else {
+                Some(reading)
+            }
+        }
+    }
 }
 
 /// The tables of a reading statement.

@@ -2,9 +2,9 @@
 ghost use Rattle.std.specs.Prelude.{◌≡◌, ◌++◌, IfOk, OnOk, List as Items, Some, option_copied};
 ghost use Rattle.std.specs.Option.{option_map};
 ghost use Rattle.ds2_tree.specs.UnitViews.{data_tree};
-ghost use Rattle.ds2_names.specs.SourceUnit.{KnownUnit, flag_names, columns_stored, names_alone, names_of_source, names_of_unit, source_instances, thread_of_instance, stage_read, columns_of_stage, instance_named};
+ghost use Rattle.ds2_names.specs.SourceUnit.{KnownUnit, flag_names, columns_stored, names_alone, names_of_source, names_of_unit, source_instances, thread_of_instance, stage_read, columns_of_stage, instance_named, reading_by_kind};
 ghost use Rattle.ds2_scope.specs.CodeUnits.{unit_kind, unit_source, source_instance, instances_in_source};
-ghost use Rattle.ds2_scope.specs.UnitNames.{NamesAre, reading_by_kind, reading_in_unit, is_stage_open};
+ghost use Rattle.ds2_scope.specs.UnitNames.{NamesAre, reading_in_unit, is_stage_open};
 ghost use Rattle.ds2_scope.specs.UnitsKnown.{KnowsUnits, kept_thread};
 
 use crate::collected::{declared_names, output_names, parameter_names};
@@ -12,7 +12,9 @@ use crate::columns::{add_columns, add_stage_columns};
 use crate::instances::{Instance, InstanceSort, instance_names, instances_of};
 use crate::known::{KnownThread, KnownUnits};
 use crate::names::spelled_name;
-use crate::reading::{by_names, bys_of, push_flags, reading_of_run, stage_of, tables_of};
+use crate::reading::{
+    by_names, bys_of, push_flags, reading_of_run, reading_of_tables, stage_of, tables_of,
+};
 use crate::unit::{Unit, UnitKind, unit_of_data};
 use ds2_base::{List, OutOfMemory};
 use ds2_names::{NamedSchema, PlacedName};
@@ -39,18 +41,18 @@ pub struct UnitNames {
     pub is_open: bool,
 }
 
-// A reading statement, which a package has not.
+// The reading statement that gives a unit of a kind names: none in a package, and none that reads from a thread program in a thread program.
 fn reading_by_kind(kind: UnitKind, reading: Option<&Reading>) -> Option<&Reading>
     ensures { option_copied result ≡ reading_by_kind (unit_kind kind) (option_copied reading.entry) }
 {
     match kind {
         UnitKind::Package => None,
-        UnitKind::Thread => reading,
+        UnitKind::Thread => reading_of_tables(reading),
         UnitKind::Data => reading,
     }
 }
 
-/// The reading statement of a unit: that of `run`, which a package has not.
+/// The reading statement of `run` that gives a unit names: a package has none, and a thread program none that reads from a thread program.
 pub fn reading_of_unit<'t>(
     alloc: Global,
     unit: Unit<'t>,

@@ -12,9 +12,8 @@ returns c =
     let kind = unit_kind c.args.kind in
     let m = method_tree c.args.m.now in
     let system = c.is_system_in-is_system.ensures ∙ ap (is_system_in kind) (c.as_slice.ensures ∙ c.in_ok-name.ensures) in
-    let reads = c.may_read_in-may_read.ensures ∙ ap (may_read_in kind) (c.as_slice-2.ensures ∙ c.in_ok-name.ensures) in
     let head = c.misplaced_head-head.ensures ∙ ap (λ s. earliest (misplaced_method_head s m)) system in
-    let reading = c.misplaced_reading-reading.ensures ∙ ap (λ r. earliest (misplaced_reading r m.reading)) reads in
+    let reading = c.misplaced_reading-reading.ensures ∙ ap (λ n. earliest (misplaced_reading (may_read_in kind n) m.reading)) (c.as_slice-2.ensures ∙ c.in_ok-name.ensures) in
     let body = c.within_body-body.ensures ∙ ap (λ r. earliest (misplaced_body r m)) (c.rule_on_outputs.ensures ∙ ap (rule_on_outputs kind) system) in
     c.earlier_of-2.ensures
     ∙ ap (earlier_of c.misplaced_head-head.result) c.earlier_of.ensures

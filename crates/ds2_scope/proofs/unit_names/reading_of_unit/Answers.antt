@@ -1,6 +1,6 @@
 use Rattle.std.proofs.Common.{ap, ◌∙◌}
+use Rattle.ds2_names.specs.SourceUnit.{reading_by_kind}
 use Rattle.ds2_scope.specs.CodeUnits.{unit_kind}
-use Rattle.ds2_scope.specs.UnitNames.{reading_by_kind}
 use Rattle.ds2_scope.proofs.unit_names.reading_of_unit.Goals as goal
 
 pub returns : goal.returns
