@@ -23,7 +23,7 @@ use Rattle.ds2_expression_walk.specs.declared.function_names.OneName.{OneName}
 use Rattle.ds2_expression_walk.specs.declared.function_names.OneName.TheVariants as one
 use Rattle.ds2_expression_walk.specs.declared.function_names.SeveralName.{SeveralName}
 use Rattle.ds2_expression_walk.specs.declared.function_names.SeveralName.TheVariants as several
-use Rattle.ds2_expression_walk.proofs.KnownNames.{none_not_some, some_not_none, inside}
+use Rattle.ds2_reference_types.proofs.KnownNames.{none_not_some, some_not_none, inside}
 
 -- ---- how many arguments there are
 

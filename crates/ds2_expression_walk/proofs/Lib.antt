@@ -1,12 +1,4 @@
-pub mod IfOks
-pub mod KnownNames
-pub mod ObjectForms
 pub mod FirstPlaces
 pub mod FunctionForms
-pub mod References
-pub mod PassingForms
-pub mod MethodResults
 pub mod ChainWalk
-pub mod ArgumentWalk
 pub mod Told
-pub mod Fronts

@@ -23,11 +23,11 @@ use Rattle.ds2_elaboration.specs.ExpressionTypes.{TypeScope, ElaboratedArguments
 use Rattle.ds2_elaboration.specs.Typings.{elaborated_nameless}
 use Rattle.ds2_types.specs.Judgements.{IsJudged, Judges}
 use Rattle.ds2_types.specs.declared.judgement.Judgement.{Judgement}
-use Rattle.ds2_expression_walk.specs.Passing.{AreAllPassed}
-use Rattle.ds2_expression_walk.specs.Scopes.{IsKnownMethod, IsMethodAs, AreKnownMethods, IsScopeOf}
-use Rattle.ds2_expression_walk.specs.declared.scopes.KnownMethod.{KnownMethod}
-use Rattle.ds2_expression_walk.specs.declared.scopes.Scope.{Scope}
-use Rattle.ds2_expression_walk.proofs.KnownNames.{none_not_some, some_not_none, inside}
+use Rattle.ds2_reference_types.specs.Passing.{AreAllPassed}
+use Rattle.ds2_reference_types.specs.Scopes.{IsKnownMethod, IsMethodAs, AreKnownMethods, IsScopeOf}
+use Rattle.ds2_reference_types.specs.declared.scopes.KnownMethod.{KnownMethod}
+use Rattle.ds2_reference_types.specs.declared.scopes.Scope.{Scope}
+use Rattle.ds2_reference_types.proofs.KnownNames.{none_not_some, some_not_none, inside}
 
 -- what is judged of an expression that the code holds
 abbrev pub IsJudgedAs : TypeScope → Judgement → code.Expression → Type 0

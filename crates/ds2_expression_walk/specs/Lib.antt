@@ -1,9 +1,3 @@
-pub mod Scopes
-pub mod Flags
 pub mod ArgumentCounts
 pub mod FunctionNames
-pub mod Parameters
-pub mod Passing
-pub mod FurtherArguments
-pub mod ArgumentTrees
 pub mod ChainForms

@@ -9,10 +9,10 @@ use crate::argument_counts::{
     ArgumentCount, FirstAndOthers, TwoArguments, alone, are_at_most, counted, headed, two,
 };
 use crate::function_names::{OneName, SeveralName, one_named, several_named};
-use crate::names::{nameless, spelled_name};
 use ds2_base::{List, OutOfMemory, Place};
 use ds2_expression_types::choices::{coalesce, extreme, substring};
 use ds2_meaning::Function;
+use ds2_reference_types::names::{nameless, spelled_name};
 use ds2_token::Token;
 use ds2_types::functions::{absolute, length, null_test, remainder, trim, whole};
 use ds2_types::judgement::Judgement;

@@ -13,27 +13,29 @@ ghost use Rattle.ds2_tree.specs.ExpressionViews.{expression_tree, operands_of, a
 ghost use Rattle.ds2_types.specs.Judgements.{IsOutcome, IsJudged, Judges};
 ghost use Rattle.ds2_value.specs.declared.ty.Ty.TheVariants.{BigInt};
 ghost use Rattle.ds2_expression_types.specs.Arguments.{AreJudged};
-ghost use Rattle.ds2_expression_walk.specs.ArgumentTrees.{argument_in};
+ghost use Rattle.ds2_reference_types.specs.ArgumentTrees.{argument_in};
 ghost use Rattle.ds2_expression_walk.specs.ChainForms.{chain_behind};
 ghost use Rattle.ds2_expression_types.specs.Growth.{IsGrownChain, IsGrowth};
-ghost use Rattle.ds2_expression_walk.specs.Passing.{ArePassed, AreAllPassed, passed_part, passed_refusals};
-ghost use Rattle.ds2_expression_walk.specs.Scopes.{AreKnownMethods, IsKnownObject, IsScopeOf, value_parameter};
+ghost use Rattle.ds2_reference_types.specs.Passing.{ArePassed, AreAllPassed, passed_part, passed_refusals};
+ghost use Rattle.ds2_reference_types.specs.Scopes.{AreKnownMethods, IsKnownObject, IsScopeOf, value_parameter};
 
 use crate::named_functions::{function, null_call};
-use crate::names::{nameless, spelled_name};
-use crate::objects::{hash_call, iterator_call};
-use crate::parameters::{first_parameter, further_parameters, have_arguments};
-use crate::passing::{PassedArguments, counted_arguments, pass, result_of, without_result};
 use crate::places::first_place;
-use crate::scopes::{KnownCalls, KnownMethods, KnownObject, Scope, method_among};
-use crate::settable::lent_variable;
-use crate::variables::{member_value, variable};
 use ds2_base::{List, Name, OutOfMemory, Place};
 use ds2_expression_types::constants::{constant_value, null_value};
 use ds2_expression_types::growth::{
     GrownOutcome, Growth, finished, finished_truth, grow, grow_truth, seed, seed_truth,
 };
 use ds2_meaning::Parameter;
+use ds2_reference_types::names::{nameless, spelled_name};
+use ds2_reference_types::objects::{hash_call, iterator_call};
+use ds2_reference_types::parameters::{first_parameter, further_parameters, have_arguments};
+use ds2_reference_types::passing::{
+    PassedArguments, counted_arguments, pass, result_of, without_result,
+};
+use ds2_reference_types::scopes::{KnownCalls, KnownMethods, KnownObject, Scope, method_among};
+use ds2_reference_types::settable::lent_variable;
+use ds2_reference_types::variables::{member_value, variable};
 use ds2_token::Token;
 use ds2_tree::{Argument, Callee, ChainKind, Expression, Operand};
 use ds2_types::judgement::Judgement;

@@ -19,7 +19,7 @@ use Rattle.ds2_elaboration.specs.Typings.{ElaboratedExpression, elaborated_null,
 use Rattle.ds2_types.specs.Judgements.{node_tree, IsJudged, IsOutcome, Judges}
 use Rattle.ds2_types.specs.declared.judgement.Judgement.{Judgement}
 use Rattle.ds2_types.specs.declared.judgement.Node.{Node}
-use Rattle.ds2_expression_walk.specs.Passing.{lent_variable}
+use Rattle.ds2_reference_types.specs.Passing.{lent_variable}
 use Rattle.ds2_instance_types.specs.ConstantArguments.{constant_argument, negated_node}
 
 -- ---- a number or text, in which no rule is broken

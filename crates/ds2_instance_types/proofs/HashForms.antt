@@ -19,8 +19,8 @@ use Rattle.ds2_elaboration.specs.ExpressionTypes.{KnownVariable, TypeScope, glob
 use Rattle.ds2_elaboration.specs.ProgramTypes.{clashing_load, hash_variable_of}
 use Rattle.ds2_elaboration.specs.SourceTypes.{is_joined_to, type_of_column}
 use Rattle.ds2_elaboration.specs.Typings.{TypeRefusals, clash_unless, typing_behind, where_known}
-use Rattle.ds2_expression_walk.specs.Scopes.{reference_of, IsKnownAs, IsKnownVariable}
-use Rattle.ds2_expression_walk.specs.declared.scopes.KnownName.{KnownName}
+use Rattle.ds2_reference_types.specs.Scopes.{reference_of, IsKnownAs, IsKnownVariable}
+use Rattle.ds2_reference_types.specs.declared.scopes.KnownName.{KnownName}
 use Rattle.ds2_types.specs.Judgements.{first_type_refusal, lesser_refusal}
 use Rattle.ds2_types.proofs.RefusalOrder.{least_append, none_given}
 use Rattle.ds2_instance_types.specs.HashDeclarations.{variables_of_reference}

@@ -16,7 +16,7 @@ use Rattle.ds2_elaboration.specs.ExpressionTypes.{ElaboratedArguments, arguments
 use Rattle.ds2_elaboration.specs.ProgramTypes.{arguments_of_constructor, constructor_arguments, constructor_of}
 use Rattle.ds2_elaboration.specs.SourceTypes.{elaborated_parameters}
 use Rattle.ds2_elaboration.specs.UnitsBefore.{PackageTypes}
-use Rattle.ds2_expression_walk.specs.Passing.{AreAllPassed}
+use Rattle.ds2_reference_types.specs.Passing.{AreAllPassed}
 use Rattle.ds2_types.specs.Judgements.{IsOutcome}
 use Rattle.ds2_instance_types.specs.PackageInstances.{construction_of, construction_with, instance_of_types, IsInstanceOf}
 

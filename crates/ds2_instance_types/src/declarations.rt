@@ -15,13 +15,13 @@ use crate::constructors::{PackageOutcome, package_instance};
 use crate::hashes::{HashDeclaration, hash_clash, hash_object, text_name};
 use ds2_base::{OutOfMemory, Refusal};
 use ds2_declared_types::names::name;
-use ds2_expression_walk::scopes::KnownNames;
 use ds2_known_types::{KnownTypes, parameters_of};
 use ds2_meaning::{
     DeclaredHash, DeclaredIterator, Instance as TypedInstance, MentionedTable, ThreadInstance,
     TypeKind,
 };
 use ds2_names::NamedSchema;
+use ds2_reference_types::scopes::KnownNames;
 use ds2_scope::{Instance, InstanceSort, spelled_name};
 use ds2_token::Token;
 use ds2_tree::Constant;

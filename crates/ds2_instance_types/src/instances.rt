@@ -16,13 +16,13 @@ ghost use Rattle.ds2_types.specs.Judgements.{IsOutcome};
 
 use crate::declarations::{DeclarationOutcome, InstanceContext, TypedDeclaration, declared};
 use ds2_base::{List, OutOfMemory, Refusal};
-use ds2_expression_walk::scopes::KnownNames;
 use ds2_known_types::KnownTypes;
 use ds2_meaning::{
     DeclaredHash, DeclaredIterator, Instance as TypedInstance, MentionedTable, ThreadInstance,
     TypeKind,
 };
 use ds2_names::NamedSchema;
+use ds2_reference_types::scopes::KnownNames;
 use ds2_scope::Instance;
 use ds2_types::refusals::first_of_both;
 use std::alloc::Global;

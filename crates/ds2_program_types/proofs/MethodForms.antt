@@ -15,8 +15,8 @@ use Rattle.ds2_meaning.specs.declared.methods.Method as typed
 use Rattle.ds2_meaning.specs.declared.refusals.TypeKind.{TypeKind}
 use Rattle.ds2_types.specs.Judgements.{IsOutcome}
 use Rattle.ds2_expression_types.proofs.ArgumentLists.{map-push}
-use Rattle.ds2_statement_types.specs.BothParts.{with_one}
-use Rattle.ds2_statement_types.proofs.PartLists.{one_behind}
+use Rattle.ds2_simple_statement_types.specs.BothParts.{with_one}
+use Rattle.ds2_simple_statement_types.proofs.PartLists.{one_behind}
 use Rattle.ds2_program_types.specs.PackageMethods.{AreTyped}
 use Rattle.ds2_meaning.specs.declared.globals.Variable.{Variable}
 use Rattle.ds2_meaning.specs.declared.methods.Parameter.{Parameter}

@@ -12,8 +12,8 @@ use Rattle.ds2_names.specs.NameRules.{from_each}
 use Rattle.ds2_names.specs.SourceUnit.{TableColumns, source_methods, UnitSource}
 use Rattle.ds2_tree.specs.Globals.{GlobalItem, Declared, Listed, Defined, Method}
 use Rattle.ds2_types.specs.Judgements.{IsOutcome}
-use Rattle.ds2_statement_types.proofs.PartLists.{from_each-push}
-use Rattle.ds2_statement_types.proofs.PartOutcomes.{outcome_under}
+use Rattle.ds2_simple_statement_types.proofs.PartLists.{from_each-push}
+use Rattle.ds2_simple_statement_types.proofs.PartOutcomes.{outcome_under}
 use Rattle.ds2_program_types.specs.MethodRules.{part_rules}
 use Rattle.ds2_program_types.proofs.RuleLists.{rules_of_methods}
 

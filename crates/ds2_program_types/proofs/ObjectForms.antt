@@ -3,7 +3,7 @@ use Rattle.std.proofs.Common.{◌≡◌, ℕ, Bool, true, false, ◌&&◌, if◌
 use Rattle.std.specs.Prelude.{not}
 use Rattle.std.specs.HashMap.{HashMap}
 use Rattle.ds2_elaboration.specs.UnitsBefore.{UnitsBefore}
-use Rattle.ds2_expression_walk.specs.declared.scopes.KnownObject.{KnownObject}
+use Rattle.ds2_reference_types.specs.declared.scopes.KnownObject.{KnownObject}
 use Rattle.ds2_names.specs.SourceUnit.{SourceInstance}
 use Rattle.ds2_type_tables.specs.Objects.{HasObjects, objects_called}
 

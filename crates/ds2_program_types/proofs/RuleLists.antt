@@ -12,7 +12,7 @@ use Rattle.ds2_elaboration.specs.ProgramTypes.{method_refusals}
 use Rattle.ds2_types.specs.Judgements.{first_type_refusal, lesser_refusal, IsOutcome}
 use Rattle.ds2_types.proofs.Outcomes.{given_before, given_of_both}
 use Rattle.ds2_types.proofs.RefusalOrder.{least_append, none_given}
-use Rattle.ds2_statement_types.proofs.PartLists.{from_each-push}
+use Rattle.ds2_simple_statement_types.proofs.PartLists.{from_each-push}
 use Rattle.ds2_program_types.specs.MethodRules.{part_rules, under_rule}
 
 module _ {S : Type 0} (rules : S → TypeRefusals) where

@@ -5,7 +5,7 @@ use Rattle.std.specs.HashMap.{HashMap}
 use Rattle.ds2_base.specs.declared.stop.OutOfMemory.{OutOfMemory}
 use Rattle.ds2_meaning.specs.declared.globals.Variable.{Variable}
 use Rattle.ds2_names.specs.SourceUnit.{PlacedName}
-use Rattle.ds2_expression_walk.specs.declared.scopes.KnownName.{KnownName}
+use Rattle.ds2_reference_types.specs.declared.scopes.KnownName.{KnownName}
 use Rattle.ds2_type_tables.specs.Globals.{HasGlobals}
 
 -- the table of the variables of a unit

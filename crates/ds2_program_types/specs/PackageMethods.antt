@@ -9,7 +9,7 @@ use Rattle.ds2_names.specs.SourceUnit.{TableColumns, UnitSource, source_methods}
 use Rattle.ds2_tree.specs.Globals.{Method}
 use Rattle.ds2_instance_types.specs.TypedInstanceLists.{AreInstancesOf}
 use Rattle.ds2_instance_types.specs.declared.instances.TypedInstances.{TypedInstances}
-use Rattle.ds2_statement_types.specs.declared.parts.Both.{Both}
+use Rattle.ds2_simple_statement_types.specs.declared.parts.Both.{Both}
 
 -- these methods, typed, all of which can be called
 abbrev pub AreTyped : TableColumns → UnitsBefore → UnitSource → List Method → List typed.Method → Type 0

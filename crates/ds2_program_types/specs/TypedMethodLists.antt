@@ -13,7 +13,7 @@ use Rattle.ds2_elaboration.specs.ProgramTypes.{method_tree_of, body_of_method, s
 use Rattle.ds2_elaboration.specs.SourceTypes.{unit_names}
 use Rattle.ds2_instance_types.specs.TypedInstanceLists.{AreInstancesOf}
 use Rattle.ds2_instance_types.specs.declared.instances.TypedInstances.{TypedInstances}
-use Rattle.ds2_statement_types.specs.declared.parts.Both.{Both}
+use Rattle.ds2_simple_statement_types.specs.declared.parts.Both.{Both}
 use Rattle.ds2_program_types.specs.declared.methods.TypedMethods.{TypedMethods}
 
 -- the place that a system method keeps, where there is one

@@ -22,7 +22,7 @@ use ds2_declared_types::spelled::returned_type;
 use ds2_declared_types::variables::{declared_variables, parameters};
 use ds2_meaning::{Method as TypedMethod, SystemMethod, TypeKind};
 use ds2_scope::{is_system_name, spelled_name};
-use ds2_statement_types::parts::of_both;
+use ds2_simple_statement_types::parts::of_both;
 use ds2_tree::{GlobalItem, Method as SourceMethod};
 use ds2_types::refusals::first_of_both;
 use std::alloc::Global;

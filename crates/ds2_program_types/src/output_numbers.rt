@@ -10,7 +10,7 @@ ghost use Rattle.ds2_scope.specs.CodeUnits.{unit_source};
 
 use ds2_base::{Bytes, OutOfMemory};
 use ds2_scope::{Unit, UnitKind, spelled_name};
-use ds2_statement_types::method_scope::OutputNumbers;
+use ds2_simple_statement_types::method_scope::OutputNumbers;
 use ds2_token::Token;
 use ds2_tree::OutputTable;
 use std::alloc::Global;

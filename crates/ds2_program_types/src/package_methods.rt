@@ -16,7 +16,7 @@ use crate::methods::callable_method;
 use crate::unit_tables::UnitTables;
 use ds2_base::{List, OutOfMemory, Refusal};
 use ds2_meaning::{Method as TypedMethod, TypeKind};
-use ds2_statement_types::parts::with_one;
+use ds2_simple_statement_types::parts::with_one;
 use ds2_tree::GlobalItem;
 use std::alloc::Global;
 

@@ -22,7 +22,7 @@ use ds2_declared_types::variables::program_variables;
 use ds2_instance_types::TypedInstances;
 use ds2_known_types::KnownTypes;
 use ds2_meaning::{MentionedTable, Method as TypedMethod, TypeKind, TypedPackage};
-use ds2_statement_types::parts::{Both, of_both};
+use ds2_simple_statement_types::parts::{Both, of_both};
 use ds2_tree::Package;
 use std::alloc::Global;
 

@@ -26,7 +26,7 @@ use ds2_known_types::KnownTypes;
 use ds2_meaning::{MentionedTable, Program, TypeKind, TypedData, TypedThread};
 use ds2_names::NamedSchema;
 use ds2_scope::{Unit, UnitNames};
-use ds2_statement_types::parts::{Both, of_both};
+use ds2_simple_statement_types::parts::{Both, of_both};
 use ds2_typed_copies::thread_copy;
 use std::alloc::Global;
 

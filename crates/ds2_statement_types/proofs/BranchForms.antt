@@ -15,11 +15,11 @@ use Rattle.ds2_meaning.specs.declared.statements.Statement as typed
 use Rattle.ds2_meaning.specs.declared.statements.When as typed_when
 use Rattle.ds2_types.specs.Judgements.{node_tree, IsOutcome}
 use Rattle.ds2_types.specs.declared.judgement.Node.{Node}
-use Rattle.ds2_statement_types.specs.StatementOutcomes.{boxed_tree, tree_if_any}
+use Rattle.ds2_simple_statement_types.specs.StatementOutcomes.{boxed_tree, tree_if_any}
 use Rattle.ds2_statement_types.specs.Branches.{IsHead, IsTail, AreSelected, IsSelector}
 use Rattle.ds2_statement_types.specs.StatementParts.{arm_of, when_of}
 use Rattle.ds2_statement_types.specs.TestRules.{select_form}
-use Rattle.ds2_statement_types.specs.declared.parts.Both.{Both}
+use Rattle.ds2_simple_statement_types.specs.declared.parts.Both.{Both}
 
 -- an `if` of parts that are these
 pub same_if : (place : Place) (test : TypedExpression) (node : t.TypedStatement) (parts : List Chained) (last : Option t.TypedStatement)

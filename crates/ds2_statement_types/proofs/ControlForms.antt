@@ -14,11 +14,11 @@ use Rattle.ds2_tree.specs.Statements as s
 use Rattle.ds2_elaboration.specs.Typings.{TypeRefusals, typing_behind, where_known, clash_unless, is_integer_type}
 use Rattle.ds2_types.specs.Judgements.{first_type_refusal, lesser_refusal, IsOutcome}
 use Rattle.ds2_types.proofs.RefusalOrder.{least_append, none_given}
-use Rattle.ds2_expression_walk.proofs.KnownNames.{none_not_some, some_not_none, inside}
+use Rattle.ds2_reference_types.proofs.KnownNames.{none_not_some, some_not_none, inside}
 use Rattle.ds2_statement_types.specs.Controls.{IsHeldControl}
 use Rattle.ds2_statement_types.specs.declared.counts.TypedControl.{TypedControl}
-use Rattle.ds2_statement_types.specs.Targets.{IsHeldTarget, IsTargetAs}
-use Rattle.ds2_statement_types.specs.declared.targets.Target.{Target}
+use Rattle.ds2_simple_statement_types.specs.Targets.{IsHeldTarget, IsTargetAs}
+use Rattle.ds2_simple_statement_types.specs.declared.targets.Target.{Target}
 
 -- what the variable of a counted loop breaks
 abbrev counting_refusals : Place → TypeRefusals → Ty → TypeRefusals

@@ -10,12 +10,12 @@ use Rattle.ds2_meaning.specs.declared.refusals.TypeKind.{TypeKind}
 use Rattle.ds2_types.specs.Judgements.{node_tree, IsOutcome}
 use Rattle.ds2_types.specs.declared.judgement.Node.{Node}
 use Rattle.ds2_types.proofs.Outcomes.{IsTree}
-use Rattle.ds2_statement_types.specs.BothParts.{both_parts}
+use Rattle.ds2_simple_statement_types.specs.BothParts.{both_parts}
 use Rattle.ds2_statement_types.specs.Controls.{count_form}
-use Rattle.ds2_statement_types.specs.StatementOutcomes.{tree_if_any}
+use Rattle.ds2_simple_statement_types.specs.StatementOutcomes.{tree_if_any}
 use Rattle.ds2_statement_types.specs.declared.counts.TypedCount.{TypedCount}
-use Rattle.ds2_statement_types.specs.declared.parts.Both.{Both}
-use Rattle.ds2_statement_types.proofs.PartOutcomes.{AreBoth, both_stand}
+use Rattle.ds2_simple_statement_types.specs.declared.parts.Both.{Both}
+use Rattle.ds2_simple_statement_types.proofs.PartOutcomes.{AreBoth, both_stand}
 
 module _ (r : Reference) (a b : TypedExpression) (by : Option TypedExpression) where
   -- this variable

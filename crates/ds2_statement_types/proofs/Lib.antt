@@ -1,16 +1,7 @@
 pub mod PartViews
-pub mod PartOutcomes
-pub mod PartLists
-pub mod TargetForms
 pub mod ControlForms
 pub mod TestForms
 pub mod StatementForms
-pub mod CallForms
-pub mod ReturnForms
 pub mod ReturningForms
-pub mod PutForms
-pub mod OutputForms
 pub mod BranchForms
 pub mod CountForms
-pub mod InstanceCalls
-pub mod SettingForms

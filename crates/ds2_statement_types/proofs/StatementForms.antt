@@ -23,7 +23,7 @@ use Rattle.ds2_tree.specs.declared.statements.Statement.TheVariants as statement
 use Rattle.ds2_tree.specs.declared.statements.When as code_when
 use Rattle.ds2_meaning.specs.TypedExpression.{TypedExpression, TypedExpressions, Then}
 use Rattle.ds2_meaning.specs.TypedStatement as t
-use Rattle.ds2_meaning.specs.View.{Part, Chained, in_a_row, if_tree, all_expressions, all_statements, otherwise_part, typed_statement, typed_statements}
+use Rattle.ds2_meaning.specs.View.{Part, in_a_row, if_tree, all_expressions, all_statements, otherwise_part, typed_statement, typed_statements}
 use Rattle.ds2_meaning.specs.declared.refusals.TypeKind.{TypeKind}
 use Rattle.ds2_meaning.specs.declared.statements.Statement as typed
 use Rattle.ds2_meaning.specs.declared.statements.When as typed_when
@@ -35,16 +35,12 @@ use Rattle.ds2_elaboration.specs.StatementTypes.{argument_nodes, selected_node, 
 use Rattle.ds2_elaboration.specs.Typings.{TypeRefusals, truth_refusals}
 use Rattle.ds2_scope.proofs.StatementRows.{if_tree_is, select_tree, do_tree}
 use Rattle.ds2_types.specs.Judgements.{first_type_refusal, IsOutcome}
-use Rattle.ds2_statement_types.specs.StatementOutcomes.{boxed_tree, StandsAs, AreTypedAs}
+use Rattle.ds2_simple_statement_types.specs.StatementOutcomes.{boxed_tree, StandsAs, AreTypedAs}
 use Rattle.ds2_statement_types.specs.StatementParts.{own_refusals, own_node, arm_refusals, arm_form, last_node, part_refusals, when_form, when_of}
 use Rattle.ds2_statement_types.specs.TestRules.{test_rule, selector_node, select_form, IsTestRule}
 use Rattle.ds2_statement_types.specs.declared.when_tests.TestRule.{TestRule}
-use Rattle.ds2_statement_types.proofs.PartOutcomes.{stands_as}
+use Rattle.ds2_simple_statement_types.proofs.PartOutcomes.{Results, stands_as}
 use Rattle.ds2_statement_types.proofs.TestForms.{rule_of_select}
-
--- what becomes of a statement, unless memory ran out
-abbrev pub Results : Type 0
-Results = Result (Result (Box typed.Statement Global) (Refusal TypeKind)) OutOfMemory
 
 module _ (types : TypeScope) where
   -- a statement that is this

@@ -18,8 +18,8 @@ use Rattle.ds2_elaboration.specs.StatementTypes.{argument_nodes, test_refusals, 
 use Rattle.ds2_elaboration.specs.Typings.{TypeRefusals, Typing, clash_unless, are_comparable, where_both_known, null_clash}
 use Rattle.ds2_types.specs.Judgements.{typing_of}
 use Rattle.ds2_types.specs.declared.judgement.Typing as code_typing
-use Rattle.ds2_expression_walk.specs.ArgumentTrees.{argument_in}
-use Rattle.ds2_expression_walk.proofs.KnownNames.{none_not_some, some_not_none, inside}
+use Rattle.ds2_reference_types.specs.ArgumentTrees.{argument_in}
+use Rattle.ds2_reference_types.proofs.KnownNames.{none_not_some, some_not_none, inside}
 use Rattle.ds2_statement_types.specs.TestRules.{value_clash, test_rule, selector_typing}
 
 -- the rule of a test that is compared with a value

@@ -11,9 +11,9 @@ use Rattle.ds2_meaning.specs.declared.statements.Statement as typed
 use Rattle.ds2_meaning.specs.declared.statements.When as typed_when
 use Rattle.ds2_types.specs.Judgements.{node_tree}
 use Rattle.ds2_types.specs.declared.judgement.Node.{Node}
-use Rattle.ds2_statement_types.specs.StatementOutcomes.{boxed_tree, tree_if_any}
+use Rattle.ds2_simple_statement_types.specs.StatementOutcomes.{boxed_tree, tree_if_any}
 use Rattle.ds2_statement_types.specs.StatementParts.{arm_of, when_of}
-use Rattle.ds2_statement_types.specs.declared.parts.Both.{Both}
+use Rattle.ds2_simple_statement_types.specs.declared.parts.Both.{Both}
 
 -- a condition and what is done where it holds
 abbrev pub IsHead : TypedExpression → t.TypedStatement → Both Node (Box typed.Statement Global) → Type 0

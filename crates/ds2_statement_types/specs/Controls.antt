@@ -9,7 +9,7 @@ use Rattle.ds2_meaning.specs.TypedStatement as t
 use Rattle.ds2_elaboration.specs.ExpressionTypes.{TypeScope}
 use Rattle.ds2_elaboration.specs.StatementTypes.{do_node}
 use Rattle.ds2_types.specs.Judgements.{node_tree}
-use Rattle.ds2_statement_types.specs.StatementOutcomes.{tree_if_any}
+use Rattle.ds2_simple_statement_types.specs.StatementOutcomes.{tree_if_any}
 use Rattle.ds2_statement_types.specs.declared.counts.TypedControl.{TypedControl}
 use Rattle.ds2_statement_types.specs.declared.counts.TypedControl.TheVariants as control
 use Rattle.ds2_statement_types.specs.declared.counts.TypedCount.{TypedCount}

@@ -1,40 +1,21 @@
 -- The parts of statements: what rules they break and what they become, one by one.
-use Rattle.std.specs.Prelude.{◌≡◌, ℕ, Bool, ◌++◌, bytes_eq, List, map, position, unwrap_or, Option, Some, None}
-use Rattle.ds2_base.specs.declared.place.Place.{Place}
-use Rattle.ds2_token.specs.declared.token.Token.{Token}
+use Rattle.std.specs.Prelude.{Bool, ◌++◌, map, Option, Some, None}
 use Rattle.ds2_tree.specs.ExpressionViews.{expression_tree, arguments_of}
 use Rattle.ds2_tree.specs.StatementViews.{statement_tree}
 use Rattle.ds2_tree.specs.Statements as s
 use Rattle.ds2_tree.specs.declared.statements.ElseIf.{ElseIf}
 use Rattle.ds2_tree.specs.declared.statements.Statement as code
 use Rattle.ds2_tree.specs.declared.statements.When as code_when
-use Rattle.ds2_value.specs.declared.ty.Ty.{Ty}
 use Rattle.ds2_meaning.specs.TypedStatement as t
 use Rattle.ds2_meaning.specs.View.{Part, Chained, if_tree, all_expressions, typed_expression, typed_statement}
 use Rattle.ds2_meaning.specs.declared.statements.Arm.{Arm}
 use Rattle.ds2_meaning.specs.declared.statements.When as typed_when
 use Rattle.ds2_names.specs.NameRules.{from_each}
-use Rattle.ds2_names.specs.SourceUnit.{spelled_name}
 use Rattle.ds2_names.specs.Uses.{first_place}
 use Rattle.ds2_elaboration.specs.ExpressionTypes.{TypeScope, elaborated, elaborated_arguments}
 use Rattle.ds2_elaboration.specs.FunctionTypes.{ElaboratedArgument, nodes_in_order}
 use Rattle.ds2_elaboration.specs.StatementTypes.{argument_nodes, selected_node, statement_refusals, statement_node}
-use Rattle.ds2_elaboration.specs.Typings.{TypeRefusals, ElaboratedExpression, truth_refusals, assigned_refusals}
-
--- something as it is
-abbrev pub as_it_is : {A : Type 0} → A → A
-as_it_is x = x
-
--- ---- return and output
-
--- what a returned value breaks
-abbrev pub returned_refusals : Place → Option Ty → ElaboratedExpression → TypeRefusals
-returned_refusals place None e = e.refusals
-returned_refusals place (Some ty) e = assigned_refusals ty place e
-
--- the number of the output that a token names
-abbrev pub output_number : List (List ℕ) → Token → ℕ
-output_number outputs table = unwrap_or (position (λ name. bytes_eq name (spelled_name table)) outputs) 0
+use Rattle.ds2_elaboration.specs.Typings.{TypeRefusals, truth_refusals}
 
 -- ---- statements one by one
 

@@ -7,13 +7,13 @@ ghost use Rattle.ds2_meaning.specs.TypedStatement as typed;
 ghost use Rattle.ds2_meaning.specs.View.{Chained, in_a_row, if_tree, typed_statement};
 ghost use Rattle.ds2_types.specs.Judgements.{node_tree, IsOutcome};
 ghost use Rattle.ds2_statement_types.specs.Branches.{IsHead, IsTail};
-ghost use Rattle.ds2_statement_types.specs.StatementOutcomes.{boxed_tree, AreTypedAs, IsNodeAs, IsStatementAs, StandsAs};
+ghost use Rattle.ds2_simple_statement_types.specs.StatementOutcomes.{boxed_tree, AreTypedAs, IsNodeAs, IsStatementAs, StandsAs};
 ghost use Rattle.ds2_statement_types.specs.StatementParts.{arm_of};
 
-use crate::outcomes::{StatementOutcome, boxed};
-use crate::parts::{Both, of_both};
 use ds2_base::{List, OutOfMemory, Place, Refusal};
 use ds2_meaning::{Arm, Statement, TypeKind};
+use ds2_simple_statement_types::outcomes::{StatementOutcome, boxed};
+use ds2_simple_statement_types::parts::{Both, of_both};
 use ds2_types::judgement::{Node, Outcome};
 use std::alloc::Global;
 

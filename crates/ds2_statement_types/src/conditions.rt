@@ -6,13 +6,13 @@ ghost use Rattle.ds2_elaboration.specs.Typings.{ElaboratedExpression, truth_refu
 ghost use Rattle.ds2_names.specs.Uses.{first_place};
 ghost use Rattle.ds2_tree.specs.ExpressionViews.{expression_tree};
 ghost use Rattle.ds2_types.specs.Judgements.{IsJudged};
-ghost use Rattle.ds2_expression_walk.specs.Scopes.{IsScopeOf};
-ghost use Rattle.ds2_statement_types.specs.StatementOutcomes.{IsNodeAs};
+ghost use Rattle.ds2_reference_types.specs.Scopes.{IsScopeOf};
+ghost use Rattle.ds2_simple_statement_types.specs.StatementOutcomes.{IsNodeAs};
 
 use ds2_base::{OutOfMemory, Place};
 use ds2_expression_walk::places::first_place;
-use ds2_expression_walk::scopes::Scope;
 use ds2_expression_walk::walk::judge;
+use ds2_reference_types::scopes::Scope;
 use ds2_tree::Expression;
 use ds2_types::judgement::{Judgement, Outcome};
 use ds2_types::refusals::ruled;

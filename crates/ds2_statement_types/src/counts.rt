@@ -11,17 +11,17 @@ ghost use Rattle.ds2_meaning.specs.declared.location.Reference.{Reference as Ref
 ghost use Rattle.ds2_tree.specs.Statements.{DoControl as DoControlOf};
 ghost use Rattle.ds2_tree.specs.StatementViews.{step_tree, counted_tree, tested_tree, control_tree};
 ghost use Rattle.ds2_types.specs.Judgements.{node_tree, first_type_refusal, IsOutcome};
-ghost use Rattle.ds2_expression_walk.specs.Scopes.{IsScopeOf};
+ghost use Rattle.ds2_reference_types.specs.Scopes.{IsScopeOf};
 ghost use Rattle.ds2_statement_types.specs.Controls.{count_form, IsHeldControl, IsCount, IsTested};
-ghost use Rattle.ds2_statement_types.specs.StatementOutcomes.{tree_if_any, IsNodeAs};
-ghost use Rattle.ds2_statement_types.specs.Targets.{IsTargetAs};
+ghost use Rattle.ds2_simple_statement_types.specs.StatementOutcomes.{tree_if_any, IsNodeAs};
+ghost use Rattle.ds2_simple_statement_types.specs.Targets.{IsTargetAs};
 
 use crate::conditions::{bound, condition};
-use crate::parts::{Both, of_both};
-use crate::targets::{Target, target_of};
 use ds2_base::{OutOfMemory, Place, Refusal};
-use ds2_expression_walk::scopes::Scope;
 use ds2_meaning::{Reference, TypeKind};
+use ds2_reference_types::scopes::Scope;
+use ds2_simple_statement_types::parts::{Both, of_both};
+use ds2_simple_statement_types::targets::{Target, target_of};
 use ds2_token::Token;
 use ds2_tree::{CountedControl, DoControl, Step, TestedControl};
 use ds2_types::judgement::{Node, Outcome};

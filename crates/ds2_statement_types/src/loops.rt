@@ -9,13 +9,13 @@ ghost use Rattle.ds2_meaning.specs.View.{all_statements, typed_expression, typed
 ghost use Rattle.ds2_tree.specs.Statements.{DoControl as DoControlOf};
 ghost use Rattle.ds2_types.specs.Judgements.{IsOutcome};
 ghost use Rattle.ds2_statement_types.specs.Controls.{count_form, loop_form, IsHeldControl};
-ghost use Rattle.ds2_statement_types.specs.StatementOutcomes.{tree_if_any, AreTypedAs, StandsAs};
+ghost use Rattle.ds2_simple_statement_types.specs.StatementOutcomes.{tree_if_any, AreTypedAs, StandsAs};
 
 use crate::counts::{ControlOutcome, TypedControl, TypedCount};
-use crate::outcomes::{StatementOutcome, boxed};
-use crate::parts::of_both;
 use ds2_base::{List, OutOfMemory, Place, Refusal};
 use ds2_meaning::{Expression, Statement, TypeKind};
+use ds2_simple_statement_types::outcomes::{StatementOutcome, boxed};
+use ds2_simple_statement_types::parts::of_both;
 use ds2_types::judgement::Node;
 use std::alloc::Global;
 

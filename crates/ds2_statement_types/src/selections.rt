@@ -9,20 +9,20 @@ ghost use Rattle.ds2_meaning.specs.View.{Part, in_a_row, all_expressions, otherw
 ghost use Rattle.ds2_meaning.specs.TypedExpression.{TypedExpression};
 ghost use Rattle.ds2_tree.specs.StatementViews.{selector_tree};
 ghost use Rattle.ds2_types.specs.Judgements.{node_tree, IsOutcome, IsJudged};
-ghost use Rattle.ds2_expression_walk.specs.Scopes.{IsScopeOf};
+ghost use Rattle.ds2_reference_types.specs.Scopes.{IsScopeOf};
 ghost use Rattle.ds2_statement_types.specs.Branches.{AreSelected};
-ghost use Rattle.ds2_statement_types.specs.StatementOutcomes.{boxed_tree, tree_if_any, AreTypedAs, IsNodeAs, IsStatementAs, StandsAs};
+ghost use Rattle.ds2_simple_statement_types.specs.StatementOutcomes.{boxed_tree, tree_if_any, AreTypedAs, IsNodeAs, IsStatementAs, StandsAs};
 ghost use Rattle.ds2_statement_types.specs.StatementParts.{when_of};
 ghost use Rattle.ds2_statement_types.specs.TestRules.{selector_node, select_form};
 
 use crate::branches::LastOutcome;
-use crate::outcomes::{StatementOutcome, boxed};
-use crate::parts::{Both, of_both};
 use crate::when_tests::{TestsOutcome, selected_outcome};
 use ds2_base::{List, OutOfMemory, Place, Refusal};
-use ds2_expression_walk::scopes::Scope;
 use ds2_expression_walk::walk::judge;
 use ds2_meaning::{Expression, Statement, TypeKind, When};
+use ds2_reference_types::scopes::Scope;
+use ds2_simple_statement_types::outcomes::{StatementOutcome, boxed};
+use ds2_simple_statement_types::parts::{Both, of_both};
 use ds2_tree::Selector;
 use ds2_types::judgement::{Judgement, Node, Outcome};
 use ds2_types::refusals::ruled;

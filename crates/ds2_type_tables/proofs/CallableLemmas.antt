@@ -15,11 +15,11 @@ use Rattle.ds2_names.specs.SourceUnit.{UnitKind, OfPackage, OfThread, OfData, sp
 use Rattle.ds2_names.specs.Uses.{method_named}
 use Rattle.ds2_elaboration.specs.ExpressionTypes.{TypeScope, ObjectCalls, object_in_scope}
 use Rattle.ds2_elaboration.specs.ProgramTypes.{methods_to_call}
-use Rattle.ds2_expression_walk.specs.Scopes.{IsMethodAs, AreKnownMethods, IsObjectAs, object_unless, object_in, IsScopeOf}
-use Rattle.ds2_expression_walk.specs.declared.scopes.KnownMethod.{KnownMethod}
-use Rattle.ds2_expression_walk.specs.declared.scopes.KnownName.{KnownName}
-use Rattle.ds2_expression_walk.specs.declared.scopes.KnownObject.{KnownObject}
-use Rattle.ds2_expression_walk.specs.declared.scopes.Scope.{Scope}
+use Rattle.ds2_reference_types.specs.Scopes.{IsMethodAs, AreKnownMethods, IsObjectAs, object_unless, object_in, IsScopeOf}
+use Rattle.ds2_reference_types.specs.declared.scopes.KnownMethod.{KnownMethod}
+use Rattle.ds2_reference_types.specs.declared.scopes.KnownName.{KnownName}
+use Rattle.ds2_reference_types.specs.declared.scopes.KnownObject.{KnownObject}
+use Rattle.ds2_reference_types.specs.declared.scopes.Scope.{Scope}
 use Rattle.ds2_scope.proofs.TableLemmas.{or_none}
 use Rattle.ds2_type_tables.specs.Bys.{if_listed, HasBys}
 use Rattle.ds2_type_tables.specs.Callables.{known_method, known_if_named, can_be_called, callable_in, number_behind_method, known_in_part, known_from, HasCallables}

@@ -13,8 +13,8 @@ use Rattle.ds2_scope.specs.declared.instances.Instance.{Instance}
 use Rattle.ds2_elaboration.specs.ExpressionTypes.{ObjectCalls, ObjectInScope}
 use Rattle.ds2_elaboration.specs.ProgramTypes.{may_call_on, object_of_instance}
 use Rattle.ds2_elaboration.specs.UnitsBefore.{UnitsBefore}
-use Rattle.ds2_expression_walk.specs.Scopes.{IsKnownObject, IsObjectAs}
-use Rattle.ds2_expression_walk.specs.declared.scopes.KnownObject.{KnownObject}
+use Rattle.ds2_reference_types.specs.Scopes.{IsKnownObject, IsObjectAs}
+use Rattle.ds2_reference_types.specs.declared.scopes.KnownObject.{KnownObject}
 use Rattle.ds2_type_tables.specs.Objects.{object_named, objects_called, HasObjects}
 
 -- the first of a name among objects and one behind them

@@ -10,9 +10,9 @@ use Rattle.ds2_meaning.specs.ProgramTree.{is_listed}
 use Rattle.ds2_meaning.specs.declared.location.Global.TheVariants.{Present}
 use Rattle.ds2_meaning.specs.declared.location.Reference.TheVariants.{At}
 use Rattle.ds2_elaboration.specs.ExpressionTypes.{TypeScope, KnownVariable, known_variable, known_parameter, known_global, known_before_globals}
-use Rattle.ds2_expression_walk.specs.Scopes.{known_or, known_in, IsKnownAs, IsKnownVariable}
-use Rattle.ds2_expression_walk.specs.declared.scopes.KnownName.{KnownName}
-use Rattle.ds2_expression_walk.specs.declared.scopes.Scope.{Scope}
+use Rattle.ds2_reference_types.specs.Scopes.{known_or, known_in, IsKnownAs, IsKnownVariable}
+use Rattle.ds2_reference_types.specs.declared.scopes.KnownName.{KnownName}
+use Rattle.ds2_reference_types.specs.declared.scopes.Scope.{Scope}
 use Rattle.ds2_type_tables.specs.Globals.{column_known_as, parameter_known_as, known_flag, flag_of_name, global_known_as, HasGlobals}
 use Rattle.ds2_type_tables.specs.Tables.{local_of, HasLocals}
 

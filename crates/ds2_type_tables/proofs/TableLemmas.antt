@@ -8,8 +8,8 @@ use Rattle.ds2_type_tables.specs.Globals.{known_column, column_known_as, paramet
 use Rattle.ds2_value.specs.declared.ty.Ty.{Ty}
 use Rattle.ds2_meaning.specs.IsTyped.{type_in}
 use Rattle.ds2_meaning.specs.declared.globals.Variable.{Variable}
-use Rattle.ds2_expression_walk.specs.Scopes.{known_or}
-use Rattle.ds2_expression_walk.specs.declared.scopes.KnownName.{KnownName}
+use Rattle.ds2_reference_types.specs.Scopes.{known_or}
+use Rattle.ds2_reference_types.specs.declared.scopes.KnownName.{KnownName}
 use Rattle.ds2_type_tables.specs.Tables.{known_local, local_of}
 
 pub none_behind : (x : Option KnownName) → known_or x None ≡ x

@@ -5,7 +5,7 @@ use Rattle.std.specs.HashMap.{HashMap, get}
 use Rattle.ds2_tree.specs.Globals.{Method, GlobalItem, Defined}
 use Rattle.ds2_names.specs.SourceUnit.{UnitKind, OfPackage, spelled_name, is_system_name}
 use Rattle.ds2_elaboration.specs.SourceTypes.{elaborated_parameters, returned_type}
-use Rattle.ds2_expression_walk.specs.declared.scopes.KnownMethod.{KnownMethod}
+use Rattle.ds2_reference_types.specs.declared.scopes.KnownMethod.{KnownMethod}
 
 -- a method of this number, as it is known
 abbrev pub known_method : ℕ → Method → KnownMethod

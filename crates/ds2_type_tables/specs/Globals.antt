@@ -10,9 +10,9 @@ use Rattle.ds2_meaning.specs.declared.globals.Variable.{Variable}
 use Rattle.ds2_names.specs.NameRules.{from_each}
 use Rattle.ds2_names.specs.SourceUnit.{PlacedName}
 use Rattle.ds2_types.specs.Judgements.{first_type_refusal}
-use Rattle.ds2_expression_walk.specs.Scopes.{known_or}
-use Rattle.ds2_expression_walk.specs.declared.scopes.KnownName.{KnownName}
-use Rattle.ds2_expression_walk.specs.declared.scopes.Standing.TheVariants as standing
+use Rattle.ds2_reference_types.specs.Scopes.{known_or}
+use Rattle.ds2_reference_types.specs.declared.scopes.KnownName.{KnownName}
+use Rattle.ds2_reference_types.specs.declared.scopes.Standing.TheVariants as standing
 use Rattle.ds2_type_tables.specs.Clashes.{clash_of_column}
 
 -- a declared variable or a column, as it is known beside these columns whose tables do not join

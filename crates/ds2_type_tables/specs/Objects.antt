@@ -8,8 +8,8 @@ use Rattle.ds2_names.specs.SourceUnit.{SourceInstance}
 use Rattle.ds2_elaboration.specs.ExpressionTypes.{ObjectCalls, ObjectInScope}
 use Rattle.ds2_elaboration.specs.ProgramTypes.{may_call_on, object_of_instance}
 use Rattle.ds2_elaboration.specs.UnitsBefore.{UnitsBefore}
-use Rattle.ds2_expression_walk.specs.Scopes.{IsObjectAs}
-use Rattle.ds2_expression_walk.specs.declared.scopes.KnownObject.{KnownObject}
+use Rattle.ds2_reference_types.specs.Scopes.{IsObjectAs}
+use Rattle.ds2_reference_types.specs.declared.scopes.KnownObject.{KnownObject}
 
 -- the first of these objects of a name
 abbrev pub object_named : List ObjectInScope → List ℕ → Option ObjectCalls

@@ -1,8 +1,8 @@
 -- What scopes of tables stand for.
 use Rattle.std.specs.Prelude.{ℕ, List}
 use Rattle.ds2_elaboration.specs.ExpressionTypes.{TypeScope, known_variable}
-use Rattle.ds2_expression_walk.specs.Scopes.{known_in, IsKnownAs, IsScopeOf}
-use Rattle.ds2_expression_walk.specs.declared.scopes.Scope.{Scope}
+use Rattle.ds2_reference_types.specs.Scopes.{known_in, IsKnownAs, IsScopeOf}
+use Rattle.ds2_reference_types.specs.declared.scopes.Scope.{Scope}
 use Rattle.ds2_type_tables.specs.Bys.{HasBys}
 use Rattle.ds2_type_tables.specs.Callables.{HasCallables}
 use Rattle.ds2_type_tables.specs.Globals.{HasGlobals}

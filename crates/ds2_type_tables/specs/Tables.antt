@@ -5,8 +5,8 @@ use Rattle.std.specs.HashMap.{HashMap, get}
 use Rattle.ds2_value.specs.declared.ty.Ty.{Ty}
 use Rattle.ds2_meaning.specs.IsTyped.{type_in}
 use Rattle.ds2_meaning.specs.declared.globals.Variable.{Variable}
-use Rattle.ds2_expression_walk.specs.declared.scopes.KnownName.{KnownName}
-use Rattle.ds2_expression_walk.specs.declared.scopes.Standing.TheVariants as standing
+use Rattle.ds2_reference_types.specs.declared.scopes.KnownName.{KnownName}
+use Rattle.ds2_reference_types.specs.declared.scopes.Standing.TheVariants as standing
 
 -- a parameter or local, as it is known
 abbrev pub known_local : Variable → KnownName

@@ -6,7 +6,7 @@ ghost use Rattle.std.specs.Option.{option_or};
 ghost use Rattle.ds2_type_tables.specs.Bys.{HasBys};
 
 use ds2_base::{List, Name, OutOfMemory};
-use ds2_expression_walk::scopes::KnownBys;
+use ds2_reference_types::scopes::KnownBys;
 use std::alloc::Global;
 use std::collections::HashMap;
 

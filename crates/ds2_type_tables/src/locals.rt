@@ -4,8 +4,8 @@ ghost use Rattle.ds2_type_tables.specs.Tables.{known_local, HasLocals};
 
 use crate::tables::add;
 use ds2_base::OutOfMemory;
-use ds2_expression_walk::scopes::{KnownName, KnownNames, Standing};
 use ds2_meaning::Variable;
+use ds2_reference_types::scopes::{KnownName, KnownNames, Standing};
 use std::alloc::Global;
 use std::collections::HashMap;
 

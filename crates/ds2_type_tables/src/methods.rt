@@ -12,7 +12,7 @@ ghost use Rattle.ds2_type_tables.specs.Callables.{known_method, known_if_named, 
 use ds2_base::OutOfMemory;
 use ds2_declared_types::spelled::returned_type;
 use ds2_declared_types::variables::parameters;
-use ds2_expression_walk::scopes::{KnownMethod, KnownMethods};
+use ds2_reference_types::scopes::{KnownMethod, KnownMethods};
 use ds2_scope::{UnitKind, is_system_name, spelled_name};
 use ds2_tree::{GlobalItem, Method};
 use std::alloc::Global;

@@ -2,10 +2,10 @@
 ghost use Rattle.std.specs.Prelude.{◌≡◌, ℕ, List as Items, OnOk, nat_eq, bytes_eq, if◌then◌else◌, Some, None};
 ghost use Rattle.std.specs.Cmp.Lexicographic.{pointwise};
 ghost use Rattle.std.specs.HashMap.{get};
-ghost use Rattle.ds2_expression_walk.specs.Scopes.{known_or};
+ghost use Rattle.ds2_reference_types.specs.Scopes.{known_or};
 
 use ds2_base::{List, OutOfMemory};
-use ds2_expression_walk::scopes::{KnownName, KnownNames};
+use ds2_reference_types::scopes::{KnownName, KnownNames};
 use std::alloc::Global;
 
 /// Adds a variable, unless the table has one of its name.

@@ -2,7 +2,7 @@
 use Rattle.std.proofs.Common.{◌≡◌, ℕ, List, Option, Some, None, refl}
 use Rattle.std.specs.Option.{option_map}
 use Rattle.ds2_value.specs.declared.ty.Ty.{Ty}
-use Rattle.ds2_expression_walk.specs.declared.scopes.KnownName.{KnownName}
+use Rattle.ds2_reference_types.specs.declared.scopes.KnownName.{KnownName}
 use Rattle.ds2_type_tables.specs.Tables.{local_of}
 
 -- the type of a variable that is there

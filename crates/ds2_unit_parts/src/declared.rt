@@ -5,7 +5,7 @@ ghost use Rattle.ds2_meaning.specs.declared.globals.Variable.{Variable as Variab
 ghost use Rattle.ds2_type_tables.specs.Tables.{HasLocals};
 
 use ds2_base::Bytes;
-use ds2_expression_walk::scopes::KnownNames;
+use ds2_reference_types::scopes::KnownNames;
 use ds2_value::Ty;
 
 /// The type of the declared variable of a name, where there is one.

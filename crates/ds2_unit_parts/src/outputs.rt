@@ -18,10 +18,10 @@ ghost use Rattle.ds2_unit_parts.specs.TypedOutputs.{columns_made_of, columns_wit
 use crate::declared::declared_type;
 use ds2_base::{Bytes, List, Name, OutOfMemory};
 use ds2_declared_types::names::{name, name_of_bytes};
-use ds2_expression_walk::scopes::KnownNames;
 use ds2_given_names::{KeepDrop, NewNames, new_names, option_lists, passes_lists, statement_lists};
 use ds2_meaning::{OutputColumn, OutputTable as TypedOutput, Variable};
 use ds2_names::PlacedName;
+use ds2_reference_types::scopes::KnownNames;
 use ds2_scope::{Unit, UnitKind, spelled_name};
 use ds2_token::{Token, is_table_name};
 use ds2_tree::{OutputOption, OutputOptions, OutputTable};

@@ -18,12 +18,12 @@ use Rattle.ds2_tree.specs.declared.expressions.Argument as code_argument
 use Rattle.ds2_meaning.specs.declared.methods.Parameter.{Parameter}
 use Rattle.ds2_tree.proofs.Rows.{chain_is, call_is}
 use Rattle.ds2_elaboration.specs.ExpressionTypes.{ObjectCalls, is_truth_chain, elaborated, elaborated_arguments, elaborated_member, arguments_for, result_of_method, elaborated_object_call, elaborated_call}
-use Rattle.ds2_expression_walk.specs.ArgumentTrees.{argument_in}
-use Rattle.ds2_expression_walk.specs.Passing.{AreAllPassed}
-use Rattle.ds2_expression_walk.specs.Scopes.{value_parameter, AreKnownCalls, IsInstance, IsThreadObject}
-use Rattle.ds2_expression_walk.specs.declared.scopes.KnownCalls.{KnownCalls}
-use Rattle.ds2_expression_walk.proofs.ObjectForms.{no_object, an_object, values_refused}
-use Rattle.ds2_expression_walk.proofs.ArgumentWalk.{next_argument, last_argument, none_judged, one_judged, all_judged, HasPassed, none_passed, one_passed, too_many, at_their_end}
+use Rattle.ds2_reference_types.specs.ArgumentTrees.{argument_in}
+use Rattle.ds2_reference_types.specs.Passing.{AreAllPassed}
+use Rattle.ds2_reference_types.specs.Scopes.{value_parameter, AreKnownCalls, IsInstance, IsThreadObject}
+use Rattle.ds2_reference_types.specs.declared.scopes.KnownCalls.{KnownCalls}
+use Rattle.ds2_reference_types.proofs.ObjectForms.{no_object, an_object, values_refused}
+use Rattle.ds2_reference_types.proofs.ArgumentWalk.{next_argument, last_argument, none_judged, one_judged, all_judged, HasPassed, none_passed, one_passed, too_many, at_their_end}
 use Rattle.ds2_expression_walk.specs.ChainForms.{chain_behind}
 use Rattle.ds2_expression_walk.proofs.ChainWalk.{next_operand, last_operand, begun, grown_on, grown_whole, begun_truth, grown_on_truth, grown_whole_truth, chain_of_truth, chain_of_values}
 use Rattle.ds2_expression_walk.proofs.Told.{IsJudgedAs, told, told_call, no_method, a_method, method_result, no_instance_method, an_instance_method}

@@ -6,9 +6,9 @@ use Rattle.ds2_types.specs.Judgements.{IsOutcome}
 use Rattle.ds2_expression_types.specs.Growth.{IsGrownChain, IsGrowth}
 use Rattle.ds2_tree.specs.ExpressionViews.{operands_of, arguments_of}
 use Rattle.ds2_elaboration.specs.ExpressionTypes.{TypeScope, is_truth_chain, elaborated_arguments, arguments_for}
-use Rattle.ds2_expression_walk.specs.Scopes.{IsScopeOf}
+use Rattle.ds2_reference_types.specs.Scopes.{IsScopeOf}
 use Rattle.ds2_expression_walk.proofs.ChainWalk.{HasGrown, HasGrownTruth}
-use Rattle.ds2_expression_walk.proofs.ArgumentWalk.{HasJudged, HasPassed}
+use Rattle.ds2_reference_types.proofs.ArgumentWalk.{HasJudged, HasPassed}
 use Rattle.ds2_expression_walk.proofs.walk.+judge.Given as goal
 
 abbrev pub invariant-value_chain-operands : goal.invariant-value_chain-operands

@@ -3,8 +3,8 @@ use Rattle.std.specs.Option.{option_copied}
 use Rattle.ds2_meaning.specs.declared.methods.Parameter.{Parameter}
 use Rattle.ds2_elaboration.specs.ExpressionTypes.{arguments_for}
 use Rattle.ds2_elaboration.specs.ProgramTypes.{constructor_arguments}
-use Rattle.ds2_expression_walk.specs.Passing.{AreAllPassed}
-use Rattle.ds2_expression_walk.proofs.ArgumentWalk.{HasPassed, at_their_end, none_passed, one_passed, too_many}
+use Rattle.ds2_reference_types.specs.Passing.{AreAllPassed}
+use Rattle.ds2_reference_types.proofs.ArgumentWalk.{HasPassed, at_their_end, none_passed, one_passed, too_many}
 use Rattle.ds2_instance_types.specs.ConstantArguments.{constant_argument}
 use Rattle.ds2_instance_types.proofs.ConstantForms.{last_constant, next_constant}
 use Rattle.ds2_instance_types.proofs.constants.passed_constants.Goals as goal

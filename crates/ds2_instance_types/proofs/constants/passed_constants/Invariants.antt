@@ -1,7 +1,7 @@
 use Rattle.std.proofs.Common.{drop}
 use Rattle.ds2_elaboration.specs.ExpressionTypes.{arguments_for}
 use Rattle.ds2_elaboration.specs.ProgramTypes.{constructor_arguments}
-use Rattle.ds2_expression_walk.proofs.ArgumentWalk.{HasPassed}
+use Rattle.ds2_reference_types.proofs.ArgumentWalk.{HasPassed}
 use Rattle.ds2_instance_types.proofs.constants.passed_constants.Given as goal
 
 abbrev pub invariant-constants : goal.invariant-constants

@@ -3,7 +3,7 @@ use Rattle.ds2_elaboration.specs.ProgramTypes.{broken_type_rules}
 use Rattle.ds2_names.specs.SourceUnit.{columns_stored, unit_of_data}
 use Rattle.ds2_scope.specs.CodeUnits.{unit_source}
 use Rattle.ds2_tree.specs.UnitViews.{data_tree}
-use Rattle.ds2_statement_types.proofs.PartOutcomes.{outcome_as}
+use Rattle.ds2_simple_statement_types.proofs.PartOutcomes.{outcome_as}
 use Rattle.ds2_program_types.specs.TypedPrograms.{IsStagedProgram, IsTypedData}
 use Rattle.ds2_program_types.proofs.TreeForms.{data_told, of_source}
 use Rattle.ds2_program_types.proofs.check.check.Goals as goal

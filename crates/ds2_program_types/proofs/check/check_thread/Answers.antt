@@ -3,7 +3,7 @@ use Rattle.ds2_elaboration.specs.ProgramTypes.{broken_type_rules}
 use Rattle.ds2_names.specs.SourceUnit.{columns_stored, unit_of_thread}
 use Rattle.ds2_scope.specs.CodeUnits.{unit_source}
 use Rattle.ds2_tree.specs.UnitViews.{thread_tree}
-use Rattle.ds2_statement_types.proofs.PartOutcomes.{stands_of}
+use Rattle.ds2_simple_statement_types.proofs.PartOutcomes.{stands_of}
 use Rattle.ds2_program_types.specs.TypedPrograms.{IsStagedProgram}
 use Rattle.ds2_program_types.proofs.TreeForms.{of_source}
 use Rattle.ds2_program_types.proofs.check.check_thread.Goals as goal

@@ -5,7 +5,7 @@ use Rattle.ds2_elaboration.specs.StatementTypes.{statements_refusals, statements
 use Rattle.ds2_meaning.specs.View.{typed_statements}
 use Rattle.ds2_meaning.specs.declared.statements.Statement.{Statement}
 use Rattle.ds2_tree.specs.UnitViews.{method_tree}
-use Rattle.ds2_statement_types.proofs.PartOutcomes.{stands_of}
+use Rattle.ds2_simple_statement_types.proofs.PartOutcomes.{stands_of}
 use Rattle.ds2_program_types.proofs.MethodForms.{same_method}
 use Rattle.ds2_program_types.proofs.RuleLists.{stands_under}
 use Rattle.ds2_program_types.proofs.methods.callable_method.Goals as goal

@@ -2,7 +2,7 @@ use Rattle.std.proofs.Common.{◌≡◌, Ok, Err}
 use Rattle.ds2_elaboration.specs.ProgramTypes.{method_tree_of}
 use Rattle.ds2_meaning.specs.View.{typed_method}
 use Rattle.ds2_meaning.specs.declared.methods.Method as typed
-use Rattle.ds2_statement_types.proofs.PartOutcomes.{AreBoth, both_stand, stands_of}
+use Rattle.ds2_simple_statement_types.proofs.PartOutcomes.{AreBoth, both_stand, stands_of}
 use Rattle.ds2_program_types.specs.TypedMethodLists.{AreMethodsOf}
 use Rattle.ds2_program_types.proofs.methods.further_callable.Goals as goal
 

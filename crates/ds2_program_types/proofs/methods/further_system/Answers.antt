@@ -1,5 +1,5 @@
 use Rattle.std.proofs.Common.{Ok, Err}
-use Rattle.ds2_statement_types.proofs.PartOutcomes.{AreBoth, both_stand, stands_of}
+use Rattle.ds2_simple_statement_types.proofs.PartOutcomes.{AreBoth, both_stand, stands_of}
 use Rattle.ds2_program_types.specs.TypedMethodLists.{AreMethodsOf, IsSystemOf}
 use Rattle.ds2_program_types.proofs.methods.further_system.Goals as goal
 

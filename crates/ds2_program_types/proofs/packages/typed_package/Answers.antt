@@ -3,7 +3,7 @@ use Rattle.ds2_elaboration.specs.ProgramTypes.{broken_type_rules}
 use Rattle.ds2_names.specs.SourceUnit.{UnitSource, unit_of_package}
 use Rattle.ds2_tree.specs.UnitViews.{package_tree}
 use Rattle.ds2_types.specs.Judgements.{IsOutcome}
-use Rattle.ds2_statement_types.proofs.PartOutcomes.{stands_of}
+use Rattle.ds2_simple_statement_types.proofs.PartOutcomes.{stands_of}
 use Rattle.ds2_program_types.specs.PackageMethods.{AreInstancesAndCalled}
 use Rattle.ds2_program_types.specs.UnitsAtHand.{columns_at_hand}
 use Rattle.ds2_program_types.proofs.packages.typed_package.Goals as goal

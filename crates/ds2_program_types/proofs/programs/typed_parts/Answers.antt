@@ -3,7 +3,7 @@ use Rattle.ds2_instance_types.specs.TypedInstanceLists.{AreInstancesOf}
 use Rattle.ds2_names.specs.NameRules.{from_each}
 use Rattle.ds2_names.specs.SourceUnit.{source_methods}
 use Rattle.std.proofs.Common.{◌++◌}
-use Rattle.ds2_statement_types.proofs.PartOutcomes.{both_stand}
+use Rattle.ds2_simple_statement_types.proofs.PartOutcomes.{both_stand}
 use Rattle.ds2_program_types.specs.UnitRules.{column_refusals, declaration_refusals}
 use Rattle.ds2_program_types.specs.UnitsAtHand.{columns_at_hand, names_at_hand, source_at_hand}
 use Rattle.ds2_program_types.specs.TypedMethodLists.{AreMethodsOf}

@@ -1,6 +1,6 @@
 use Rattle.std.proofs.Common.{Ok, Err}
 use Rattle.ds2_elaboration.specs.ProgramTypes.{broken_type_rules}
-use Rattle.ds2_statement_types.proofs.PartOutcomes.{stands_of}
+use Rattle.ds2_simple_statement_types.proofs.PartOutcomes.{stands_of}
 use Rattle.ds2_program_types.specs.TypedMethodLists.{AreInstancesAndMethods}
 use Rattle.ds2_program_types.specs.UnitsAtHand.{columns_at_hand, source_at_hand}
 use Rattle.ds2_program_types.proofs.programs.typed_program.Goals as goal

@@ -2,9 +2,9 @@ use Rattle.std.proofs.Common.{◌≡◌, ◌++◌, List, map, Option, Box, Globa
 use Rattle.std.specs.Option.{option_map}
 use Rattle.ds2_meaning.specs.declared.statements.Arm.{Arm}
 use Rattle.ds2_meaning.specs.declared.statements.Statement.{Statement}
-use Rattle.ds2_statement_types.specs.StatementOutcomes.{boxed_tree}
+use Rattle.ds2_simple_statement_types.specs.StatementOutcomes.{boxed_tree}
 use Rattle.ds2_statement_types.specs.StatementParts.{arm_of}
-use Rattle.ds2_statement_types.proofs.PartOutcomes.{both_stand}
+use Rattle.ds2_simple_statement_types.proofs.PartOutcomes.{both_stand}
 use Rattle.ds2_statement_types.proofs.branches.chained_if.Goals as goal
 
 pub returns : goal.returns

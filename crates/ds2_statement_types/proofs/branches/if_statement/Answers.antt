@@ -2,7 +2,7 @@ use Rattle.std.proofs.Common.{◌++◌, ◌∙◌, subst}
 use Rattle.ds2_types.specs.Judgements.{IsOutcome}
 use Rattle.ds2_statement_types.specs.Branches.{IsHead, IsTail}
 use Rattle.ds2_statement_types.proofs.BranchForms.{same_if}
-use Rattle.ds2_statement_types.proofs.PartOutcomes.{AreBoth, both_stand}
+use Rattle.ds2_simple_statement_types.proofs.PartOutcomes.{AreBoth, both_stand}
 use Rattle.ds2_statement_types.proofs.branches.if_statement.Goals as goal
 
 pub returns-in-Err : goal.returns-in-Err

@@ -1,6 +1,6 @@
 use Rattle.std.proofs.Common.{Some, ap, subst, Option}
 use Rattle.ds2_meaning.specs.TypedStatement.{TypedStatement}
-use Rattle.ds2_statement_types.specs.StatementOutcomes.{IsStatementAs}
+use Rattle.ds2_simple_statement_types.specs.StatementOutcomes.{IsStatementAs}
 use Rattle.ds2_statement_types.proofs.branches.last_part.Goals as goal
 
 pub returns-in-Ok : goal.returns-in-Ok

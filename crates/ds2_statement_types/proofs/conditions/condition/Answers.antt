@@ -3,7 +3,7 @@ use Rattle.ds2_base.specs.declared.place.Place.{Place}
 use Rattle.ds2_tree.specs.ExpressionViews.{expression_tree}
 use Rattle.ds2_elaboration.specs.ExpressionTypes.{elaborated}
 use Rattle.ds2_elaboration.specs.Typings.{truth_refusals}
-use Rattle.ds2_statement_types.specs.StatementOutcomes.{IsNodeAs}
+use Rattle.ds2_simple_statement_types.specs.StatementOutcomes.{IsNodeAs}
 use Rattle.ds2_statement_types.proofs.conditions.condition.Goals as goal
 
 pub returns : goal.returns

@@ -3,7 +3,7 @@ use Rattle.ds2_elaboration.specs.Typings.{type_refusal_at, is_numeric_type, null
 use Rattle.ds2_meaning.specs.declared.refusals.TypeKind.TheVariants.{NotTruth}
 use Rattle.ds2_types.specs.Judgements.{truth_clash}
 use Rattle.ds2_types.proofs.Outcomes.{IsTree, after_one}
-use Rattle.ds2_statement_types.proofs.PartOutcomes.{outcome_under}
+use Rattle.ds2_simple_statement_types.proofs.PartOutcomes.{outcome_under}
 use Rattle.ds2_statement_types.proofs.conditions.true_or_false.Goals as goal
 
 pub returns : goal.returns

@@ -8,7 +8,7 @@ use Rattle.ds2_elaboration.specs.ExpressionTypes.{elaborated}
 use Rattle.ds2_elaboration.specs.StatementTypes.{bound_refusals, step_refusals, step_node}
 use Rattle.ds2_types.specs.Judgements.{IsOutcome}
 use Rattle.ds2_types.specs.declared.judgement.Node.{Node}
-use Rattle.ds2_statement_types.specs.StatementOutcomes.{tree_if_any}
+use Rattle.ds2_simple_statement_types.specs.StatementOutcomes.{tree_if_any}
 use Rattle.ds2_statement_types.proofs.counts.step.Goals as goal
 
 pub returns-in-None : goal.returns-in-None

@@ -1,6 +1,6 @@
 use Rattle.std.proofs.Common.{Some, ap, subst}
 use Rattle.ds2_meaning.specs.TypedExpression.{TypedExpression}
-use Rattle.ds2_statement_types.specs.StatementOutcomes.{IsNodeAs}
+use Rattle.ds2_simple_statement_types.specs.StatementOutcomes.{IsNodeAs}
 use Rattle.ds2_statement_types.proofs.counts.step_if_any.Goals as goal
 
 pub returns-in-Ok : goal.returns-in-Ok

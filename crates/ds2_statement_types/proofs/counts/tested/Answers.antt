@@ -1,7 +1,7 @@
 use Rattle.std.proofs.Common.{sym, ap, ◌∙◌, subst}
 use Rattle.ds2_meaning.specs.TypedExpression.{TypedExpression}
 use Rattle.ds2_statement_types.specs.Controls.{IsTested}
-use Rattle.ds2_statement_types.specs.StatementOutcomes.{IsNodeAs}
+use Rattle.ds2_simple_statement_types.specs.StatementOutcomes.{IsNodeAs}
 use Rattle.ds2_statement_types.proofs.counts.tested.Goals as goal
 
 pub returns-in-Err : goal.returns-in-Err

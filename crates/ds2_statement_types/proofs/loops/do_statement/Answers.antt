@@ -5,7 +5,7 @@ use Rattle.ds2_meaning.specs.declared.statements.Statement.{Statement}
 use Rattle.ds2_elaboration.specs.StatementTypes.{do_node}
 use Rattle.ds2_types.specs.Judgements.{IsOutcome}
 use Rattle.ds2_statement_types.specs.Controls.{IsHeldControl}
-use Rattle.ds2_statement_types.proofs.PartOutcomes.{AreBoth, both_stand}
+use Rattle.ds2_simple_statement_types.proofs.PartOutcomes.{AreBoth, both_stand}
 use Rattle.ds2_statement_types.proofs.loops.do_statement.Goals as goal
 
 abbrev AreStatements : List t.TypedStatement → List Statement → Type 0

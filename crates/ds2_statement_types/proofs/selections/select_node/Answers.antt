@@ -4,7 +4,7 @@ use Rattle.ds2_meaning.specs.View.{in_a_row, otherwise_part, typed_statement}
 use Rattle.ds2_meaning.specs.declared.expressions.Expression.{Expression}
 use Rattle.ds2_meaning.specs.declared.statements.Statement.TheVariants as statement
 use Rattle.ds2_types.specs.declared.judgement.Node.{Node}
-use Rattle.ds2_statement_types.specs.StatementOutcomes.{boxed_tree, tree_if_any}
+use Rattle.ds2_simple_statement_types.specs.StatementOutcomes.{boxed_tree, tree_if_any}
 use Rattle.ds2_statement_types.specs.StatementParts.{when_of}
 use Rattle.ds2_statement_types.specs.TestRules.{select_form}
 use Rattle.ds2_statement_types.proofs.PartViews.{select_typed, select_value_typed}

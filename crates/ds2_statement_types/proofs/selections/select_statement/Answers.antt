@@ -2,7 +2,7 @@ use Rattle.std.proofs.Common.{◌++◌, ◌∙◌, subst}
 use Rattle.ds2_types.specs.Judgements.{IsOutcome}
 use Rattle.ds2_statement_types.specs.Branches.{IsSelector, AreSelected}
 use Rattle.ds2_statement_types.proofs.BranchForms.{same_select}
-use Rattle.ds2_statement_types.proofs.PartOutcomes.{AreBoth, both_stand}
+use Rattle.ds2_simple_statement_types.proofs.PartOutcomes.{AreBoth, both_stand}
 use Rattle.ds2_statement_types.proofs.selections.select_statement.Goals as goal
 
 pub returns-in-Err : goal.returns-in-Err

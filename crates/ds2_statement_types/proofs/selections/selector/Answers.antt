@@ -9,7 +9,7 @@ use Rattle.ds2_elaboration.specs.StatementTypes.{selector_refusals, selected_nod
 use Rattle.ds2_elaboration.specs.Typings.{null_clash}
 use Rattle.ds2_types.specs.Judgements.{IsOutcome, IsJudged}
 use Rattle.ds2_types.specs.declared.judgement.Node.{Node}
-use Rattle.ds2_statement_types.specs.StatementOutcomes.{tree_if_any}
+use Rattle.ds2_simple_statement_types.specs.StatementOutcomes.{tree_if_any}
 use Rattle.ds2_statement_types.specs.TestRules.{selector_node}
 use Rattle.ds2_statement_types.proofs.selections.selector.Goals as goal
 

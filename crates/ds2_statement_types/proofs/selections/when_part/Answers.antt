@@ -5,8 +5,8 @@ use Rattle.ds2_meaning.specs.View.{Part, all_expressions, typed_expression}
 use Rattle.ds2_meaning.specs.declared.expressions.Expression.{Expression}
 use Rattle.ds2_meaning.specs.declared.statements.Statement.{Statement}
 use Rattle.ds2_types.specs.Judgements.{IsOutcome}
-use Rattle.ds2_statement_types.specs.StatementOutcomes.{boxed_tree}
-use Rattle.ds2_statement_types.proofs.PartOutcomes.{AreBoth, both_stand}
+use Rattle.ds2_simple_statement_types.specs.StatementOutcomes.{boxed_tree}
+use Rattle.ds2_simple_statement_types.proofs.PartOutcomes.{AreBoth, both_stand}
 use Rattle.ds2_statement_types.proofs.selections.when_part.Goals as goal
 
 abbrev AreTests : List TypedExpression → List Expression → Type 0

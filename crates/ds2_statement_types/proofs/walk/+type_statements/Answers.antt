@@ -16,11 +16,11 @@ use Rattle.ds2_tree.specs.declared.statements.When.{When}
 use Rattle.ds2_elaboration.specs.ExpressionTypes.{elaborated, elaborated_arguments}
 use Rattle.ds2_elaboration.specs.StatementTypes.{argument_nodes, output_numbers, call_refusals, call_node, item_refusals, item_node, written_refusals, selected_node, selector_refusals, control_refusals, otherwise_refusals}
 use Rattle.ds2_elaboration.specs.Typings.{truth_refusals}
-use Rattle.ds2_statement_types.specs.StatementOutcomes.{IsStatementAs, AreTypedAs, StandsAs}
+use Rattle.ds2_simple_statement_types.specs.StatementOutcomes.{IsStatementAs, AreTypedAs, StandsAs}
 use Rattle.ds2_statement_types.specs.StatementParts.{own_refusals, own_node, arm_refusals, arm_form, arm_of, last_node, part_refusals, when_form, when_of}
 use Rattle.ds2_statement_types.specs.TestRules.{test_rule, selector_node, IsTestRule}
-use Rattle.ds2_statement_types.proofs.PartViews.{empty_typed, leave_typed, continue_typed}
-use Rattle.ds2_statement_types.proofs.PartLists.{no_part, one_part, all_parts}
+use Rattle.ds2_simple_statement_types.proofs.SimpleViews.{empty_typed, leave_typed, continue_typed}
+use Rattle.ds2_simple_statement_types.proofs.PartLists.{no_part, one_part, all_parts}
 use Rattle.ds2_statement_types.proofs.StatementForms.{told_statement, if_whole, formed_when, select_whole, told_last, do_whole}
 use Rattle.ds2_statement_types.proofs.walk.+type_statements.Goals as goal
 

@@ -1,10 +1,10 @@
 use Rattle.std.proofs.Common.{take}
 use Rattle.ds2_meaning.specs.View.{typed_statement}
 use Rattle.ds2_elaboration.specs.ExpressionTypes.{TypeScope}
-use Rattle.ds2_statement_types.specs.MethodScopes.{IsMethodScope}
+use Rattle.ds2_simple_statement_types.specs.MethodScopes.{IsMethodScope}
 use Rattle.ds2_statement_types.specs.StatementParts.{own_refusals, own_node, arm_refusals, arm_form, arm_of, part_refusals, when_form, when_of}
 use Rattle.ds2_statement_types.specs.TestRules.{test_rule}
-use Rattle.ds2_statement_types.proofs.PartLists.{AreParts}
+use Rattle.ds2_simple_statement_types.proofs.PartLists.{AreParts}
 use Rattle.ds2_statement_types.proofs.walk.+type_statements.Given as goal
 
 abbrev pub invariant-arms-others : goal.invariant-arms-others

@@ -3,7 +3,7 @@ use Rattle.ds2_base.specs.declared.place.Place.{Place}
 use Rattle.ds2_types.specs.Judgements.{first_type_refusal, typing_of}
 use Rattle.ds2_types.proofs.Outcomes.{IsTree, after_one}
 use Rattle.ds2_statement_types.specs.TestRules.{value_clash}
-use Rattle.ds2_statement_types.proofs.PartOutcomes.{outcome_under}
+use Rattle.ds2_simple_statement_types.proofs.PartOutcomes.{outcome_under}
 use Rattle.ds2_statement_types.proofs.TestForms.{value_rule}
 use Rattle.ds2_statement_types.proofs.when_tests.compared.Goals as goal
 

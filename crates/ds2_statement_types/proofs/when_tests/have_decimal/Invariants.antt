@@ -3,7 +3,7 @@ use Rattle.std.specs.Prelude.{◌||◌}
 use Rattle.std.specs.List.{list_any}
 use Rattle.ds2_tree.specs.ExpressionViews.{arguments_of}
 use Rattle.ds2_elaboration.specs.ExpressionTypes.{TypeScope, elaborated_arguments}
-use Rattle.ds2_expression_walk.specs.Scopes.{IsScopeOf}
+use Rattle.ds2_reference_types.specs.Scopes.{IsScopeOf}
 use Rattle.ds2_statement_types.proofs.TestForms.{is_decimal_test}
 use Rattle.ds2_statement_types.proofs.when_tests.have_decimal.Given as goal
 

@@ -2,7 +2,7 @@ use Rattle.std.proofs.Common.{Option, sym, subst}
 use Rattle.ds2_base.specs.declared.place.Place.{Place}
 use Rattle.ds2_elaboration.specs.Typings.{truth_refusals}
 use Rattle.ds2_types.specs.declared.judgement.Typing as code_typing
-use Rattle.ds2_statement_types.specs.StatementOutcomes.{IsNodeAs}
+use Rattle.ds2_simple_statement_types.specs.StatementOutcomes.{IsNodeAs}
 use Rattle.ds2_statement_types.specs.TestRules.{test_rule}
 use Rattle.ds2_statement_types.proofs.when_tests.ruled_test.Goals as goal
 

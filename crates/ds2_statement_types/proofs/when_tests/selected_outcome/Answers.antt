@@ -1,7 +1,7 @@
 use Rattle.std.proofs.Common.{ap, ◌∙◌, subst}
 use Rattle.ds2_meaning.specs.TypedExpression.{TypedExpression}
 use Rattle.ds2_elaboration.specs.StatementTypes.{selected_node}
-use Rattle.ds2_statement_types.specs.StatementOutcomes.{IsNodeAs}
+use Rattle.ds2_simple_statement_types.specs.StatementOutcomes.{IsNodeAs}
 use Rattle.ds2_statement_types.proofs.when_tests.selected_outcome.Goals as goal
 
 pub returns-in-Err : goal.returns-in-Err

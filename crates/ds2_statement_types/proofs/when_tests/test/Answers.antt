@@ -1,5 +1,5 @@
 use Rattle.std.proofs.Common.{sym}
-use Rattle.ds2_expression_walk.specs.ArgumentTrees.{argument_in}
+use Rattle.ds2_reference_types.specs.ArgumentTrees.{argument_in}
 use Rattle.ds2_statement_types.specs.TestRules.{test_rule}
 use Rattle.ds2_statement_types.proofs.when_tests.test.Goals as goal
 

@@ -7,11 +7,11 @@ use Rattle.ds2_tree.specs.declared.expressions.Argument.{Argument}
 use Rattle.ds2_elaboration.specs.ExpressionTypes.{TypeScope, elaborated_arguments}
 use Rattle.ds2_elaboration.specs.StatementTypes.{argument_nodes, selected_node}
 use Rattle.ds2_elaboration.specs.Typings.{TypeRefusals}
-use Rattle.ds2_expression_walk.specs.ArgumentTrees.{argument_in}
-use Rattle.ds2_statement_types.specs.StatementOutcomes.{AreTypedAs}
+use Rattle.ds2_reference_types.specs.ArgumentTrees.{argument_in}
+use Rattle.ds2_simple_statement_types.specs.StatementOutcomes.{AreTypedAs}
 use Rattle.ds2_statement_types.specs.TestRules.{test_rule}
 use Rattle.ds2_statement_types.specs.declared.when_tests.TestRule.{TestRule}
-use Rattle.ds2_statement_types.proofs.PartLists.{no_part, one_part, all_parts}
+use Rattle.ds2_simple_statement_types.proofs.PartLists.{no_part, one_part, all_parts}
 use Rattle.ds2_statement_types.proofs.TestForms.{tests_broken, tests_formed}
 use Rattle.ds2_statement_types.proofs.when_tests.tests.Goals as goal
 

@@ -3,7 +3,7 @@ use Rattle.std.specs.Prelude.{nat_eq}
 use Rattle.std.specs.Cmp.Lexicographic.{pointwise}
 use Rattle.std.specs.HashMap.{get}
 use Rattle.ds2_meaning.specs.IsTyped.{type_in}
-use Rattle.ds2_expression_walk.specs.Scopes.{known_or}
+use Rattle.ds2_reference_types.specs.Scopes.{known_or}
 use Rattle.ds2_type_tables.specs.Globals.{column_known_as}
 use Rattle.ds2_type_tables.proofs.globals.columns.Given as goal
 

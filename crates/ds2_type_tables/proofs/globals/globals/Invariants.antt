@@ -2,7 +2,7 @@ use Rattle.std.proofs.Common.{◌≡◌, ℕ, List, drop}
 use Rattle.std.specs.Prelude.{nat_eq}
 use Rattle.std.specs.Cmp.Lexicographic.{pointwise}
 use Rattle.std.specs.HashMap.{get}
-use Rattle.ds2_expression_walk.specs.Scopes.{known_or}
+use Rattle.ds2_reference_types.specs.Scopes.{known_or}
 use Rattle.ds2_type_tables.specs.Globals.{flag_of_name, global_known_as}
 use Rattle.ds2_type_tables.proofs.globals.globals.Given as goal
 

@@ -5,8 +5,8 @@ use Rattle.std.specs.HashMap.{get}
 use Rattle.ds2_names.specs.SourceUnit.{spelled_name}
 use Rattle.ds2_scope.specs.CodeUnits.{source_instance}
 use Rattle.ds2_elaboration.specs.ProgramTypes.{object_of_instance}
-use Rattle.ds2_expression_walk.specs.Scopes.{IsObjectAs}
-use Rattle.ds2_expression_walk.specs.declared.scopes.KnownObject.{KnownObject}
+use Rattle.ds2_reference_types.specs.Scopes.{IsObjectAs}
+use Rattle.ds2_reference_types.specs.declared.scopes.KnownObject.{KnownObject}
 use Rattle.ds2_type_tables.specs.Objects.{object_named}
 use Rattle.ds2_type_tables.proofs.ObjectLemmas.{none_listed, object_added, object_kept}
 use Rattle.ds2_type_tables.proofs.objects.note.Goals as goal

@@ -1,6 +1,6 @@
 use Rattle.std.proofs.Common.{◌≡◌, ◌++◌, drop}
 use Rattle.std.specs.Prelude.{map}
-use Rattle.ds2_expression_walk.specs.Scopes.{value_parameter}
+use Rattle.ds2_reference_types.specs.Scopes.{value_parameter}
 use Rattle.ds2_type_tables.proofs.objects.value_parameters.Given as goal
 
 abbrev pub invariant-variables : goal.invariant-variables

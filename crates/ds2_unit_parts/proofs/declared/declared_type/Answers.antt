@@ -5,7 +5,7 @@ use Rattle.std.specs.Cmp.Lexicographic.{pointwise}
 use Rattle.std.specs.HashMap.{get}
 use Rattle.std.specs.Option.{option_copied, option_map}
 use Rattle.ds2_meaning.specs.IsTyped.{type_in}
-use Rattle.ds2_expression_walk.specs.declared.scopes.KnownName.{KnownName}
+use Rattle.ds2_reference_types.specs.declared.scopes.KnownName.{KnownName}
 use Rattle.ds2_unit_parts.proofs.DeclaredForms.{type_of_local}
 use Rattle.ds2_unit_parts.proofs.declared.declared_type.Goals as goal
 

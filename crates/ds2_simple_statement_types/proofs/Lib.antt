@@ -1,0 +1,10 @@
+pub mod PartOutcomes
+pub mod PartLists
+pub mod TargetForms
+pub mod CallForms
+pub mod ReturnForms
+pub mod PutForms
+pub mod OutputForms
+pub mod InstanceCalls
+pub mod SettingForms
+pub mod SimpleViews
