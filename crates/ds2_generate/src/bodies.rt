@@ -18,7 +18,7 @@ use ds2_base::{List, OutOfMemory};
 use ds2_body_survey::add_kept_types;
 use ds2_code::{Instr, MethodPart, ParameterPart};
 use ds2_meaning::{Instance, Method, Parameter, Statement, SystemMethod, Variable};
-use ds2_numbering::{BodyNumbers, Frame, HomeName};
+use ds2_numbering::{BodyNumbers, Frame, HomeName, MethodTable, VariableTable};
 use ds2_statement_emitter::{emit_method, emit_system};
 use ds2_value::Ty;
 use std::alloc::Global;
@@ -34,7 +34,7 @@ pub fn number(n: usize) -> Result<u32, OutOfMemory>
 }
 
 // What the code of a body of a program finds fixed.
-fn names_of<'p>(unit: &Unit<'p>, frame: Frame<'p>) -> BodyNumbers<'p>
+fn names_of<'p, 't, 'f>(unit: &Unit<'p, 't>, frame: Frame<'p, 'f>) -> BodyNumbers<'p, 't, 'f>
     ensures numbers { numbers_of_body result ≡ frame_numbers unit.now.slots.now unit.now.constants.now (tree_of_unit unit.now) frame.entry }
     ensures frame { result.frame ≡ frame.entry }
 {
@@ -50,7 +50,7 @@ fn names_of<'p>(unit: &Unit<'p>, frame: Frame<'p>) -> BodyNumbers<'p>
 
 // Adds the code of a system method by its parts, whose own slots begin at a number.
 fn emit_body<'p>(
-    unit: &Unit<'p>,
+    unit: &Unit<'p, '_>,
     code: &mut List<Instr>,
     first: u32,
     locals: &'p [Variable],
@@ -61,9 +61,10 @@ fn emit_body<'p>(
     requires { IsLaidOut unit.now }
     ensures { let tree = body_in locals.now instances.now body.now in OnOk result (code.new ≡ code.old ++ code_of_body (length code.old) (OfSystem (system_numbers (tree_of_unit unit.now) first tree) tree written.now)) }
 {
+    let table = VariableTable::new(unit.alloc, locals)?;
     let frame = Frame::System {
         first,
-        locals,
+        locals: &table,
         instances,
         body,
     };
@@ -74,7 +75,7 @@ fn emit_body<'p>(
 /// Adds the code of a system method whose own slots begin at a number, with the constructors of instances before its statements, and a row
 /// to each of these outputs at its end.
 pub fn emit_system_method<'p>(
-    unit: &Unit<'p>,
+    unit: &Unit<'p, '_>,
     code: &mut List<Instr>,
     first: u32,
     instances: &'p [Instance],
@@ -85,7 +86,11 @@ pub fn emit_system_method<'p>(
     ensures { let tree = init_tree instances.now (system_tree method.now) in OnOk result (code.new ≡ code.old ++ code_of_body (length code.old) (OfSystem (system_numbers (tree_of_unit unit.now) first tree) tree written.now)) }
 {
     match method {
-        None => emit_body(unit, code, first, &[], instances, &[], written),
+        None => {
+            let locals: &'p [Variable] = &[];
+            let body: &'p [Statement] = &[];
+            emit_body(unit, code, first, locals, instances, body, written)
+        }
         Some(method) => {
             let locals = method.locals.as_slice();
             let body = method.body.as_slice();
@@ -135,7 +140,7 @@ fn part_of_method(alloc: Global, entry: u32, method: &Method) -> Result<MethodPa
 
 // Adds the code of a declared method of a home, and its part.
 fn emit_declared<'p>(
-    unit: &Unit<'p>,
+    unit: &Unit<'p, '_>,
     code: &mut List<Instr>,
     parts: &mut List<MethodPart>,
     home: HomeName<'p>,
@@ -146,7 +151,12 @@ fn emit_declared<'p>(
     ensures parts { OnOk result (parts.new ≡ parts.old ++ method_part (length code.old) (typed_method method.now) ∷ []) }
 {
     let entry = number(code.len())?;
-    let names = names_of(unit, Frame::Declared { home, method });
+    let table = MethodTable::new(unit.alloc, method)?;
+    let frame = Frame::Declared {
+        home,
+        method: &table,
+    };
+    let names = names_of(unit, frame);
     emit_method(&names, code, method)?;
     parts.push(part_of_method(unit.alloc, entry, method)?)
 }
@@ -154,7 +164,7 @@ fn emit_declared<'p>(
 /// Adds the code of the declared methods of a home and their parts, so that what follows makes those of the whole.
 #[tactic(auto, using(crate::proofs::UnitLemmas::method_emitted, crate::proofs::UnitLemmas::part_emitted))]
 pub fn emit_declared_methods<'p>(
-    unit: &Unit<'p>,
+    unit: &Unit<'p, '_>,
     code: &mut List<Instr>,
     parts: &mut List<MethodPart>,
     home: HomeName<'p>,
@@ -172,7 +182,7 @@ pub fn emit_declared_methods<'p>(
 
 /// Adds the code of the declared methods of instances and their parts, so that what follows makes those of the whole.
 pub fn emit_instance_methods<'p>(
-    unit: &Unit<'p>,
+    unit: &Unit<'p, '_>,
     code: &mut List<Instr>,
     parts: &mut List<MethodPart>,
     instances: &'p [Instance],

@@ -28,7 +28,7 @@ use ds2_body_survey::statements_have_output;
 use ds2_code::{HashPart, Instr, MethodPart, OutputPart, ProgramParts, ReadingPart, Slot};
 use ds2_layout::Layout;
 use ds2_meaning::{Method, Program, SystemMethod, Variable};
-use ds2_numbering::HomeName;
+use ds2_numbering::{HomeName, SlotTable};
 use std::alloc::Global;
 
 /// The slots of a program, and the first of those that its system methods have of their own.
@@ -41,14 +41,14 @@ struct ProgramSlots {
 }
 
 // The slots of a program: those of its layout, and behind them those of its system methods.
-fn all_slots(unit: &Unit<'_>) -> Result<ProgramSlots, OutOfMemory>
+fn all_slots(unit: &Unit<'_, '_>) -> Result<ProgramSlots, OutOfMemory>
     requires { IsLaidOut unit.now }
     ensures { IfOk result (λ s. AreProgramSlots (tree_of_unit unit.now) s) }
 {
     ds2_placement::laws::each_value_has_type();
     let alloc = unit.alloc;
     let program = unit.program;
-    let mut slots = layout_slots(alloc, unit.slots)?;
+    let mut slots = layout_slots(alloc, unit.slots.as_slice())?;
     let init = add_own_slots(alloc, &mut slots, "init", &program.init)?;
     let run = add_own_slots(alloc, &mut slots, "run", &program.run)?;
     let term = add_own_slots(alloc, &mut slots, "term", &program.term)?;
@@ -116,7 +116,7 @@ fn written_at_end(alloc: Global, program: &Program) -> Result<List<u32>, OutOfMe
 }
 
 // Adds the code of `run`, whose own slots begin at a number, with the rows that it writes at its end.
-fn emit_run(unit: &Unit<'_>, code: &mut List<Instr>, first: u32) -> Result<(), OutOfMemory>
+fn emit_run(unit: &Unit<'_, '_>, code: &mut List<Instr>, first: u32) -> Result<(), OutOfMemory>
     requires laid_out { IsLaidOut unit.now }
     requires own { first ≡ first_of_run (tree_of_unit unit.now) }
     ensures { OnOk result (code.new ≡ code.old ++ code_of_body (length code.old) (run_body (tree_of_unit unit.now))) }
@@ -142,7 +142,7 @@ struct ProgramBodies {
 }
 
 // The instructions of a program whose system methods have slots of their own from these numbers on.
-fn program_bodies(unit: &Unit<'_>, slots: &ProgramSlots) -> Result<ProgramBodies, OutOfMemory>
+fn program_bodies(unit: &Unit<'_, '_>, slots: &ProgramSlots) -> Result<ProgramBodies, OutOfMemory>
     requires laid_out { IsLaidOut unit.now }
     requires init { slots.now.init ≡ layout_size (tree_of_unit unit.now) }
     requires run { slots.now.run ≡ first_of_run (tree_of_unit unit.now) }
@@ -183,7 +183,7 @@ struct TableParts {
 }
 
 // The hash objects, iterators, parameters, reading and outputs of a program whose outputs have these slots.
-fn table_parts(unit: &Unit<'_>, projections: &[List<u32>]) -> Result<TableParts, OutOfMemory>
+fn table_parts(unit: &Unit<'_, '_>, projections: &[List<u32>]) -> Result<TableParts, OutOfMemory>
     requires laid_out { IsLaidOut unit.now }
     requires outputs { projections.now ≡ map (projection (program_slots (tree_of_unit unit.now))) (tree_of_unit unit.now).outputs }
     ensures { IfOk result (λ t. AreTablesOfUnit (tree_of_unit unit.now) t) }
@@ -216,7 +216,7 @@ fn copy_name(alloc: Global, name: Option<&Name>) -> Result<Option<Name>, OutOfMe
 
 // The code of a program that is laid out, of the name that it has as a thread program.
 fn unit_parts(
-    unit: &Unit<'_>,
+    unit: &Unit<'_, '_>,
     thread: Option<&Name>,
     projections: &[List<u32>],
 ) -> Result<ProgramParts, OutOfMemory>
@@ -248,23 +248,23 @@ fn unit_parts(
 
 /// The code of a program with this layout, of the name and with the parameters that it has as a thread program. Wants memory too where a
 /// number has more than 32 bits.
-pub fn program_parts(
+pub fn program_parts<'p>(
     alloc: Global,
     thread: Option<&Name>,
-    parameters: &[Variable],
-    program: &Program,
-    layout: &Layout,
+    parameters: &'p [Variable],
+    program: &'p Program,
+    layout: &'p Layout,
 ) -> Result<ProgramParts, OutOfMemory>
     requires { layout.now ≡ layout_of (unit_tree None parameters.now program.now) }
     ensures { IfOk result (λ code. code ≡ program_code (unit_tree (option_copied thread.entry) parameters.now program.now)) }
 {
     let constants = program_constants(alloc, program)?;
-    let slots = layout.slots.as_slice();
+    let slots = SlotTable::new(alloc, layout.slots.as_slice())?;
     let unit = Unit {
         alloc,
         program,
         parameters,
-        slots,
+        slots: &slots,
         constants: &constants,
     };
     unit_parts(&unit, thread, layout.projections.as_slice())

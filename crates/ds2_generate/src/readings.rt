@@ -9,32 +9,31 @@ ghost use Rattle.ds2_generate.specs.OutputParts.{column_pairs, output_parts_by};
 use crate::tables::{column_slots, slot_number, table_reference};
 use ds2_base::{List, Name, OutOfMemory};
 use ds2_code::{ByPart, OutputPart, ReadPart, ReadingPart};
-use ds2_layout::LayoutSlot;
 use ds2_meaning::{ByVariable, Input, OutputColumn, OutputTable, Program, Reading};
-use ds2_numbering::{GlobalSort, Sought};
+use ds2_numbering::{GlobalSort, SlotTable, Sought};
 use std::alloc::Global;
 
 // The slot of the flag that `in=` names, where there is one.
-fn present_slot(slots: &[LayoutSlot], present: &Option<Name>) -> Result<Option<u32>, OutOfMemory>
-    ensures { IfOk result (λ slot. slot ≡ option_map (λ (name : Items ℕ). slot_among slots.now (record { home = None; global = Present name })) present.now) }
+fn present_slot(slots: &SlotTable<'_>, present: &Option<Name>) -> Option<u32>
+    ensures { result ≡ option_map (λ (name : Items ℕ). slot_among slots.now (record { home = None; global = Present name })) present.now }
 {
     match present {
-        None => Ok(None),
+        None => None,
         Some(name) => {
             let sought = Sought::own(GlobalSort::Present, name);
-            Ok(Some(slot_number(slots, &sought)?))
+            Some(slot_number(slots, &sought))
         }
     }
 }
 
 // A table of a reading statement.
-fn input_part(alloc: Global, slots: &[LayoutSlot], input: &Input) -> Result<ReadPart, OutOfMemory>
+fn input_part(alloc: Global, slots: &SlotTable<'_>, input: &Input) -> Result<ReadPart, OutOfMemory>
     ensures { IfOk result (λ part. part ≡ input_part_among slots.now input.now) }
 {
     let columns = input.columns.as_slice();
     Ok(ReadPart {
         table: table_reference(alloc, &input.table, columns)?,
-        present: present_slot(slots, &input.present)?,
+        present: present_slot(slots, &input.present),
         slots: column_slots(alloc, slots, columns)?,
     })
 }
@@ -42,7 +41,7 @@ fn input_part(alloc: Global, slots: &[LayoutSlot], input: &Input) -> Result<Read
 // The tables of a reading statement.
 fn input_parts(
     alloc: Global,
-    slots: &[LayoutSlot],
+    slots: &SlotTable<'_>,
     inputs: &[Input],
 ) -> Result<List<ReadPart>, OutOfMemory>
     ensures { IfOk result (λ parts. parts ≡ map (input_part_among slots.now) inputs.now) }
@@ -55,28 +54,28 @@ fn input_parts(
 }
 
 // A BY variable.
-fn by_part(slots: &[LayoutSlot], by: &ByVariable) -> Result<ByPart, OutOfMemory>
-    ensures { IfOk result (λ part. part ≡ by_part_among slots.now by.now) }
+fn by_part(slots: &SlotTable<'_>, by: &ByVariable) -> ByPart
+    ensures { result ≡ by_part_among slots.now by.now }
 {
-    Ok(ByPart {
-        slot: slot_number(slots, &Sought::own(GlobalSort::Named, &by.name))?,
+    ByPart {
+        slot: slot_number(slots, &Sought::own(GlobalSort::Named, &by.name)),
         is_descending: by.is_descending,
-        first: slot_number(slots, &Sought::own(GlobalSort::First, &by.name))?,
-        last: slot_number(slots, &Sought::own(GlobalSort::Last, &by.name))?,
-    })
+        first: slot_number(slots, &Sought::own(GlobalSort::First, &by.name)),
+        last: slot_number(slots, &Sought::own(GlobalSort::Last, &by.name)),
+    }
 }
 
 // BY variables.
 fn by_parts(
     alloc: Global,
-    slots: &[LayoutSlot],
+    slots: &SlotTable<'_>,
     bys: &[ByVariable],
 ) -> Result<List<ByPart>, OutOfMemory>
     ensures { IfOk result (λ parts. parts ≡ map (by_part_among slots.now) bys.now) }
 {
     let mut parts = List::new(alloc);
     'bys: for by in bys {
-        parts.push(by_part(slots, by)?)?;
+        parts.push(by_part(slots, by))?;
     }
     Ok(parts)
 }
@@ -84,7 +83,7 @@ fn by_parts(
 // A reading statement. Wants memory too where the source asks for more threads than a byte can count.
 fn reading_part(
     alloc: Global,
-    slots: &[LayoutSlot],
+    slots: &SlotTable<'_>,
     reading: &Reading,
 ) -> Result<ReadingPart, OutOfMemory>
     ensures { IfOk result (λ part. part ≡ reading_part_among slots.now reading.now) }
@@ -122,7 +121,7 @@ fn reading_part(
 /// What the loads of a program are made of: nothing without `run`, and one load where it reads nothing.
 pub fn program_reading(
     alloc: Global,
-    slots: &[LayoutSlot],
+    slots: &SlotTable<'_>,
     program: &Program,
 ) -> Result<ReadingPart, OutOfMemory>
     ensures { IfOk result (λ part. part ≡ reading_part_among slots.now (reading_with_run program.now.run program.now.reading)) }

@@ -16,23 +16,19 @@ use crate::bodies::number;
 use crate::slots::name_of_global;
 use ds2_base::{List, Name, OutOfMemory};
 use ds2_code::{HashPart, HashTable, TableReference};
-use ds2_layout::LayoutSlot;
 use ds2_meaning::{
     DeclaredHash, DeclaredIterator, HashVariable, Instance, LoadedTable, MentionedTable, Program,
     Variable,
 };
-use ds2_numbering::{GlobalSort, HomeName, Sought, find_hash, find_slot};
+use ds2_numbering::{GlobalSort, HomeName, SlotTable, Sought, find_hash};
 use ds2_value::Column;
 use std::alloc::Global;
 
 /// The first slot of a global, 0 where it has none.
-pub fn slot_number(slots: &[LayoutSlot], sought: &Sought<'_>) -> Result<u32, OutOfMemory>
-    ensures { IfOk result (λ n. n ≡ slot_among slots.now (location_sought sought.now)) }
+pub fn slot_number(slots: &SlotTable<'_>, sought: &Sought<'_>) -> u32
+    ensures { result ≡ slot_among slots.now (location_sought sought.now) }
 {
-    match find_slot(slots, sought)? {
-        None => Ok(0),
-        Some(n) => Ok(n),
-    }
+    slots.number(sought).unwrap_or(0)
 }
 
 // Columns once more.
@@ -67,7 +63,7 @@ pub fn table_reference(
 // The slots of variables of a hash object of a home.
 fn variable_slots(
     alloc: Global,
-    slots: &[LayoutSlot],
+    slots: &SlotTable<'_>,
     home: HomeName<'_>,
     variables: &[HashVariable],
 ) -> Result<List<u32>, OutOfMemory>
@@ -75,7 +71,7 @@ fn variable_slots(
 {
     let mut list = List::new(alloc);
     'variables: for variable in variables {
-        list.push(slot_number(slots, &Sought::global(home, &variable.global))?)?;
+        list.push(slot_number(slots, &Sought::global(home, &variable.global)))?;
     }
     Ok(list)
 }
@@ -83,14 +79,14 @@ fn variable_slots(
 /// The slots of columns, of the program itself.
 pub fn column_slots(
     alloc: Global,
-    slots: &[LayoutSlot],
+    slots: &SlotTable<'_>,
     columns: &[Column],
 ) -> Result<List<u32>, OutOfMemory>
     ensures { IfOk result (λ list. list ≡ map (λ (c : ColumnModel). slot_among slots.now (record { home = None; global = Named c.name })) columns.now) }
 {
     let mut list = List::new(alloc);
     'columns: for column in columns {
-        list.push(slot_number(slots, &Sought::named(HomeName::Own, &column.name))?)?;
+        list.push(slot_number(slots, &Sought::named(HomeName::Own, &column.name)))?;
     }
     Ok(list)
 }
@@ -156,7 +152,7 @@ fn loaded_table(alloc: Global, hash: &DeclaredHash) -> Result<Option<HashTable>,
 // A hash object of a home.
 fn hash_part(
     alloc: Global,
-    slots: &[LayoutSlot],
+    slots: &SlotTable<'_>,
     home: HomeName<'_>,
     hash: &DeclaredHash,
 ) -> Result<HashPart, OutOfMemory>
@@ -173,7 +169,7 @@ fn hash_part(
 fn add_hashes(
     alloc: Global,
     parts: &mut List<HashPart>,
-    slots: &[LayoutSlot],
+    slots: &SlotTable<'_>,
     home: HomeName<'_>,
     hashes: &[DeclaredHash],
 ) -> Result<(), OutOfMemory>
@@ -189,7 +185,7 @@ fn add_hashes(
 fn add_instance_hashes(
     alloc: Global,
     parts: &mut List<HashPart>,
-    slots: &[LayoutSlot],
+    slots: &SlotTable<'_>,
     instances: &[Instance],
 ) -> Result<(), OutOfMemory>
     ensures { OnOk result (parts.new ≡ parts.old ++ flat_map (λ (i : InstanceTree). map (hash_part_among slots.now (Some i.name)) i.objects.hashes) (map instance_tree instances.now)) }
@@ -210,7 +206,7 @@ fn add_instance_hashes(
 /// The hash objects of a program, its own before those of its instances.
 pub fn hash_parts(
     alloc: Global,
-    slots: &[LayoutSlot],
+    slots: &SlotTable<'_>,
     program: &Program,
 ) -> Result<List<HashPart>, OutOfMemory>
     ensures { IfOk result (λ parts. parts ≡ hash_parts_among slots.now (tree_of program.now)) }
@@ -281,7 +277,7 @@ pub fn iterator_parts(alloc: Global, program: &Program) -> Result<List<u32>, Out
 /// The slots of the parameters of a thread program.
 pub fn parameter_slots(
     alloc: Global,
-    slots: &[LayoutSlot],
+    slots: &SlotTable<'_>,
     parameters: &[Variable],
 ) -> Result<List<u32>, OutOfMemory>
     ensures { IfOk result (λ list. list ≡ map (λ (v : VariableModel). slot_among slots.now (record { home = None; global = Parameter v.name })) parameters.now) }
@@ -289,7 +285,7 @@ pub fn parameter_slots(
     let mut list = List::new(alloc);
     'parameters: for parameter in parameters {
         let sought = Sought::own(GlobalSort::Parameter, &parameter.name);
-        list.push(slot_number(slots, &sought)?)?;
+        list.push(slot_number(slots, &sought))?;
     }
     Ok(list)
 }

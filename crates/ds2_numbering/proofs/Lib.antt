@@ -1,3 +1,4 @@
 pub mod SearchLemmas
+pub mod NumberLemmas
 pub mod CalleeLemmas
 pub mod BodyLemmas

@@ -1,9 +1,8 @@
-//! The numbers of slots, hash objects, iterators and parameters.
+//! The numbers of hash objects, iterators and parameters.
 ghost use Rattle.std.specs.Prelude.{◌≡◌, [], IfOk, map, flat_map, bytes_eq};
 ghost use Rattle.ds2_meaning.specs.View.{instance_tree, objects_tree, reading_with_run};
 ghost use Rattle.ds2_meaning.specs.declared.globals.Variable.{Variable as VariableModel};
 ghost use Rattle.ds2_meaning.specs.Reading.{stage_instance};
-ghost use Rattle.ds2_layout.specs.Layout.{location_of_slot};
 ghost use Rattle.ds2_placement.specs.PlacedProgram.{number_of_location, hashes_at, iterators_at, hash_locations, iterator_locations, parameter_locations};
 ghost use Rattle.ds2_numbering.specs.SoughtLocations.{home_of_name, location_sought, stage_parameter_at};
 ghost use Rattle.ds2_numbering.specs.Searching.{search_among};
@@ -12,33 +11,9 @@ ghost use Rattle.ds2_numbering.specs.CellNumbers.{instance_hashes, instance_iter
 use crate::search::Search;
 use crate::sought::{HomeName, Sought};
 use ds2_base::{Name, OutOfMemory};
-use ds2_layout::LayoutSlot;
 use ds2_meaning::{
     DeclaredHash, DeclaredIterator, Instance, Program, Reading, ThreadInstance, Variable,
 };
-
-// Looks at slots.
-fn search_slots(
-    begun: Search,
-    sought: &Sought<'_>,
-    slots: &[LayoutSlot],
-) -> Result<Search, OutOfMemory>
-    ensures { IfOk result (λ s. s ≡ search_among (location_sought sought.now) (map location_of_slot slots.now) begun) }
-{
-    let mut search = begun;
-    'slots: for slot in slots {
-        search = search.on(sought.is_slot(slot))?;
-    }
-    Ok(search)
-}
-
-/// The number of the first slot of a location.
-pub fn find_slot(slots: &[LayoutSlot], sought: &Sought<'_>) -> Result<Option<u32>, OutOfMemory>
-    ensures { IfOk result (λ n. n ≡ number_of_location (map location_of_slot slots.now) (location_sought sought.now)) }
-{
-    let search = search_slots(Search::new(), sought, slots)?;
-    Ok(search.found)
-}
 
 // Looks at the hash objects of a home.
 fn search_hashes(

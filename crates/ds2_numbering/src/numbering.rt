@@ -13,7 +13,7 @@ ghost use Rattle.ds2_numbering.specs.SoughtLocations.{home_of_name, location_sou
 
 use crate::BodyNumbers;
 use crate::cell::{Cell, hash_instr, iterator_instr, load_instr, store_instr};
-use crate::find::{find_hash, find_iterator, find_parameter, find_slot};
+use crate::find::{find_hash, find_iterator, find_parameter};
 use crate::methods::{call_instr, leaves_result};
 use crate::sought::{HomeName, Sought};
 use ds2_base::{Name, OutOfMemory, Text};
@@ -87,12 +87,12 @@ fn called_home<'a>(home: HomeName<'a>, instance: &'a Option<Name>) -> HomeName<'
     }
 }
 
-impl<'p> BodyNumbers<'p> {
+impl<'p, 't, 'f> BodyNumbers<'p, 't, 'f> {
     // The cell of a location.
     fn cell(&self, sought: &Sought<'_>) -> Result<Option<Cell>, OutOfMemory>
         ensures { IfOk result (λ cell. option_map code_cell cell ≡ cell_among self.now.slots.now (tree_of self.now.program.now) (location_sought sought.now)) }
     {
-        match find_slot(self.slots, sought)? {
+        match self.slots.number(sought) {
             None => other_cell(self.program, sought),
             Some(n) => Ok(Some(Cell::Slot(n))),
         }
@@ -109,7 +109,7 @@ impl<'p> BodyNumbers<'p> {
     }
 }
 
-impl<'p> Numbering for BodyNumbers<'p> {
+impl<'p, 't, 'f> Numbering for BodyNumbers<'p, 't, 'f> {
     ghost numbers = { numbers_of_body };
 
     ghost way = { λ s. way_in s.frame };

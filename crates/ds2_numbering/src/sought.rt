@@ -5,6 +5,7 @@ ghost use Rattle.ds2_meaning.specs.Location.{is_same_home, is_same_global, is_sa
 ghost use Rattle.ds2_meaning.specs.HashObjects.{object_at};
 ghost use Rattle.ds2_layout.specs.Layout.{location_of_slot};
 ghost use Rattle.ds2_numbering.specs.SoughtLocations.{home_of_name, global_of_sort, location_sought, stage_parameter_at};
+ghost use Rattle.ds2_numbering.specs.SoughtKeys.{is_same_sort};
 
 use ds2_base::Name;
 use ds2_layout::LayoutSlot;
@@ -35,8 +36,8 @@ pub struct Sought<'a> {
     pub name: &'a Name,
 }
 
-/// Whose global it is, by the instance that a slot names.
-pub fn home_name(instance: &Option<Name>) -> HomeName<'_>
+// Whose global it is, by the instance that a slot names.
+fn home_name(instance: &Option<Name>) -> HomeName<'_>
     ensures { home_of_name result ≡ instance.now }
 {
     match instance {
@@ -45,8 +46,8 @@ pub fn home_name(instance: &Option<Name>) -> HomeName<'_>
     }
 }
 
-// Whether two homes are one.
-fn is_one_home(a: HomeName<'_>, b: HomeName<'_>) -> bool
+/// Whether two homes are one.
+pub(crate) fn is_one_home(a: HomeName<'_>, b: HomeName<'_>) -> bool
     ensures { result ≡ is_same_home (home_of_name a.entry) (home_of_name b.entry) }
 {
     match a {
@@ -61,46 +62,16 @@ fn is_one_home(a: HomeName<'_>, b: HomeName<'_>) -> bool
     }
 }
 
-// Whether a global is that of a sort and a name.
-fn is_global(sort: GlobalSort, name: &Name, global: &Global) -> bool
-    ensures { result ≡ is_same_global (global_of_sort sort name.now) global.now }
+/// Whether two sorts are one.
+pub(crate) fn is_one_sort(a: GlobalSort, b: GlobalSort) -> bool
+    ensures { result ≡ is_same_sort a b }
 {
-    match sort {
-        GlobalSort::Named => match global {
-            Global::Named(other) => name == other,
-            Global::First(_) => false,
-            Global::Last(_) => false,
-            Global::Present(_) => false,
-            Global::Parameter(_) => false,
-        },
-        GlobalSort::First => match global {
-            Global::Named(_) => false,
-            Global::First(other) => name == other,
-            Global::Last(_) => false,
-            Global::Present(_) => false,
-            Global::Parameter(_) => false,
-        },
-        GlobalSort::Last => match global {
-            Global::Named(_) => false,
-            Global::First(_) => false,
-            Global::Last(other) => name == other,
-            Global::Present(_) => false,
-            Global::Parameter(_) => false,
-        },
-        GlobalSort::Present => match global {
-            Global::Named(_) => false,
-            Global::First(_) => false,
-            Global::Last(_) => false,
-            Global::Present(other) => name == other,
-            Global::Parameter(_) => false,
-        },
-        GlobalSort::Parameter => match global {
-            Global::Named(_) => false,
-            Global::First(_) => false,
-            Global::Last(_) => false,
-            Global::Present(_) => false,
-            Global::Parameter(other) => name == other,
-        },
+    match a {
+        GlobalSort::Named => matches!(&b, GlobalSort::Named),
+        GlobalSort::First => matches!(&b, GlobalSort::First),
+        GlobalSort::Last => matches!(&b, GlobalSort::Last),
+        GlobalSort::Present => matches!(&b, GlobalSort::Present),
+        GlobalSort::Parameter => matches!(&b, GlobalSort::Parameter),
     }
 }
 
@@ -182,6 +153,13 @@ impl<'a> Sought<'a> {
         }
     }
 
+    /// What a slot is for.
+    pub fn slot(slot: &'a LayoutSlot) -> Sought<'a>
+        ensures { location_sought result ≡ location_of_slot slot.now }
+    {
+        Sought::global(home_name(&slot.instance), &slot.global)
+    }
+
     /// A parameter of the instance of a thread program.
     pub fn parameter(instance: &'a Name, name: &'a Name) -> Sought<'a>
         ensures { location_sought result ≡ stage_parameter_at instance.now name.now }
@@ -191,14 +169,6 @@ impl<'a> Sought<'a> {
             sort: GlobalSort::Parameter,
             name,
         }
-    }
-
-    /// Whether it is the location of a slot.
-    pub fn is_slot(&self, slot: &LayoutSlot) -> bool
-        ensures { result ≡ is_same_location (location_sought self.now) (location_of_slot slot.now) }
-    {
-        is_one_home(self.home, home_name(&slot.instance))
-            && is_global(self.sort, self.name, &slot.global)
     }
 
     /// Whether it is the hash object or the iterator of a name in a home.

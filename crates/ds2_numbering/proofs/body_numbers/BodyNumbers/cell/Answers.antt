@@ -7,7 +7,7 @@ use Rattle.ds2_numbering.proofs.body_numbers.BodyNumbers.cell.Goals as goal
 
 pub returns-in-None : goal.returns-in-None
 returns-in-None c =
-    if_seen (λ (cell : Option Cell). option_map code_cell cell) _ _ c.other_cell.result (chosen_next (λ n. SlotCell n) _ _ _ c.in_ok-find_slot.ensures c.in-None.is) c.other_cell.ensures
+    if_seen (λ (cell : Option Cell). option_map code_cell cell) _ _ c.other_cell.result (chosen_next (λ n. SlotCell n) _ _ _ c.number.ensures c.in-None.is) c.other_cell.ensures
 
 pub returns-in-Some : goal.returns-in-Some
-returns-in-Some c = chosen_first (λ n. SlotCell n) _ _ _ _ c.in_ok-find_slot.ensures c.in-Some.is
+returns-in-Some c = chosen_first (λ n. SlotCell n) _ _ _ _ c.number.ensures c.in-Some.is
