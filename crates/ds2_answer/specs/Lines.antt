@@ -15,9 +15,9 @@ use Rattle.ds2_source.specs.ScopeKind.{ScopeKind}
 use Rattle.ds2_source.specs.ScopeKind.TheVariants as scope
 use Rattle.ds2_source.specs.TypeKind.{TypeKind}
 use Rattle.ds2_source.specs.TypeKind.TheVariants as types
+use Rattle.ds2_source.specs.declared.kinds.SourceKind.{SourceKind}
 use Rattle.ds2_source.specs.declared.kinds.SourceKind.TheVariants.{Lex, Parse, Scope, Types}
-use Rattle.ds2_answer.specs.declared.kinds.SourceReason.{SourceReason}
-use Rattle.ds2_answer.specs.declared.kinds.SourceReason.TheVariants.{Rule, NotBuilt}
+use Rattle.ds2_source.specs.declared.kinds.SourceRefusal.{SourceRefusal}
 use Rattle.ds2_answer.specs.declared.kinds.FileKind.{FileKind}
 use Rattle.ds2_answer.specs.declared.kinds.FileKind.TheVariants as file
 use Rattle.ds2_object.specs.declared.refusal.ObjectRefusal.{ObjectRefusal}
@@ -112,17 +112,16 @@ type_kind_text types.ScaleTooLarge = codes "ScaleTooLarge"
 type_kind_text types.NotTruth = codes "NotTruth"
 type_kind_text types.NoReturn = codes "NoReturn"
 
--- the name of the reason why a source is refused
-abbrev pub reason_text : SourceReason → List ℕ
-reason_text (Rule (Lex kind)) = lex_kind_text kind
-reason_text (Rule (Parse kind)) = parse_kind_text kind
-reason_text (Rule (Scope kind)) = scope_kind_text kind
-reason_text (Rule (Types kind)) = type_kind_text kind
-reason_text NotBuilt = codes "NotBuilt"
+-- the name of a kind of a source's refusal
+abbrev pub source_kind_text : SourceKind → List ℕ
+source_kind_text (Lex kind) = lex_kind_text kind
+source_kind_text (Parse kind) = parse_kind_text kind
+source_kind_text (Scope kind) = scope_kind_text kind
+source_kind_text (Types kind) = type_kind_text kind
 
 -- a source is refused
-abbrev pub source_line : SourceReason → Place → List ℕ
-source_line reason place = codes "ERROR: Source refused: " ++ (reason_text reason ++ at_place place (codes ".\n"))
+abbrev pub source_line : SourceRefusal → List ℕ
+source_line refusal = codes "ERROR: Source refused: " ++ (source_kind_text refusal.kind ++ at_place refusal.place (codes ".\n"))
 
 -- the name of a fault
 abbrev pub fault_text : Fault → List ℕ

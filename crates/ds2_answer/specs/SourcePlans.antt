@@ -1,7 +1,6 @@
 -- What `run`, `compile` and `check` answer to a source.
-use Rattle.std.specs.Prelude.{ℕ, ◌-◌, Bool, true, false, List, [], ◌∷◌, ◌++◌, codes, drop, flat_map, length, map, take, Option, Some, None, Result, Ok, Err}
+use Rattle.std.specs.Prelude.{ℕ, ◌-◌, List, [], ◌∷◌, ◌++◌, codes, drop, flat_map, length, map, take, Option, Some, None, Result, Ok, Err}
 use Rattle.ds2_base.specs.Bytes.{Bytes}
-use Rattle.ds2_base.specs.Place.{start_place}
 use Rattle.ds2_base.specs.Text.{text_of}
 use Rattle.ds2_table.specs.OneThread.{Answer}
 use Rattle.ds2_outside.specs.Files.{Files}
@@ -13,7 +12,6 @@ use Rattle.ds2_same_answer.specs.SameAnswer.{programs_in_chain}
 use Rattle.ds2_meaning.specs.declared.globals.OutputTable.{OutputTable}
 use Rattle.ds2_source.specs.Elaboration.{ProgramRefusal, elaborated_source}
 use Rattle.ds2_source.specs.AnswersOfTexts.{SourcesRead}
-use Rattle.ds2_source.specs.BuiltSources.{is_built_source}
 use Rattle.ds2_source.specs.InputTables.{source_inputs, names_or_refusal}
 use Rattle.ds2_source.specs.SourceAnswer.{SourceAnswer}
 use Rattle.ds2_source.specs.declared.kinds.SourceRefusal.{SourceRefusal}
@@ -21,7 +19,6 @@ use Rattle.ds2_source.specs.SourceRefusals.{source_refusal_of}
 use Rattle.ds2_code.specs.declared.parts.StagedParts.{StagedParts}
 use Rattle.ds2_object.specs.ObjectSpelling.{object_spelled, written_object}
 use Rattle.ds2_answer.specs.declared.kinds.FileKind.TheVariants as file
-use Rattle.ds2_answer.specs.declared.kinds.SourceReason.TheVariants.{Rule, NotBuilt}
 use Rattle.ds2_answer.specs.declared.kinds.TheConstants.{SOURCE_LIMIT}
 use Rattle.ds2_answer.specs.declared.status.Status.TheVariants as ended
 use Rattle.ds2_answer.specs.HeldTables.{HeldTables, NamedTable, columns_held, held_from_store, made_by_name, rows_held}
@@ -114,7 +111,7 @@ check_threads verdicts = each_in_turn verdict_then verdicts (Stops ended.Done)
 
 -- a source is refused
 abbrev pub refuse_source : SourceRefusal → Plan
-refuse_source refusal = Logs (source_line (Rule refusal.kind) refusal.place) (Stops ended.Source)
+refuse_source refusal = Logs (source_line refusal) (Stops ended.Source)
 
 -- a source is refused for its names or types, or the command goes on with its programs
 abbrev pub with_typed_programs : Result (List ProgramTree) ProgramRefusal → (List ProgramTree → Plan) → Plan
@@ -135,15 +132,10 @@ abbrev pub with_inputs : Result (List (List ℕ)) SourceRefusal → List SourceP
 with_inputs (Err refusal) parts files go = refuse_source refusal
 with_inputs (Ok names) parts files go = read_tables [] names [] files (with_tables parts go)
 
--- a source of a form that isn't built is refused
-abbrev pub with_built : Bool → List SourcePart → Files → SourceCommand → Plan
-with_built false parts files go = Logs (source_line NotBuilt start_place) (Stops ended.Source)
-with_built true parts files go = with_inputs (names_or_refusal (source_inputs parts)) parts files go
-
--- a text that is no source is refused, or its tree is looked at
+-- a text that is no source is refused, or the tables that it reads are looked up
 abbrev pub with_tree : SourceAnswer → Files → SourceCommand → Plan
 with_tree (Err refusal) files go = refuse_source refusal
-with_tree (Ok parts) files go = with_built (is_built_source parts) parts files go
+with_tree (Ok parts) files go = with_inputs (names_or_refusal (source_inputs parts)) parts files go
 
 -- a file of a source that is no text is refused, or its text is read
 abbrev pub with_text : SourcesRead → List ℕ → Option Bytes → Files → SourceCommand → Plan

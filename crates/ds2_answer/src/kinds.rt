@@ -1,6 +1,5 @@
-//! Why files, sources and objects are refused.
+//! Why files are refused, and how long files may be.
 use ds2_csv::{CsvRefusal, MOST_BYTES};
-use ds2_source::SourceKind;
 
 /// The most bytes of a source.
 pub const SOURCE_LIMIT: u64 = 262_144;
@@ -10,15 +9,6 @@ pub const TABLE_LIMIT: u64 = MOST_BYTES as u64;
 
 /// The most bytes of an object.
 pub const OBJECT_LIMIT: u64 = 268_435_456;
-
-/// Why a source is refused.
-#[derive(Clone, Copy, Debug, PartialEq, Eq)]
-pub enum SourceReason {
-    /// It breaks a rule of tokens, of the grammar, of names or of types.
-    Rule(SourceKind),
-    /// It is in a form that isn't built yet.
-    NotBuilt,
-}
 
 /// Why a file is refused.
 #[derive(Clone, Copy, Debug, PartialEq, Eq)]

@@ -21,6 +21,6 @@ mod words;
 
 pub use command_line::{CommandLine, GivenOptions, MOST_THREADS, read_command_line};
 pub use ds2_csv::{CsvRefusal, read_table};
-pub use kinds::{FileKind, OBJECT_LIMIT, SOURCE_LIMIT, SourceReason, TABLE_LIMIT};
+pub use kinds::{FileKind, OBJECT_LIMIT, SOURCE_LIMIT, TABLE_LIMIT};
 pub use status::Status;
 pub use words::{DEFAULT_BUDGET, MOST_BUDGET};

@@ -1,14 +1,14 @@
 //! The lines of the log. Each ends with a line feed. A new line touches the files that docs/ARCHITECTURE.md lists under 'To add a
 //! log line'.
 ghost use Rattle.std.specs.Prelude.{◌≡◌, ◌++◌, IfOk, OnOk, Some, None, string_bytes};
-ghost use Rattle.ds2_answer.specs.Lines.{checked_thread_line, count_line, error_line, exists_line, fault_line, fault_text, file_line, lex_kind_text, parse_kind_text, line_put, lines_put, local_text, not_local_text, object_line, object_refused_line, reason_text, scope_kind_text, source_line, table_kind_text, table_line, thread_line, type_kind_text, usage_line, verdict_text};
+ghost use Rattle.ds2_answer.specs.Lines.{checked_thread_line, count_line, error_line, exists_line, fault_line, fault_text, file_line, lex_kind_text, parse_kind_text, line_put, lines_put, local_text, not_local_text, object_line, object_refused_line, scope_kind_text, source_kind_text, source_line, table_kind_text, table_line, thread_line, type_kind_text, usage_line, verdict_text};
 
-use crate::{FileKind, SourceReason};
+use crate::FileKind;
 use ds2_base::{Bytes, Name, OutOfMemory, Place, Text};
 use ds2_csv::{CsvKind, CsvRefusal};
 use ds2_locality::{Reason, Verdict};
 use ds2_object::ObjectRefusal;
-use ds2_source::{LexKind, ParseKind, ScopeKind, SourceKind, TypeKind};
+use ds2_source::{LexKind, ParseKind, ScopeKind, SourceKind, SourceRefusal, TypeKind};
 use ds2_value::Fault;
 use std::alloc::{AllocError, Global};
 
@@ -127,24 +127,24 @@ fn type_kind_text(kind: TypeKind) -> &'static str
     }
 }
 
-fn reason_text(reason: SourceReason) -> &'static str
-    ensures { result.now ≡ reason_text reason }
+fn source_kind_text(kind: SourceKind) -> &'static str
+    ensures { result.now ≡ source_kind_text kind }
 {
-    match reason {
-        SourceReason::Rule(SourceKind::Lex(kind)) => lex_kind_text(kind),
-        SourceReason::Rule(SourceKind::Parse(kind)) => parse_kind_text(kind),
-        SourceReason::Rule(SourceKind::Scope(kind)) => scope_kind_text(kind),
-        SourceReason::Rule(SourceKind::Types(kind)) => type_kind_text(kind),
-        SourceReason::NotBuilt => "NotBuilt",
+    match kind {
+        SourceKind::Lex(kind) => lex_kind_text(kind),
+        SourceKind::Parse(kind) => parse_kind_text(kind),
+        SourceKind::Scope(kind) => scope_kind_text(kind),
+        SourceKind::Types(kind) => type_kind_text(kind),
     }
 }
 
 // `ERROR: Source refused: KIND at L:C.`
-fn source_line(alloc: Global, reason: SourceReason, place: Place) -> Result<String, AllocError>
-    ensures { IfOk result (λ line. string_bytes line ≡ source_line reason place) }
+fn source_line(alloc: Global, refusal: SourceRefusal) -> Result<String, AllocError>
+    ensures { IfOk result (λ line. string_bytes line ≡ source_line refusal) }
 {
+    let SourceRefusal { kind, place } = refusal;
     let Place { line, column } = place;
-    let kind = reason_text(reason);
+    let kind = source_kind_text(kind);
     format!(in alloc; "ERROR: Source refused: {kind} at {line}:{column}.\n")
 }
 
@@ -192,13 +192,12 @@ pub fn say_refused(
 /// Adds the line on a source that is refused.
 pub fn say_source_refused(
     alloc: Global,
-    reason: SourceReason,
-    place: Place,
+    refusal: SourceRefusal,
     log: &mut Bytes,
 ) -> Result<(), OutOfMemory>
-    ensures { OnOk result (log.new ≡ log.old ++ source_line reason place) }
+    ensures { OnOk result (log.new ≡ log.old ++ source_line refusal) }
 {
-    let line = source_line(alloc, reason, place)?;
+    let line = source_line(alloc, refusal)?;
     log.append(line.as_str().as_bytes())
 }
 

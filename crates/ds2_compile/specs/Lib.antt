@@ -19,7 +19,6 @@ pub use Rattle.ds2_same_meaning.specs.SameAnswer
 pub use Rattle.ds2_same_meaning.specs.SameMeaning
 pub use Rattle.ds2_source.specs.Answers
 pub use Rattle.ds2_source.specs.AnswersOfTexts
-pub use Rattle.ds2_source.specs.BuiltSources
 pub use Rattle.ds2_source.specs.InputTables
 pub use Rattle.ds2_source.specs.SourceAnswer
 pub use Rattle.ds2_source.specs.SourceRefusals

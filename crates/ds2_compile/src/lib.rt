@@ -16,7 +16,7 @@ pub use compiling::{Compiled, compile};
 pub use ds2_code::{HashPart, HashTable, ReadPart, ReadingPart, TableReference};
 pub use ds2_names::{NamedSchema, Schemas};
 pub use ds2_source::laws::{one_source_answer, sources_are_read};
-pub use ds2_source::{SourceRefusal, input_names, is_built_source, read_source};
+pub use ds2_source::{SourceRefusal, input_names, read_source};
 pub use ds2_tree::Source;
 pub use ds2_valid_code::ProgramCode;
 pub use ds2_value::Schema;

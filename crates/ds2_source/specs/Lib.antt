@@ -1,10 +1,9 @@
--- What the text of a source is read as, which sources are built so far, and the tables that they read.
+-- What the text of a source is read as, and the tables that it reads.
 pub mod Answers
 pub mod SourceAnswer
 pub mod SourceRefusals
 pub mod AnswersOfTexts
 pub mod SourceTexts
-pub mod BuiltSources
 pub mod InputTables
 pub use Rattle.ds2_elaboration.specs.Elaboration
 pub use Rattle.ds2_grammar.specs.declared.kind.ParseKind

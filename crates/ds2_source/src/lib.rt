@@ -1,26 +1,21 @@
 //! A source, and the tables that it reads.
 //!
-//! [`read_source`] gives the syntax tree of a text or its first refusal, [`is_built_source`] tells whether a tree is of a form that is
-//! built so far, and [`input_names`] gives the tables that must come from the store. [`SourceRefusal`] has the kinds of all refusals of a
-//! source. What a text is read as stands in `specs/SourceAnswer.antt`, by the tokens that stand for the text and the grammar that reads
-//! them; [`laws`] say that there is exactly one answer for each text.
+//! [`read_source`] gives the syntax tree of a text or its first refusal, and [`input_names`] gives the tables that must come from the
+//! store. [`SourceRefusal`] has the kinds of all refusals of a source. What a text is read as stands in `specs/SourceAnswer.antt`, by the
+//! tokens that stand for the text and the grammar that reads them; [`laws`] say that there is exactly one answer for each text.
 //!
 //! ```text
 //! let source = read_source(alloc, &text)?;
-//! if is_built_source(&source) {
-//!     let tables = input_names(alloc, &source)?;
-//! }
+//! let tables = input_names(alloc, &source)?;
 //! ```
 #![tactic(auto)]
 
-mod built;
 mod inputs;
 mod kinds;
 pub mod laws;
 mod mentions;
 mod source;
 
-pub use built::is_built_source;
 pub use ds2_grammar::ParseKind;
 pub use ds2_meaning::{ScopeKind, TypeKind};
 pub use ds2_token::LexKind;

@@ -2,8 +2,6 @@
 use Rattle.std.proofs.Common.{◌≡◌, ◌≢◌, ◌⊎◌, ◌∙◌, ◌&&◌, ◌==◌, IsErrAnd, IsTrue, inl, inr, if◌then◌else◌, Bool, true, false, bytes_eq, ℕ, List, [], ◌∷◌, ◌++◌, map, flat_map, Option, Some, None, IfSome, Result, Ok, Err, refl, sym, ap, subst}
 use Rattle.std.specs.List.{AllByRecursion}
 use Rattle.ds2_base.specs.Bytes.{Bytes}
-use Rattle.ds2_base.specs.Place.{start_place}
-use Rattle.ds2_base.specs.declared.place.Place.{Place}
 use Rattle.ds2_base.specs.declared.stop.Stop.{Stop}
 use Rattle.ds2_base.specs.declared.stop.Stop.TheVariants.{Refused}
 use Rattle.ds2_base.specs.Text.{text_of}
@@ -14,7 +12,6 @@ use Rattle.ds2_object.specs.ObjectSpelling.{IsValidObject, linked_behind}
 use Rattle.ds2_code.specs.ValidCode.{is_short}
 use Rattle.ds2_compile.specs.Answers.{AnswersWith}
 use Rattle.ds2_compile.specs.AnswersOfTexts.{OneSourceAnswer, SourcesRead}
-use Rattle.ds2_compile.specs.BuiltSources.{is_built_source}
 use Rattle.ds2_compile.specs.CodeTables.{program_references}
 use Rattle.ds2_compile.specs.CompiledSources.{AreCompiledPrograms, HasStoreTable, IsCompiled, IsCompiledObject, IsOutcomeCompiled}
 use Rattle.ds2_compile.specs.Elaboration.{ProgramRefusal, elaborated_source}
@@ -30,7 +27,6 @@ use Rattle.ds2_compile.specs.TableReference.{TableReference}
 use Rattle.ds2_compile.specs.Units.{SourcePart}
 use Rattle.ds2_compile.specs.declared.compiling.Compiled.{Compiled}
 use Rattle.ds2_answer.specs.declared.kinds.FileKind.TheVariants.{NotUtf8}
-use Rattle.ds2_answer.specs.declared.kinds.SourceReason.TheVariants.{Rule, NotBuilt}
 use Rattle.ds2_answer.specs.declared.kinds.TheConstants.{SOURCE_LIMIT}
 use Rattle.ds2_answer.specs.declared.status.Status.{Status}
 use Rattle.ds2_answer.specs.declared.status.Status.TheVariants as ended
@@ -39,7 +35,7 @@ use Rattle.ds2_answer.specs.HeldTables.{NamedTable, columns_held, contents_named
 use Rattle.ds2_answer.specs.Lines.{source_line}
 use Rattle.ds2_answer.specs.ObjectPlans.{references_of}
 use Rattle.ds2_answer.specs.Plan.{Plan, Stops, Logs, ReadsFile, each_in_turn}
-use Rattle.ds2_answer.specs.SourcePlans.{SourceCommand, source_plan, with_built, with_inputs, with_typed_programs, with_tables, with_text, with_tree}
+use Rattle.ds2_answer.specs.SourcePlans.{SourceCommand, source_plan, with_inputs, with_typed_programs, with_tables, with_text, with_tree}
 use Rattle.ds2_answer.specs.Status.{IsAnswerStatus}
 use Rattle.ds2_answer.specs.StoredCodes.{HaveCodes}
 use Rattle.ds2_answer.specs.TablePlans.{read_file, read_tables}
@@ -202,12 +198,12 @@ module _ (names : List (List ℕ)) (parts : List SourcePart) (stored : List Name
       }
 
   refused_by : (outcome : Result (List ProgramTree) ProgramRefusal) → outcome_over ≡ outcome → (given : SourceRefusal) (said log : List ℕ) (halt : Halt) → IsOutcomeCompiled names (columns_held (held_from_store stored)) verdicts_over outcome (Err (Refused given))
-      → StopsAs ended.Source (source_line (Rule given.kind) given.place) said halt log → (told : Option Files) → LoadsSource (λ files go. with_tables parts go stored) said told (Err halt) log told
+      → StopsAs ended.Source (source_line given) said halt log → (told : Option Files) → LoadsSource (λ files go. with_tables parts go stored) said told (Err halt) log told
   refused_by (Ok programs) e given said log halt is stops told = absurd is
   refused_by (Err refusal) e given said log halt is stops told =
-      loads_line (λ files go. with_tables parts go stored) ended.Source (source_line (Rule given.kind) given.place) said log told told halt
+      loads_line (λ files go. with_tables parts go stored) ended.Source (source_line given) said log told told halt
       (λ files go. ap (λ (o : Result (List ProgramTree) ProgramRefusal). with_typed_programs o (go (held_from_store stored) verdicts_over)) e
-      ∙ ap (λ (r : SourceRefusal). Logs (source_line (Rule r.kind) r.place) (Stops ended.Source)) (sym is)) tt stops refl
+      ∙ ap (λ (r : SourceRefusal). Logs (source_line r) (Stops ended.Source)) (sym is)) tt stops refl
 
 module _ (tables : TableColumns) (parts : List SourcePart) (stored : List NamedTable) (same : tables ≡ columns_held (held_from_store stored)) where
   -- a source was compiled over the tables that were read
@@ -222,7 +218,7 @@ module _ (tables : TableColumns) (parts : List SourcePart) (stored : List NamedT
 
   -- a source was refused for its names or types
   pub refused_over : (given : SourceRefusal) (stop : Stop SourceRefusal) (said log : List ℕ) (halt : Halt) → stop ≡ Refused given → IsCompiled tables parts (Err stop)
-      → StopsAs ended.Source (source_line (Rule given.kind) given.place) said halt log → (told : Option Files) → LoadsSource (λ files go. with_tables parts go stored) said told (Err halt) log told
+      → StopsAs ended.Source (source_line given) said halt log → (told : Option Files) → LoadsSource (λ files go. with_tables parts go stored) said told (Err halt) log told
   refused_over given stop said log halt stop_is is stops told =
       refused_by (names_alone (source_inputs parts)) parts stored (elaborated_source (columns_held (held_from_store stored)) parts) refl given said log halt
       (subst (λ (ts : TableColumns). IsCompiled ts parts (Err (Refused given))) same (subst (λ (s : Stop SourceRefusal). IsCompiled tables parts (Err s)) stop_is is)) stops told
@@ -256,15 +252,15 @@ module _ (parts : List SourcePart) where
       (h (with_tables parts go))) over
 
   inputs_line : (wanted : Result (List (List ℕ)) SourceRefusal) (given : SourceRefusal) (said log : List ℕ) (told now : Option Files) (halt : Halt) → wanted ≡ Err given
-      → StopsAs ended.Source (source_line (Rule given.kind) given.place) said halt log → now ≡ told
+      → StopsAs ended.Source (source_line given) said halt log → now ≡ told
       → OverSomeFiles told (λ files. (go : SourceCommand) → HaltsPlan (with_inputs wanted parts files go) said told halt log now)
   inputs_line wanted given said log told now halt is stops same =
-      loads_line (λ files go. with_inputs wanted parts files go) ended.Source (source_line (Rule given.kind) given.place) said log told now halt
+      loads_line (λ files go. with_inputs wanted parts files go) ended.Source (source_line given) said log told now halt
       (λ files go. ap (λ (w : Result (List (List ℕ)) SourceRefusal). with_inputs w parts files go) is) tt stops same
 
   -- there are too many tables
   pub inputs_refused : (given : SourceRefusal) (stop : Stop SourceRefusal) (said log : List ℕ) (told now : Option Files) (halt : Halt) → stop ≡ Refused given
-      → AnswersWith (names_or_refusal (source_inputs parts)) (Err stop) → StopsAs ended.Source (source_line (Rule given.kind) given.place) said halt log → now ≡ told
+      → AnswersWith (names_or_refusal (source_inputs parts)) (Err stop) → StopsAs ended.Source (source_line given) said halt log → now ≡ told
       → ReadsInputs parts said told (Err halt) log now
   inputs_refused given stop said log told now halt stop_is is stops same =
       inputs_line (names_or_refusal (source_inputs parts)) given said log told now halt (subst (λ (s : Stop SourceRefusal). AnswersWith (names_or_refusal (source_inputs parts)) (Err s)) stop_is is) stops same
@@ -314,28 +310,16 @@ module _ (parts : List SourcePart) where
 
 -- ---- the tree and the text of a source
 
-pub tree_built : (parts : List SourcePart) (built : Bool) (said log : List ℕ) (told now : Option Files) (result : Result Loaded Halt) → built ≡ is_built_source parts → built ≡ true
-    → LoadsSource (λ files go. with_inputs (names_or_refusal (source_inputs parts)) parts files go) said told result log now → LoadsSource (λ files go. with_built (is_built_source parts) parts files go) said told result log now
-tree_built parts built said log told now result is right loads =
-    loads_same (λ files go. with_built true parts files go) (λ files go. with_built (is_built_source parts) parts files go) said log told now result
-    (λ files go. ap (λ (b : Bool). with_built b parts files go) (sym right ∙ is)) loads
-
-pub tree_unbuilt : (parts : List SourcePart) (built : Bool) (place : Place) (said log : List ℕ) (told now : Option Files) (halt : Halt) → built ≡ is_built_source parts → built ≡ false → place ≡ start_place
-    → StopsAs ended.Source (source_line NotBuilt place) said halt log → now ≡ told → LoadsSource (λ files go. with_built (is_built_source parts) parts files go) said told (Err halt) log now
-tree_unbuilt parts built place said log told now halt is wrong at_start stops same =
-    loads_line (λ files go. with_built (is_built_source parts) parts files go) ended.Source (source_line NotBuilt start_place) said log told now halt
-    (λ files go. ap (λ (b : Bool). with_built b parts files go) (sym is ∙ wrong)) tt (subst (λ (p : Place). StopsAs ended.Source (source_line NotBuilt p) said halt log) at_start stops) same
-
 pub text_tree : OneSourceAnswer → (sources : SourcesRead) (text : Bytes) (parts : List SourcePart) (said log : List ℕ) (told now : Option Files) (result : Result Loaded Halt) → IsSourceAnswer text (Ok parts)
-    → LoadsSource (λ files go. with_built (is_built_source parts) parts files go) said told result log now → LoadsSource (λ files go. with_tree (sources.answer_for text) files go) said told result log now
+    → LoadsSource (λ files go. with_inputs (names_or_refusal (source_inputs parts)) parts files go) said told result log now → LoadsSource (λ files go. with_tree (sources.answer_for text) files go) said told result log now
 text_tree one sources text parts said log told now result is loads =
     loads_same (λ files go. with_tree (Ok parts) files go) (λ files go. with_tree (sources.answer_for text) files go) said log told now result
     (λ files go. ap (λ (read : SourceAnswer). with_tree read files go) (one text (Ok parts) (sources.answer_for text) is (sources.is_answer text))) loads
 
 pub text_refused : OneSourceAnswer → (sources : SourcesRead) (text : Bytes) (given : SourceRefusal) (said log : List ℕ) (told now : Option Files) (halt : Halt) → IsSourceAnswer text (Err given)
-    → StopsAs ended.Source (source_line (Rule given.kind) given.place) said halt log → now ≡ told → LoadsSource (λ files go. with_tree (sources.answer_for text) files go) said told (Err halt) log now
+    → StopsAs ended.Source (source_line given) said halt log → now ≡ told → LoadsSource (λ files go. with_tree (sources.answer_for text) files go) said told (Err halt) log now
 text_refused one sources text given said log told now halt is stops same =
-    loads_line (λ files go. with_tree (sources.answer_for text) files go) ended.Source (source_line (Rule given.kind) given.place) said log told now halt
+    loads_line (λ files go. with_tree (sources.answer_for text) files go) ended.Source (source_line given) said log told now halt
     (λ files go. ap (λ (read : SourceAnswer). with_tree read files go) (one text (sources.answer_for text) (Err given) (sources.is_answer text) is)) tt stops same
 
 -- ---- the file of a source
@@ -348,13 +332,9 @@ module _ (name bytes : List ℕ) (named : IsTrue (is_source name)) where
   same_names (Err refusal) parts files go = refl
   same_names (Ok names) parts files go = same_tables name bytes unlike [] names [] files (with_tables parts go)
 
-  same_built : (built : Bool) (parts : List SourcePart) (files : Files) (go : SourceCommand) → with_built built parts (with_file files name bytes) go ≡ with_built built parts files go
-  same_built false parts files go = refl
-  same_built true parts files go = same_names (names_or_refusal (source_inputs parts)) parts files go
-
   same_tree : (read : SourceAnswer) (files : Files) (go : SourceCommand) → with_tree read (with_file files name bytes) go ≡ with_tree read files go
   same_tree (Err refusal) files go = refl
-  same_tree (Ok parts) files go = same_built (is_built_source parts) parts files go
+  same_tree (Ok parts) files go = same_names (names_or_refusal (source_inputs parts)) parts files go
 
   same_text : (sources : SourcesRead) (text : Option Bytes) (files : Files) (go : SourceCommand) → with_text sources name text (with_file files name bytes) go ≡ with_text sources name text files go
   same_text sources None files go = refl

@@ -10,7 +10,6 @@ use Rattle.ds2_csv.specs.declared.refusal.CsvRefusal.{CsvRefusal}
 use Rattle.ds2_outside.specs.Files.{Files, file}
 use Rattle.ds2_object.specs.declared.refusal.ObjectRefusal.{ObjectRefusal}
 use Rattle.ds2_compile.specs.AnswersOfTexts.{SourcesRead}
-use Rattle.ds2_compile.specs.BuiltSources.{is_built_source}
 use Rattle.ds2_compile.specs.Elaboration.{ProgramRefusal, elaborated_source}
 use Rattle.ds2_compile.specs.InputTables.{names_or_refusal, source_inputs}
 use Rattle.ds2_compile.specs.ProgramTree.{ProgramTree}
@@ -31,7 +30,7 @@ use Rattle.ds2_answer.specs.Plan.{Plan, Stops, Logs, ReadsFile, AsksFor, WritesF
 use Rattle.ds2_answer.specs.PlanSteps.{files_behind_all, status_at_end, steps_of}
 use Rattle.ds2_answer.specs.ProgramPlans.{ProgramLeft, ProgramRun, count_rows_then, count_stage_then, end_then, program_then, programs_plan, put_then, write_then}
 use Rattle.ds2_answer.specs.StagesLeft.{StageLeft, no_verdict}
-use Rattle.ds2_answer.specs.SourcePlans.{check_threads, SourceCommand, compile_programs_of, run_programs_of, source_plan, with_built, with_inputs, with_typed_programs, with_tables, with_text, with_tree}
+use Rattle.ds2_answer.specs.SourcePlans.{check_threads, SourceCommand, compile_programs_of, run_programs_of, source_plan, with_inputs, with_typed_programs, with_tables, with_text, with_tree}
 use Rattle.ds2_verdicts.specs.SourceVerdicts.{source_verdicts}
 use Rattle.ds2_verdicts.specs.declared.verdicts.ThreadVerdict.{ThreadVerdict}
 use Rattle.ds2_answer.specs.TablePlans.{OutputNamed, Presence, are_columns_named, ask_unless_made, made_too, none_made, output_then, outputs_then, read_file, read_table, read_tables, unless_there, with_bytes, with_read_columns, with_read_table}
@@ -157,13 +156,9 @@ module _ (P Q : Status → Type 0) (of_file : P ended.File) (of_source : P ended
       tables_stop P Q of_file [] names [] files (with_tables parts go)
       (λ read. programs_or_stop (elaborated_source (columns_held (held_from_store read)) parts) (go (held_from_store read) (source_verdicts (columns_held (held_from_store read)) parts)) (s (held_from_store read) (source_verdicts (columns_held (held_from_store read)) parts)))
 
-  built_stop : (built : Bool) (parts : List SourcePart) (files : Files) (go : SourceCommand) → ((held : HeldTables) (vs : List ThreadVerdict) (ps : List ProgramTree) → StopsAmong P Q (go held vs ps)) → StopsAmong P Q (with_built built parts files go)
-  built_stop false parts files go s = of_source
-  built_stop true parts files go s = inputs_stop (names_or_refusal (source_inputs parts)) parts files go s
-
   tree_stop : (read : SourceAnswer) (files : Files) (go : SourceCommand) → ((held : HeldTables) (vs : List ThreadVerdict) (ps : List ProgramTree) → StopsAmong P Q (go held vs ps)) → StopsAmong P Q (with_tree read files go)
   tree_stop (Err refusal) files go s = of_source
-  tree_stop (Ok parts) files go s = built_stop (is_built_source parts) parts files go s
+  tree_stop (Ok parts) files go s = inputs_stop (names_or_refusal (source_inputs parts)) parts files go s
 
   text_stop : (sources : SourcesRead) (name : List ℕ) (text : Option Bytes) (files : Files) (go : SourceCommand) → ((held : HeldTables) (vs : List ThreadVerdict) (ps : List ProgramTree) → StopsAmong P Q (go held vs ps)) → StopsAmong P Q (with_text sources name text files go)
   text_stop sources name None files go s = of_file

@@ -10,7 +10,7 @@ ghost use Rattle.ds2_store_steps.specs.Halts.{HaltsAs};
 ghost use Rattle.ds2_top.specs.SourceLoads.{LoadsSource, schema_held};
 
 use crate::loaded::Loaded;
-use crate::refusals::refuse;
+use crate::refusals::refuse_source;
 use ds2_answer::Status;
 use ds2_base::{Bytes, List, OutOfMemory, Stop};
 use ds2_compile::{NamedSchema, Schemas, Source, compile};
@@ -72,7 +72,7 @@ pub(crate) fn compile_over(
             verdicts: compiled.verdicts,
             stored,
         }),
-        Err(Stop::Refused(refusal)) => Err(refuse(alloc, refusal, log)),
+        Err(Stop::Refused(refusal)) => Err(refuse_source(alloc, refusal, log)),
         Err(Stop::OutOfMemory) => Err(Halt::OutOfMemory),
     }
 }

@@ -1,11 +1,10 @@
 //! What is refused before programs run: words, sources and objects.
 ghost use Rattle.ds2_answer.specs.Lines.{object_refused_line, source_line, usage_line};
-ghost use Rattle.ds2_answer.specs.declared.kinds.SourceReason.TheVariants.{Rule};
 ghost use Rattle.ds2_store_steps.specs.Halts.{StopsAs};
 
+use ds2_answer::Status;
 use ds2_answer::lines::{say_object_refused, say_source_refused, say_usage};
-use ds2_answer::{SourceReason, Status};
-use ds2_base::{Bytes, OutOfMemory, Place};
+use ds2_base::{Bytes, OutOfMemory};
 use ds2_compile::SourceRefusal;
 use ds2_object::ObjectRefusal;
 use ds2_store_steps::Halt;
@@ -21,26 +20,14 @@ pub(crate) fn refuse_words(log: &mut Bytes) -> Halt
     }
 }
 
-/// Says that the source is refused for this reason, which ends the command.
-pub(crate) fn refuse_source(
-    alloc: Global,
-    reason: SourceReason,
-    place: Place,
-    log: &mut Bytes,
-) -> Halt
-    ensures { StopsAs Status.Source (source_line reason place) log.old result log.new }
+/// Says that the source is refused, which ends the command.
+pub(crate) fn refuse_source(alloc: Global, refusal: SourceRefusal, log: &mut Bytes) -> Halt
+    ensures { StopsAs Status.Source (source_line refusal) log.old result log.new }
 {
-    match say_source_refused(alloc, reason, place, log) {
+    match say_source_refused(alloc, refusal, log) {
         Ok(()) => Halt::Ended(Status::Source),
         Err(OutOfMemory) => Halt::OutOfMemory,
     }
-}
-
-/// Says that the source breaks a rule, which ends the command.
-pub(crate) fn refuse(alloc: Global, refusal: SourceRefusal, log: &mut Bytes) -> Halt
-    ensures { StopsAs Status.Source (source_line (Rule refusal.kind) refusal.place) log.old result log.new }
-{
-    refuse_source(alloc, SourceReason::Rule(refusal.kind), refusal.place, log)
 }
 
 /// Says that the object is refused, which ends the command.

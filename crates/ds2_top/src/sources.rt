@@ -2,11 +2,10 @@
 ghost use Rattle.std.specs.Prelude.{◌<◌, ◌≤◌, ◌+◌, ◌^◌, IsTrue, length};
 ghost use Rattle.ds2_base.specs.Text.{text_of};
 ghost use Rattle.ds2_compile.specs.AnswersOfTexts.{SourcesRead};
-ghost use Rattle.ds2_compile.specs.BuiltSources.{is_built_source};
 ghost use Rattle.ds2_compile.specs.InputTables.{names_or_refusal, source_inputs};
 ghost use Rattle.ds2_compile.specs.SourceTexts.{StandsInText};
 ghost use Rattle.ds2_compile.specs.UnitViews.{source_tree};
-ghost use Rattle.ds2_answer.specs.SourcePlans.{source_plan, with_built, with_inputs, with_text, with_tree};
+ghost use Rattle.ds2_answer.specs.SourcePlans.{source_plan, with_inputs, with_text, with_tree};
 ghost use Rattle.ds2_answer.specs.Words.{is_source};
 ghost use Rattle.ds2_answer.specs.declared.kinds.TheConstants.{SOURCE_LIMIT};
 ghost use Rattle.ds2_store_steps.specs.Halts.{CausedBy};
@@ -14,10 +13,10 @@ ghost use Rattle.ds2_top.specs.SourceLoads.{LoadsSource, ReadsInputs};
 
 use crate::compiling::compile_over;
 use crate::loaded::Loaded;
-use crate::refusals::{refuse, refuse_source};
-use ds2_answer::{FileKind, SOURCE_LIMIT, SourceReason, Status};
-use ds2_base::{Bytes, List, Place, Stop, Text};
-use ds2_compile::{Source, input_names, is_built_source, one_source_answer, read_source};
+use crate::refusals::refuse_source;
+use ds2_answer::{FileKind, SOURCE_LIMIT, Status};
+use ds2_base::{Bytes, List, Stop, Text};
+use ds2_compile::{Source, input_names, one_source_answer, read_source};
 use ds2_outside::Store;
 use ds2_store_steps::{Halt, KeptTable, read_file, read_tables, refuse_file};
 use std::alloc::Global;
@@ -35,13 +34,13 @@ fn read_inputs<S: Store>(
 {
     match input_names(alloc, tree) {
         Ok(names) => read_tables(alloc, &[], names.as_slice(), log, store),
-        Err(Stop::Refused(refusal)) => Err(refuse(alloc, refusal, log)),
+        Err(Stop::Refused(refusal)) => Err(refuse_source(alloc, refusal, log)),
         Err(Stop::OutOfMemory) => Err(Halt::OutOfMemory),
     }
 }
 
-// Reads the tables of a source that is built, and compiles it.
-fn load_built<S: Store>(
+// Reads the tables of a source, and compiles it.
+fn load_tree<S: Store>(
     alloc: Global,
     tree: &Source,
     log: &mut Bytes,
@@ -54,25 +53,6 @@ fn load_built<S: Store>(
 {
     let stored = read_inputs(alloc, tree, log, store)?;
     compile_over(alloc, tree, stored, log)
-}
-
-// Loads the tree of a source, or refuses it where it has a form that isn't built yet.
-fn load_tree<S: Store>(
-    alloc: Global,
-    tree: &Source,
-    log: &mut Bytes,
-    store: &mut S,
-) -> Result<Loaded, Halt>
-    requires { StandsInText (source_tree tree.now) }
-    ensures loads { LoadsSource (λ files go. with_built (is_built_source (source_tree tree.now)) (source_tree tree.now) files go) log.old (S.files store.old) result log.new (S.files store.new) }
-    ensures read { CausedBy Status.Read result (S.read_faults store.old) (S.read_faults store.new) }
-    ensures write { CausedBy Status.Write result (S.write_faults store.old) (S.write_faults store.new) }
-{
-    if is_built_source(tree) {
-        load_built(alloc, tree, log, store)
-    } else {
-        Err(refuse_source(alloc, SourceReason::NotBuilt, Place::start(), log))
-    }
 }
 
 // Loads the source of a text, or refuses it.
@@ -90,7 +70,7 @@ fn load_text<S: Store>(
     one_source_answer();
     match read_source(alloc, text) {
         Ok(tree) => load_tree(alloc, &tree, log, store),
-        Err(Stop::Refused(refusal)) => Err(refuse(alloc, refusal, log)),
+        Err(Stop::Refused(refusal)) => Err(refuse_source(alloc, refusal, log)),
         Err(Stop::OutOfMemory) => Err(Halt::OutOfMemory),
     }
 }

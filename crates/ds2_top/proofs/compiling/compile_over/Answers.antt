@@ -3,7 +3,6 @@ use Rattle.ds2_compile.specs.SourceUnit.{columns_stored}
 use Rattle.ds2_compile.specs.UnitViews.{source_tree}
 use Rattle.ds2_answer.specs.HeldTables.{NamedTable, columns_held, held_from_store}
 use Rattle.ds2_answer.specs.SourcePlans.{with_tables}
-use Rattle.ds2_answer.specs.declared.kinds.SourceReason.TheVariants.{Rule}
 use Rattle.ds2_answer.specs.declared.status.Status.TheVariants.{Read, Source, Write}
 use Rattle.ds2_answer.specs.Lines.{source_line}
 use Rattle.ds2_top.proofs.LoadSteps.{compiled_over, loads_short, loads_unmade, refused_over, said_as, unmade_as}
@@ -20,7 +19,7 @@ pub returns-in-Err-Refused-clause-loads : goal.returns-in-Err-Refused-clause-loa
 returns-in-Err-Refused-clause-loads c = λ told.
     refused_over (columns_stored c.in_ok-schemas.schemas.tables) (source_tree c.args.tree.now) c.args.stored
     (c.in_ok-schemas.ensures ∙ ap (λ (ts : List NamedTable). columns_held (held_from_store ts)) c.as_slice.ensures)
-    c.in-Err-Refused.refusal c.in-Err-Refused.field-0 c.args.log.now c.refuse.new.log c.refuse.result c.in-Err-Refused.field-0-is c.in-Err-Refused.ensures c.refuse.ensures told
+    c.in-Err-Refused.refusal c.in-Err-Refused.field-0 c.args.log.now c.refuse_source.new.log c.refuse_source.result c.in-Err-Refused.field-0-is c.in-Err-Refused.ensures c.refuse_source.ensures told
 
 pub returns-in_err-schemas-clause-loads : goal.returns-in_err-schemas-clause-loads
 returns-in_err-schemas-clause-loads c = λ told.
@@ -30,10 +29,10 @@ pub returns-clause-loads : goal.returns-clause-loads
 returns-clause-loads c = λ told. loads_short (λ files go. with_tables (source_tree c.args.tree.now) go c.args.stored) c.args.log.now c.args.log.now told told refl
 
 pub returns-in-Err-Refused-clause-unread : goal.returns-in-Err-Refused-clause-unread
-returns-in-Err-Refused-clause-unread c = said_as Source Read (source_line (Rule c.in-Err-Refused.refusal.kind) c.in-Err-Refused.refusal.place) c.args.log.now c.refuse.result c.refuse.new.log (λ e. absurd (cc e)) c.refuse.ensures
+returns-in-Err-Refused-clause-unread c = said_as Source Read (source_line c.in-Err-Refused.refusal) c.args.log.now c.refuse_source.result c.refuse_source.new.log (λ e. absurd (cc e)) c.refuse_source.ensures
 
 pub returns-in-Err-Refused-clause-unwritten : goal.returns-in-Err-Refused-clause-unwritten
-returns-in-Err-Refused-clause-unwritten c = said_as Source Write (source_line (Rule c.in-Err-Refused.refusal.kind) c.in-Err-Refused.refusal.place) c.args.log.now c.refuse.result c.refuse.new.log (λ e. absurd (cc e)) c.refuse.ensures
+returns-in-Err-Refused-clause-unwritten c = said_as Source Write (source_line c.in-Err-Refused.refusal) c.args.log.now c.refuse_source.result c.refuse_source.new.log (λ e. absurd (cc e)) c.refuse_source.ensures
 
 pub returns-in_err-schemas-clause-unread : goal.returns-in_err-schemas-clause-unread
 returns-in_err-schemas-clause-unread c = unmade_as Read c.from_residual.result c.from_residual.ensures.1

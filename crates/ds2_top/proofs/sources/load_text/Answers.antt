@@ -17,8 +17,8 @@ returns-in-Ok-clause-loads g c sources =
 
 pub returns-in-Err-Refused-clause-loads : goal.returns-in-Err-Refused-clause-loads
 returns-in-Err-Refused-clause-loads g c sources =
-    text_refused c.one_source_answer.ensures sources c.args.text.now c.in-Err-Refused.refusal c.args.log.now c.refuse.new.log (g.S.Store.files c.args.store.now) (g.S.Store.files c.args.store.now) c.refuse.result
-    (subst (λ (stop : Stop SourceRefusal). GivesSourceAnswer c.args.text.now (Err stop)) c.in-Err-Refused.field-0-is c.in-Err-Refused.ensures.answer) c.refuse.ensures refl
+    text_refused c.one_source_answer.ensures sources c.args.text.now c.in-Err-Refused.refusal c.args.log.now c.refuse_source.new.log (g.S.Store.files c.args.store.now) (g.S.Store.files c.args.store.now) c.refuse_source.result
+    (subst (λ (stop : Stop SourceRefusal). GivesSourceAnswer c.args.text.now (Err stop)) c.in-Err-Refused.field-0-is c.in-Err-Refused.ensures.answer) c.refuse_source.ensures refl
 
 pub returns-in-Err-OutOfMemory-clause-loads : goal.returns-in-Err-OutOfMemory-clause-loads
 returns-in-Err-OutOfMemory-clause-loads g c sources =

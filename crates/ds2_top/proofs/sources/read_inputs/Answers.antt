@@ -14,8 +14,8 @@ returns-in-Ok-clause-reads g c =
 
 pub returns-in-Err-Refused-clause-reads : goal.returns-in-Err-Refused-clause-reads
 returns-in-Err-Refused-clause-reads g c =
-    inputs_refused (source_tree c.args.tree.now) c.in-Err-Refused.refusal c.in-Err-Refused.field-0 c.args.log.now c.refuse.new.log (g.S.Store.files c.args.store.now) (g.S.Store.files c.args.store.now)
-    c.refuse.result c.in-Err-Refused.field-0-is c.in-Err-Refused.ensures c.refuse.ensures refl
+    inputs_refused (source_tree c.args.tree.now) c.in-Err-Refused.refusal c.in-Err-Refused.field-0 c.args.log.now c.refuse_source.new.log (g.S.Store.files c.args.store.now) (g.S.Store.files c.args.store.now)
+    c.refuse_source.result c.in-Err-Refused.field-0-is c.in-Err-Refused.ensures c.refuse_source.ensures refl
 
 pub returns-in-Err-OutOfMemory-clause-reads : goal.returns-in-Err-OutOfMemory-clause-reads
 returns-in-Err-OutOfMemory-clause-reads g c = inputs_short (source_tree c.args.tree.now) c.args.log.now c.args.log.now (g.S.Store.files c.args.store.now) (g.S.Store.files c.args.store.now) refl
