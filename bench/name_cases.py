@@ -145,7 +145,7 @@ class Unit:
         for method in self.methods:
             method.is_system = method.is_system and self.kind != "package"
         runs = [m for m in self.methods if spelled(m.name) == "run" and m.is_system]
-        self.reading = runs[0].reading if runs else None
+        self.reading = runs[0].reading if runs and may_read(self, runs[0]) else None
         self.tables = tables
         self.inputs = kids(self.reading, "input") if self.reading else []
         self.stage = self.reading[1][2] if self.reading and is_word(self.reading[1][1], "from") else None
@@ -599,17 +599,17 @@ def misplaced_statements(program, method, node, in_loop):
             yield from misplaced_statements(program, method, part, in_loop)
 
 
-def chain_of(unit):
-    """How many thread programs a thread program is a chain of."""
-    threads = [unit.known("thread", i.of) for i in unit.instances if i.sort == "thread"]
-    return 1 + max([chain_of(t) for t in threads if t], default=0)
+def may_read(program, method):
+    """The reading statement of a method stands in `run`; in a thread program it reads no thread program."""
+    is_run = spelled(method.name) == "run" and method.is_system
+    return is_run and method.reading and not (program.kind == "thread" and is_word(method.reading[1][1], "from"))
 
 
 def misplaced(program):
     for method in program.methods:
         if method.is_system and (method.parameters or method.returns):
             yield method.keyword.place
-        if method.reading and not (spelled(method.name) == "run" and method.is_system):
+        if method.reading and not may_read(program, method):
             yield first_token(method.reading).place
         for statement in method.body:
             yield from misplaced_statements(program, method, statement, False)
@@ -624,8 +624,7 @@ def misplaced(program):
         yield from (part[0].place for part in program.lists)
     if program.kind == "thread":
         yield from (p[1][0].place for p in program.parameters if is_token(p[1][0]))
-        known = [(i, program.known("thread", i.of)) for i in program.instances if i.sort == "thread"]
-        yield from (i.keyword.place for i, thread in known if thread and chain_of(thread) + 1 > 8)
+        yield from (i.keyword.place for i in program.instances if i.sort == "thread")
     if len(program.outputs) > 1:
         yield from (o.table.place for o in program.outputs if o.is_null)
     for output in program.outputs:
