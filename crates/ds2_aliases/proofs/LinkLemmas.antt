@@ -1,5 +1,5 @@
 -- Tables that link methods to names.
-use Rattle.std.proofs.Common.{◌≡◌, ℕ, Bool, true, false, not, ◌||◌, ◌&&◌, cond, List, [], ◌∷◌, ◌++◌, bytes_eq, Option, Some, None, refl, sym, ap, ◌∙◌}
+use Rattle.std.proofs.Common.{◌≡◌, ℕ, Bool, true, false, not, ◌||◌, ◌&&◌, cond, List, [], ◌∷◌, bytes_eq, Option, Some, None, refl, sym, ap, ◌∙◌}
 use Rattle.std.specs.Prelude.{if◌then◌else◌, unwrap_or}
 use Rattle.std.proofs.lemmas.Slice.Eq.{bytes_eq-Decides}
 use Rattle.ds2_meaning.specs.ProgramTree.{is_listed}
@@ -7,7 +7,7 @@ use Rattle.ds2_aliases.specs.declared.links.LinkKind.{LinkKind}
 use Rattle.ds2_mentions.specs.declared.parts.MethodParts.{MethodParts}
 use Rattle.ds2_aliases.specs.MethodLinks.{links_of_method, links_if_any}
 use Rattle.ds2_aliases.specs.ReachingMethods.{part_named}
-use Rattle.ds2_aliases.proofs.TestLemmas.{or_false, and_false, and_true, listed_last}
+use Rattle.ds2_aliases.proofs.TestLemmas.{or_false, and_false, and_true}
 
 -- a name that was taken out of a table
 pub linked_taken : (t : Bool) (old new : Option (List (List ℕ))) → new ≡ cond t None old → unwrap_or new [] ≡ (if t then [] else unwrap_or old [])
@@ -20,7 +20,7 @@ linked_put true old new methods h = ap (λ o. unwrap_or o []) h
 linked_put false old new methods h = ap (λ o. unwrap_or o []) h
 
 -- a method that is linked to a name more
-pub one_link : (old : List ℕ → List (List ℕ)) (name method other m : List ℕ) (between new : Option (List (List ℕ))) (methods : List (List ℕ)) → methods ≡ old name ++ method ∷ []
+pub one_link : (old : List ℕ → List (List ℕ)) (name method other m : List ℕ) (between new : Option (List (List ℕ))) (methods : List (List ℕ)) → ((m : List ℕ) → is_listed methods m ≡ (is_listed (old name) m || bytes_eq method m))
     → unwrap_or between [] ≡ (if bytes_eq name other then [] else old other) → new ≡ cond (bytes_eq name other) (Some methods) between
     → is_listed (unwrap_or new []) m ≡ (is_listed (old other) m || (bytes_eq method m && bytes_eq name other))
 one_link old name method other m between new methods pushed taken put = by (bytes_eq name other) refl taken (linked_put (bytes_eq name other) between new methods put)
@@ -28,8 +28,8 @@ one_link old name method other m between new methods pushed taken put = by (byte
     by : (t : Bool) → bytes_eq name other ≡ t → unwrap_or between [] ≡ (if t then [] else old other) → unwrap_or new [] ≡ (if t then methods else unwrap_or between [])
         → is_listed (unwrap_or new []) m ≡ (is_listed (old other) m || (bytes_eq method m && t))
     by true e k h =
-        ap (λ ms. is_listed ms m) (h ∙ pushed)
-        ∙ listed_last (old name) method m
+        ap (λ ms. is_listed ms m) h
+        ∙ pushed m
         ∙ (λ i. is_listed (old ((bytes_eq-Decides name other).0 e i)) m || sym (and_true (bytes_eq method m)) i)
     by false e k h =
         ap (λ ms. is_listed ms m) (h ∙ k)

@@ -1,6 +1,6 @@
 -- Tests on lists of names.
-use Rattle.std.proofs.Common.{◌≡◌, ℕ, Bool, true, false, ◌||◌, ◌&&◌, List, [], ◌∷◌, ◌++◌, bytes_eq, refl, sym, ap, ◌∙◌, true≢false}
-use Rattle.std.specs.List.{list_any}
+use Rattle.std.proofs.Common.{◌≡◌, ℕ, zero, suc, Bool, true, false, ◌||◌, ◌&&◌, List, [], ◌∷◌, ◌++◌, bytes_eq, Some, refl, sym, ap, ◌∙◌, true≢false}
+use Rattle.std.specs.List.{list_any, slice_get}
 use Rattle.std.proofs.lemmas.List.Folds.{list_any-append}
 use Rattle.std.proofs.lemmas.Slice.Eq.{bytes_eq-Decides}
 use Rattle.ds2_meaning.specs.ProgramTree.{is_listed}
@@ -46,6 +46,23 @@ listed_append xs ys name = list_any-append (λ other. bytes_eq other name) xs ys
 
 pub listed_last : (xs : List (List ℕ)) (y name : List ℕ) → is_listed (xs ++ y ∷ []) name ≡ (is_listed xs name || bytes_eq y name)
 listed_last xs y name = listed_append xs (y ∷ []) name ∙ ap (λ t. is_listed xs name || t) (or_false (bytes_eq y name))
+
+-- the name at an index is listed
+pub listed_at : (xs : List (List ℕ)) (n : ℕ) (x : List ℕ) → slice_get xs n ≡ Some x → is_listed xs x ≡ true
+listed_at [] zero x h = absurd cc
+listed_at [] (suc n) x h = absurd cc
+listed_at (y ∷ ys) zero x h =
+    let same : y ≡ x = cc in
+    or_left (bytes_eq y x) (is_listed ys x) ((bytes_eq-Decides y x).1 same)
+listed_at (y ∷ ys) (suc n) x h = or_right (bytes_eq y x) (is_listed ys x) (listed_at ys n x h)
+
+-- a name that is listed already
+pub listed_again : (xs : List (List ℕ)) (x name : List ℕ) → is_listed xs x ≡ true → is_listed xs name ≡ (is_listed xs name || bytes_eq x name)
+listed_again xs x name h = by (bytes_eq x name) refl
+  where
+    by : (t : Bool) → bytes_eq x name ≡ t → is_listed xs name ≡ (is_listed xs name || t)
+    by true e = ap (is_listed xs) (sym ((bytes_eq-Decides x name).0 e)) ∙ h ∙ sym (or_right (is_listed xs name) true refl)
+    by false e = sym (or_false (is_listed xs name))
 
 -- what comes of each name has a name where it comes of one of them
 pub listed_each : (f : List ℕ → List (List ℕ)) (xs : List (List ℕ)) (name : List ℕ) → is_listed (from_each f xs) name ≡ list_any (λ x. is_listed (f x) name) xs

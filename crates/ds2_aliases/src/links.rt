@@ -1,5 +1,5 @@
 //! Hashed tables from a name to the methods that mention it, that call it, or that use the instance of it.
-ghost use Rattle.std.specs.Prelude.{◌≡◌, ◌||◌, ◌&&◌, ◌++◌, ◌∷◌, [], ℕ, List as Items, IfOk, OnOk, not, bytes_eq, if◌then◌else◌, nat_eq};
+ghost use Rattle.std.specs.Prelude.{◌≡◌, true, ◌||◌, ◌&&◌, ◌++◌, ◌∷◌, [], ℕ, List as Items, IfOk, OnOk, not, bytes_eq, if◌then◌else◌, nat_eq};
 ghost use Rattle.std.specs.Cmp.Lexicographic.{pointwise};
 ghost use Rattle.std.specs.HashSet.{contains};
 ghost use Rattle.ds2_meaning.specs.ProgramTree.{is_listed};
@@ -169,6 +169,28 @@ fn take_linked(alloc: Global, table: &mut LinkTable, name: &Bytes) -> List<Bytes
     }
 }
 
+// Whether a method is the last of a list.
+#[tactic(auto, using(crate::proofs::TestLemmas::listed_at))]
+fn is_last(methods: &[Bytes], method: &[u8]) -> bool
+    ensures { result ≡ true → is_listed methods.now method.now ≡ true }
+{
+    match methods.last() {
+        None => false,
+        Some(last) => last.as_slice() == method,
+    }
+}
+
+// Adds a method, unless it is the last already: the links of one method stand behind each other, so each method stands once.
+fn push_method(alloc: Global, methods: &mut List<Bytes>, method: &[u8]) -> Result<(), OutOfMemory>
+    ensures { OnOk result ((m : Items ℕ) → is_listed methods.new m ≡ (is_listed methods.old m || bytes_eq method.now m)) }
+{
+    if is_last(methods.as_slice(), method) {
+        Ok(())
+    } else {
+        methods.push(List::from_slice(alloc, method)?)
+    }
+}
+
 // Links a method to a name.
 fn link(
     alloc: Global,
@@ -179,7 +201,7 @@ fn link(
     ensures { OnOk result ((other m : Items ℕ) → is_listed (linked table.new other) m ≡ (is_listed (linked table.old other) m || (bytes_eq method.now m && bytes_eq name.now other))) }
 {
     let mut methods = take_linked(alloc, table, name);
-    methods.push(List::from_slice(alloc, method)?)?;
+    push_method(alloc, &mut methods, method)?;
     let name = List::from_slice(alloc, name.as_slice())?;
     table.insert(name, methods)?;
     Ok(())
