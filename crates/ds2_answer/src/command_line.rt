@@ -11,6 +11,7 @@ use std::alloc::Global;
 pub const MOST_THREADS: u64 = 64;
 
 /// What a line of words asks for. Each names its file; a budget is the number of steps that each call of a system method may take.
+/// A new one touches the files that docs/ARCHITECTURE.md lists under 'To add a command'.
 #[derive(Drop)]
 pub enum CommandLine {
     /// `run SOURCE [--threads N] [--budget N]`: compiles the source, stores its object and runs its programs.

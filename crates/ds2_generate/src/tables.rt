@@ -21,7 +21,7 @@ use ds2_meaning::{
     Variable,
 };
 use ds2_numbering::{GlobalSort, HomeName, SlotTable, Sought, find_hash};
-use ds2_value::Column;
+use ds2_value::{Column, copy_columns};
 use std::alloc::Global;
 
 /// The first slot of a global, 0 where it has none.
@@ -29,20 +29,6 @@ pub fn slot_number(slots: &SlotTable<'_>, sought: &Sought<'_>) -> u32
     ensures { result ≡ slot_among slots.now (location_sought sought.now) }
 {
     slots.number(sought).unwrap_or(0)
-}
-
-// Columns once more.
-fn copy_columns(alloc: Global, columns: &[Column]) -> Result<List<Column>, OutOfMemory>
-    ensures { IfOk result (λ list. list ≡ columns.now) }
-{
-    let mut list = List::new(alloc);
-    'columns: for column in columns {
-        list.push(Column {
-            name: column.name.copy(alloc)?,
-            ty: column.ty,
-        })?;
-    }
-    Ok(list)
 }
 
 /// A table with its columns, in code.

@@ -3,6 +3,11 @@
 //! [`encode`] gives the one spelling of an object, [`decode`] the object of which the bytes are the spelling, or what is wrong first;
 //! `specs/ObjectSpelling.antt` says both.
 //! An [`ObjectCode`] is valid by its type.
+//!
+//! ```text
+//! let object = decode(alloc, &bytes)?;
+//! let same_bytes = encode(alloc, &object)?;
+//! ```
 #![tactic(auto)]
 
 mod decoding;

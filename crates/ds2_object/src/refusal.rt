@@ -2,7 +2,7 @@
 
 use thiserror::Error;
 
-/// Why bytes are no object: what is wrong first.
+/// Why bytes are no object: what is wrong first. A new one touches the files that docs/ARCHITECTURE.md lists under 'To add a refusal'.
 #[derive(Debug, Drop, Error, PartialEq, Eq)]
 pub enum ObjectRefusal {
     /// The first four bytes are not `DS2O`.

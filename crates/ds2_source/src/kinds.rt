@@ -4,7 +4,7 @@ use ds2_grammar::ParseKind;
 use ds2_meaning::{ScopeKind, TypeKind};
 use ds2_token::LexKind;
 
-/// Why a source is refused, by the step that refuses it.
+/// Why a source is refused, by the step that refuses it. A new one touches the files that docs/ARCHITECTURE.md lists under 'To add a refusal'.
 #[derive(Clone, Copy, Debug, PartialEq, Eq)]
 pub enum SourceKind {
     /// A part of the text is no token.

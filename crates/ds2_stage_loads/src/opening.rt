@@ -4,7 +4,7 @@ ghost use Rattle.ds2_table.specs.Loads.{set_loads, merge_loads};
 ghost use Rattle.ds2_by_order.specs.ReadingKeys.{directions_of, keys_of_reading};
 ghost use Rattle.ds2_reading.specs.ReadingFits.{reading_fits_tables};
 ghost use Rattle.ds2_code_answer.specs.CodeLoads.{code_keyed_loads, code_reading, retains_columns};
-ghost use Rattle.ds2_unit.specs.UnitsRun.{IsBuiltReading};
+ghost use Rattle.ds2_unit.specs.UnitsRun.{ReadsNoThread};
 ghost use Rattle.ds2_stage_loads.specs.Grains.{IsGrainOf, IsGrainOfReading};
 ghost use Rattle.ds2_stage_loads.specs.StageCursors.{IsOpenCursor, bare_loads_of};
 
@@ -116,7 +116,7 @@ pub(crate) fn open_cursor(
     tables: &Tables,
     grain: u32,
 ) -> Result<StageCursor, OutOfMemory>
-    requires reads { IsBuiltReading program.now.reading }
+    requires reads { ReadsNoThread program.now.reading }
     requires reading { reading.now ≡ code_reading program.now }
     requires fits { IsTrue (reading_fits_tables tables.now (code_reading program.now)) }
     requires grain { IsGrainOfReading program.now.reading grain }

@@ -4,7 +4,7 @@ ghost use Rattle.ds2_reading.specs.ReadingFits.{reading_fits_tables};
 ghost use Rattle.ds2_slots.specs.LoadedHashes.{AreSlotTypesInBounds};
 ghost use Rattle.ds2_code_answer.specs.CodeLoads.{code_loads, code_reading};
 ghost use Rattle.ds2_unit.specs.StatementSource.{current_settings};
-ghost use Rattle.ds2_unit.specs.UnitsRun.{IsBuiltReading};
+ghost use Rattle.ds2_unit.specs.UnitsRun.{ReadsNoThread};
 ghost use Rattle.ds2_stage_loads.specs.Grains.{IsGrainOfReading};
 ghost use Rattle.ds2_stage_loads.specs.StageCursors.{tables_over, bys_over, cursor_left, cursor_groups};
 ghost use Rattle.ds2_stage_loads.specs.GroupedLoads.{loads_in_groups};
@@ -68,7 +68,7 @@ impl<'a> StageLoads<'a> {
         tables: &'a Tables,
         grain: u32,
     ) -> Result<StageLoads<'a>, OutOfMemory>
-        requires reads { IsBuiltReading program.now.reading }
+        requires reads { ReadsNoThread program.now.reading }
         requires reading { reading.now ≡ code_reading program.now }
         requires types { AreSlotTypesInBounds program.now.slots }
         requires fits { IsTrue (reading_fits_tables tables.now (code_reading program.now)) }

@@ -21,7 +21,7 @@ use Rattle.ds2_code_answer.specs.CodeLoads.{code_reading}
 use Rattle.ds2_code_answer.specs.CodeLoadLaws.{ReadingsFitTables}
 use Rattle.ds2_code_answer.specs.CodeTables.{hash_references, program_references, first_read_table, tables_of_stage, columns_named, columns_had, AreTablesOfCode}
 use Rattle.ds2_unit.specs.ProgramRun.{grain_asked}
-use Rattle.ds2_unit.specs.UnitsRun.{IsBuiltReading}
+use Rattle.ds2_unit.specs.UnitsRun.{ReadsNoThread}
 use Rattle.ds2_stage_loads.specs.Grains.{IsGrainOf, IsGrainOfReading}
 use Rattle.ds2_machine.specs.declared.machine.TheConstants.{MOST_BUDGET}
 use Rattle.ds2_staged.specs.Threads.{AreGrainsOf, IsReadyThread, plain_grain, plain_grain_of, plain_grains}
@@ -43,14 +43,14 @@ types_of_values code h =
 
 -- ---- readings
 
-reading_without : (slots : List Slot) (r : ReadingPart) → reading_fits slots None r ≡ true → IsBuiltReading r
+reading_without : (slots : List Slot) (r : ReadingPart) → reading_fits slots None r ≡ true → ReadsNoThread r
 reading_without slots reading.Nothing h = tt
 reading_without slots reading.Once h = tt
 reading_without slots (reading.Set tables bys) h = tt
 reading_without slots (reading.Merge tables bys retains) h = tt
 reading_without slots (reading.Stage threads into) h = absurd cc
 
-pub reads_none : (code : ProgramParts) → IsValidProgram code None → IsBuiltReading code.reading
+pub reads_none : (code : ProgramParts) → IsValidProgram code None → ReadsNoThread code.reading
 reads_none code valid =
     let hashes = list_all (λ (hash : HashPart). option_map_or (hash_table_fits code.slots hash) hash.loaded true) code.hashes in
     let fits = reading_fits code.slots None code.reading in

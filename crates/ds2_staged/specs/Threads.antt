@@ -19,7 +19,7 @@ use Rattle.ds2_machine.specs.declared.record.OutRow.{OutRow}
 use Rattle.ds2_code_answer.specs.CodeAnswer.{code_units, code_opening, code_program}
 use Rattle.ds2_code_answer.specs.CodeLoads.{code_reading, slots_of_stage}
 use Rattle.ds2_code_answer.specs.CodeTables.{rows_of_each}
-use Rattle.ds2_unit.specs.UnitsRun.{IsBuiltReading}
+use Rattle.ds2_unit.specs.UnitsRun.{ReadsNoThread}
 use Rattle.ds2_stage_loads.specs.Grains.{IsGrainOfReading}
 use Rattle.ds2_staged.specs.declared.thread.ThreadEnd.{ThreadEnd}
 
@@ -72,7 +72,7 @@ pub record IsThreadEnd (answer : Answer) (end : ThreadEnd) : Type 0 where
 pub record IsReadyThread (code : StagedParts) (stage : ProgramParts) (tables : List Contents) (budget grain : ℕ) : Type 0 where
   pub first : staged_program code 1 ≡ stage
   pub there : 1 ≤ length code.stages
-  pub reads : IsBuiltReading stage.reading
+  pub reads : ReadsNoThread stage.reading
   pub types : AreSlotTypesInBounds stage.slots
   pub fits : IsTrue (reading_fits_tables tables (code_reading stage))
   pub parts : IsGrainOfReading stage.reading grain

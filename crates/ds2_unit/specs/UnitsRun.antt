@@ -49,10 +49,10 @@ pub record IsReadyToRun (code : StagedParts) (machine : MachineAtRest) (most : �
   pub ready : machine.spent ≡ false
   pub program : machine.program ≡ 0
 
--- a reading that can be run: any but the rows of a thread program
-abbrev pub IsBuiltReading : ReadingPart → Type 0
-IsBuiltReading reading.Nothing = Unit {0}
-IsBuiltReading reading.Once = Unit {0}
-IsBuiltReading (reading.Set tables bys) = Unit {0}
-IsBuiltReading (reading.Merge tables bys retains) = Unit {0}
-IsBuiltReading (reading.Stage threads slots) = ⊥
+-- a reading of tables or of nothing, not of the rows of a thread program
+abbrev pub ReadsNoThread : ReadingPart → Type 0
+ReadsNoThread reading.Nothing = Unit {0}
+ReadsNoThread reading.Once = Unit {0}
+ReadsNoThread (reading.Set tables bys) = Unit {0}
+ReadsNoThread (reading.Merge tables bys retains) = Unit {0}
+ReadsNoThread (reading.Stage threads slots) = ⊥

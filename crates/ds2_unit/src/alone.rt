@@ -3,7 +3,7 @@ ghost use Rattle.std.specs.Prelude.{◌≡◌, ◌≤◌, [], length, map, IfOk}
 ghost use Rattle.ds2_machine.specs.declared.machine.TheConstants.{MOST_BUDGET};
 ghost use Rattle.ds2_code_answer.specs.CodeAnswer.{code_answer};
 ghost use Rattle.ds2_code_answer.specs.CodeTables.{AreTablesOfCode};
-ghost use Rattle.ds2_unit.specs.UnitsRun.{IsBuiltReading};
+ghost use Rattle.ds2_unit.specs.UnitsRun.{ReadsNoThread};
 ghost use Rattle.ds2_unit.specs.Outputs.{table_of_output};
 ghost use Rattle.ds2_unit.specs.ProgramRun.{IsRunEnd, grain_asked};
 ghost use Rattle.ds2_unit.specs.AloneEnd.{IsProgramEnd};
@@ -38,7 +38,7 @@ pub fn run_into<S: UnitSink>(
     requires budget { budget ≤ MOST_BUDGET }
     requires grains { length grains.now ≡ length code.now.stages }
     requires stages { code.now.stages ≡ [] }
-    requires built { IsBuiltReading code.now.program.reading }
+    requires reads { ReadsNoThread code.now.program.reading }
     ensures { IfOk result (λ end. IsRunEnd S.has_taken sink.old sink.new (code_answer code.now tables.now budget (grain_asked grains.now)) end) }
 {
     let rows = TableRows { tables };
@@ -65,7 +65,7 @@ pub fn run_alone(
     requires budget { budget ≤ MOST_BUDGET }
     requires grains { length grains.now ≡ length code.now.stages }
     requires stages { code.now.stages ≡ [] }
-    requires built { IsBuiltReading code.now.program.reading }
+    requires reads { ReadsNoThread code.now.program.reading }
     ensures { IfOk result (λ end. IsProgramEnd code.now.program (code_answer code.now tables.now budget (grain_asked grains.now)) end) }
 {
     let mut sink = sinks_of(alloc, code)?;

@@ -6,7 +6,7 @@ ghost use Rattle.ds2_scales.specs.Scales.{AreSettingsScaled};
 ghost use Rattle.ds2_slots.specs.LoadedHashes.{AreSlotTypesInBounds};
 ghost use Rattle.ds2_code_answer.specs.CodeLoads.{code_loads, code_reading, reading_over};
 ghost use Rattle.ds2_code_answer.specs.CodeTables.{AreTablesOfCode, first_read_table};
-ghost use Rattle.ds2_unit.specs.UnitsRun.{HasRunOnLoads, IsReadyToRun, IsBuiltReading};
+ghost use Rattle.ds2_unit.specs.UnitsRun.{HasRunOnLoads, IsReadyToRun, ReadsNoThread};
 ghost use Rattle.ds2_unit.specs.Sources.{bare_loads};
 
 use crate::bare_loads::BareLoads;
@@ -148,7 +148,7 @@ pub(crate) fn run_reading<S: UnitSink>(
     budget: u64,
     sink: &mut S,
 ) -> Result<UnitsEnd, OutOfMemory>
-    requires built { IsBuiltReading code.now.program.reading }
+    requires reads { ReadsNoThread code.now.program.reading }
     requires tables { AreTablesOfCode code.now tables.now }
     requires stages { code.now.stages ≡ [] }
     requires ready { IsReadyToRun code.now machine.old budget }
