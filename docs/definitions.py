@@ -44,12 +44,14 @@ class File:
         self.read()
 
     def read(self):
-        comment, in_block, block_comment, current = [], False, [], None
+        comment, depth, block_comment, current = [], 0, [], None
         for number, line in enumerate(self.path.read_text().splitlines(), 1):
             text = line.strip()
             indent = len(line) - len(line.lstrip())
+            if text and indent < depth and not text.startswith("--"):
+                depth = indent
             if text.startswith("--"):
-                if comment is None or current is not None and indent > (2 if in_block else 0):
+                if comment is None or current is not None and indent > depth:
                     continue
                 comment.append(text[2:].strip())
                 continue
@@ -61,15 +63,13 @@ class File:
                 comment = []
                 imports(text, self.imports)
                 continue
-            if indent == 0 and re.match(r"^(?:abbrev |unfoldable |pub )*mutual$", text):
-                in_block, block_comment, current, comment = True, comment, None, []
+            if indent == depth and re.match(r"^(?:abbrev |unfoldable |pub )*mutual$", text):
+                depth, block_comment, current, comment = indent + 2, comment, None, []
                 continue
             if indent == 0 and text.startswith("module "):
-                in_block, block_comment, current, comment = True, [], None, []
+                depth, block_comment, current, comment = 2, [], None, []
                 continue
-            if indent == 0:
-                in_block = False
-            match = ITEM.match(text) if indent == (2 if in_block else 0) else None
+            match = ITEM.match(text) if indent == depth else None
             if match and is_head(match):
                 sentence = " ".join(comment or block_comment)
                 block_comment = []
