@@ -104,6 +104,13 @@ class Output:
         self.options = [Option(o) for o in kids(node, "option")]
         self.is_null = spelled(self.table) == "_null_"
 
+    def renamings(self):
+        """The new names of columns, each where it stands; a column renamed twice is refused elsewhere, and counts as at first."""
+        new = {}
+        for old, name in (r for o in self.options for r in o.renamings):
+            new.setdefault(spelled(old), name)
+        return new
+
 
 class Instance:
     """A declaration of an instance: of a package or thread program, or a hash object or an iterator."""
@@ -231,8 +238,8 @@ def made_tables(program):
     """The tables that a program makes, each a name and the names of its columns, renamed."""
     for output in program.outputs:
         if not output.is_null:
-            new = {spelled(a): spelled(b) for o in output.options for a, b in o.renamings}
-            yield spelled(output.table), [new.get(name, name) for name in program.columns_left(output)]
+            new = output.renamings()
+            yield spelled(output.table), [spelled(new[name]) if name in new else name for name in program.columns_left(output)]
 
 
 def option_names(output, word):
@@ -394,9 +401,7 @@ def duplicate_name(program):
 
 def clashing_columns(program, output):
     """Two columns of an output with one name, at the new name of a renaming; where both are renamed, at the second."""
-    renamings = {}
-    for old, new in (r for o in output.options for r in o.renamings):
-        renamings.setdefault(spelled(old), new)
+    renamings = output.renamings()
     columns = [(spelled(renamings[n]), renamings[n].place) if n in renamings else (n, None) for n in program.columns_left(output)]
     for name, place in columns:
         if place and any(n == name and (p is None or p < place) for n, p in columns):
@@ -688,7 +693,7 @@ def table_too_many(node):
             if name not in known + made:
                 known.append(name)
                 found.append(place)
-        made += [spelled(o.table) for o in unit.outputs]
+        made += [spelled(o.table) for o in unit.outputs if not o.is_null]
     return found[16] if len(found) > 16 else None
 
 
