@@ -12,8 +12,8 @@ set -eu
 
 rows=${1:-1000000}
 top=$(cd "$(dirname "$0")/.." && pwd)
-crate=$top/crates/ds2_csv_bench
-ours=$crate/out/ds2_csv_bench
+crate=$top/crates/ds2_bench
+ours=$crate/out/ds2_bench
 if [ ! -x "$ours" ]; then
     (cd "$crate" && rt run >/dev/null 2>&1)
 fi
@@ -49,7 +49,7 @@ milliseconds() { # COMMAND..
     echo $(((to - from) / 1000000))
 }
 
-copy_ours() { "$ours" time >times; }
+copy_ours() { "$ours" tables time >times; }
 copy_python() {
     python3 -c '
 import csv
@@ -76,7 +76,7 @@ cmp t.csv mawk.csv
 head -n 1 copy.csv
 tail -n +2 t.csv >rows.csv
 tail -n +2 copy.csv | cmp - rows.csv
-peak=$(/usr/bin/time -f %M "$ours" time 2>&1 >/dev/null | tail -n 1 || echo '?')
+peak=$(/usr/bin/time -f %M "$ours" tables time 2>&1 >/dev/null | tail -n 1 || echo '?')
 mawk -v rows="$rows" -v bytes="$(wc -c <t.csv)" -v o="$time_ours" -v p="$time_python" -v m="$time_mawk" -v r="$time_read" \
     -v w="$time_write" -v peak="$peak" 'BEGIN {
     printf "%d rows, %.1f MB\n", rows, bytes / 1000000

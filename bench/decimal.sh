@@ -4,8 +4,8 @@
 set -eu
 
 top=$(cd "$(dirname "$0")/.." && pwd)
-crate=$top/crates/ds2_decimal_bench
-if [ ! -x "$crate/out/ds2_decimal_bench" ]; then
+crate=$top/crates/ds2_bench
+if [ ! -x "$crate/out/ds2_bench" ]; then
     (cd "$crate" && rt run >/dev/null)
 fi
-"$crate/out/ds2_decimal_bench" time | sed 's/ (-\{0,1\}[0-9]*)$//'
+"$crate/out/ds2_bench" decimals time | sed 's/ (-\{0,1\}[0-9]*)$//'

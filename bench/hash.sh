@@ -5,13 +5,13 @@
 set -eu
 
 top=$(cd "$(dirname "$0")/.." && pwd)
-crate=$top/crates/ds2_hash_bench
-ours=$crate/out/ds2_hash_bench
+crate=$top/crates/ds2_bench
+ours=$crate/out/ds2_bench
 if [ ! -x "$ours" ]; then
     (cd "$crate" && rt run >/dev/null 2>&1)
 fi
 for turn in 1 2 3 4 5; do
-    "$ours" time
+    "$ours" hashes time
 done | awk -F'[:,]' '
     {
         for (i = 2; i <= NF; i++) {

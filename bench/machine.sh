@@ -5,14 +5,14 @@
 set -eu
 
 top=$(cd "$(dirname "$0")/.." && pwd)
-crate=$top/crates/ds2_machine_bench
-ours=$crate/out/ds2_machine_bench
+crate=$top/crates/ds2_bench
+ours=$crate/out/ds2_bench
 if [ ! -x "$ours" ]; then
     (cd "$crate" && rt run >/dev/null 2>&1)
 fi
 if [ "${1:-}" = count ]; then
     while read -r part things; do
-        all=$(valgrind --tool=callgrind --callgrind-out-file=/dev/null "$ours" "$part" 2>&1 >/dev/null | awk '/Collected/ { print $4 }')
+        all=$(valgrind --tool=callgrind --callgrind-out-file=/dev/null "$ours" machine "$part" 2>&1 >/dev/null | awk '/Collected/ { print $4 }')
         echo "$part: $((all / things)) instructions of the processor each"
     done <<END
 integers 1400013
@@ -22,5 +22,5 @@ END
     exit
 fi
 for turn in 1 2 3 4 5; do
-    "$ours" time
+    "$ours" machine time
 done | sort -t: -k1,1 -k2,2n | awk -F: '!seen[$1]++'

@@ -1,5 +1,5 @@
 #!/usr/bin/env python3
-"""Works the answers of crates/ds2_machine_cases out anew from the machine's table, and compares them.
+"""Works the answers of the codes that crates/ds2_code_cases runs out anew from the machine's table, and compares them.
 
 `machine_cases.py` compares the cases' stdout with the answers; `machine_cases.py --print` prints the answers. Nothing is shared with
 the product: numbers are Python's, and each instruction is written from its row of the table.
@@ -9,7 +9,7 @@ import re
 import sys
 
 TOP = os.path.dirname(os.path.dirname(os.path.abspath(__file__)))
-CASES = os.path.join(TOP, "crates", "ds2_machine_cases")
+CASES = os.path.join(TOP, "crates", "ds2_code_cases")
 
 
 class Dec:
@@ -511,8 +511,6 @@ class Machine:
 
 def answered(block):
     lines = block.split("\n")
-    if block.startswith("##"):
-        return lines
     program, parameters, tables = 0, 0, []
     for line in lines:
         if line.startswith("> open "):
@@ -538,17 +536,26 @@ def answered(block):
     return said
 
 
+def is_run(block):
+    """Whether a block asks for something of the machine; the others are headings and codes of which the answer tells whether they are valid."""
+    return "\n> " in block
+
+
 def main():
     with open(os.path.join(CASES, "stdin"), encoding="utf-8") as cases:
-        blocks = cases.read().split("\n\n")
-    answers = "".join("\n".join(answered(block.rstrip())) + "\n\n" for block in blocks)
-    if "--print" in sys.argv:
-        print(answers, end="")
-        return
+        blocks = [block.rstrip() for block in cases.read().split("\n\n")]
     with open(os.path.join(CASES, "stdout"), encoding="utf-8") as given:
-        if given.read() != answers:
-            sys.exit("the answers differ: machine_cases.py --print prints those of the table")
-    print(f"{len(blocks)} blocks agree")
+        told = given.read().rstrip("\n").split("\n\n")
+    if len(told) != len(blocks):
+        sys.exit(f"{len(blocks)} blocks have {len(told)} answers")
+    run = [(answer, "\n".join(answered(block))) for block, answer in zip(blocks, told) if is_run(block)]
+    if "--print" in sys.argv:
+        print("\n\n".join(answer for _, answer in run))
+        return
+    wrong = [answer for answer, other in run if answer != other]
+    if wrong:
+        sys.exit(f"{len(wrong)} answers differ, the first of them {wrong[0].splitlines()[0]}; machine_cases.py --print prints those of the table")
+    print(f"{len(run)} codes that are run agree")
 
 
 if __name__ == "__main__":

@@ -5,13 +5,13 @@
 set -eu
 
 top=$(cd "$(dirname "$0")/.." && pwd)
-crate=$top/crates/ds2_parse_bench
-ours=$crate/out/ds2_parse_bench
+crate=$top/crates/ds2_bench
+ours=$crate/out/ds2_bench
 if [ ! -x "$ours" ]; then
     (cd "$crate" && rt run >/dev/null 2>&1)
 fi
 for turn in 1 2 3 4 5; do
-    "$ours" time
+    "$ours" parsing time
 done | sort -t: -k1,1V -k2,2n | awk -F: '!seen[$1]++'
-peak=$(/usr/bin/time -f %M "$ours" 2>&1 >/dev/null | tail -n 1 || echo '?')
+peak=$(/usr/bin/time -f %M "$ours" parsing 2>&1 >/dev/null | tail -n 1 || echo '?')
 echo "peak memory $peak KB"

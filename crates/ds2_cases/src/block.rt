@@ -2,6 +2,7 @@
 
 use crate::contents::{CaseFile, Piece};
 use crate::escape::unescape_text;
+use crate::meeting::Meeting;
 use crate::mistake::Mistake;
 use ds2_base::{Stop, Text};
 use std::alloc::Global;
@@ -27,6 +28,8 @@ pub(crate) struct Setting {
     pub(crate) shows_objects: bool,
     /// Whether the command runs by the call without threads alone.
     pub(crate) is_alone: bool,
+    /// Which group waits for which at the gate of the call with threads, where one does.
+    pub(crate) meeting: Option<Meeting>,
 }
 
 /// A case with its title, or what is given for the cases that follow, where there is no title.
@@ -96,6 +99,7 @@ impl Setting {
             shows_counts: false,
             shows_objects: false,
             is_alone: false,
+            meeting: None,
         }
     }
 
@@ -140,6 +144,14 @@ impl Setting {
         Ok(())
     }
 
+    fn set_meeting(&mut self, line: &str) -> Result<(), Stop<Mistake>> {
+        match Meeting::of(line) {
+            Some(meeting) => self.meeting = Some(meeting),
+            None => return Err(Stop::Refused(Mistake::BadGate)),
+        }
+        Ok(())
+    }
+
     // Adds a line on a file's contents.
     fn add_contents(&mut self, alloc: Global, word: &str, rest: &str) -> Result<(), Stop<Mistake>> {
         let piece = match word {
@@ -166,6 +178,7 @@ impl Setting {
             "fail" => self.set_failing(alloc, rest)?,
             "show" => self.set_shown(rest)?,
             "alone" => self.is_alone = true,
+            "gate" => self.set_meeting(rest)?,
             _ => self.add_contents(alloc, word, rest)?,
         }
         Ok(())

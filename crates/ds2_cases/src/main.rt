@@ -11,6 +11,7 @@
 mod block;
 mod contents;
 mod escape;
+mod meeting;
 mod mistake;
 mod reading;
 mod running;

@@ -6,7 +6,7 @@ use thiserror::Error;
 /// Why a line of cases can't be read.
 #[derive(Clone, Copy, Debug, PartialEq, Eq, Error)]
 pub enum Mistake {
-    #[error("a line begins with case, given, words, first, file, without, fail, show, alone, |, +, repeat or #")]
+    #[error("a line begins with case, given, words, first, file, without, fail, show, alone, gate, |, +, repeat or #")]
     UnknownWord,
     #[error("a title, a name or a word is missing")]
     Missing,
@@ -22,6 +22,8 @@ pub enum Mistake {
     BadFail,
     #[error("`calls`, `counts` and `objects` are all that can be shown beside the answer")]
     BadShow,
+    #[error("`gate` is followed by two groups and a number of workers")]
+    BadGate,
     #[error("a title, a name and a word are UTF-8")]
     NotUtf8,
 }

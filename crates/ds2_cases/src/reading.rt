@@ -13,6 +13,8 @@
 //! - `show calls` lets the answer tell the calls of the store, `show counts` the numbers of instructions and the lengths of
 //!   objects, for which a letter stands otherwise, and `show objects` their bytes. `alone` leaves out the run by the call with
 //!   threads.
+//! - `gate HELD AWAITED WORKERS` lets the call with threads run at a gate where whoever holds the one group waits until the other was handed
+//!   in, which only another worker can do. The answer tells whether one of so many workers waited there for another.
 //!
 //! Empty lines, and lines that begin with `#`, say nothing.
 

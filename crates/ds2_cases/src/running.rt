@@ -2,11 +2,13 @@
 
 use crate::block::Setting;
 use crate::contents::{CaseFile, contents};
+use crate::meeting::Meeting;
 use crate::mistake::{CaseError, Mistake};
 use crate::telling::{add_contents, add_named, without_counts};
 use crate::watched::{Asked, Call, Watched};
 use ds2_base::{Bytes, List, OutOfMemory, Stop, Text};
-use ds2_outside::{MemSink, MemStore, NoGate};
+use ds2_case_gate::WaitingGate;
+use ds2_outside::{Gate, MemSink, MemStore, NoGate};
 use ds2_top::{Status, ds2, ds2_alone};
 use std::alloc::{AllocError, Global};
 use std::sync::Wait;
@@ -302,14 +304,15 @@ fn run_alone(alloc: Global, case: Case) -> Result<Left, Stop<Mistake>> {
     Ok(Left { status, store, log })
 }
 
-fn run_threaded(
+fn run_threaded<G: Gate + Sync>(
     rt: &(impl Threads + Wait + Sync),
     alloc: Global,
     case: Case,
+    gate: &G,
 ) -> Result<Left, Stop<Mistake>> {
     let mut store = Watched::new(alloc, store_of(alloc, case)?);
     let mut log = log_of(alloc, case)?;
-    let status = ds2(rt, alloc, words_of(case), &mut store, &mut log, &NoGate);
+    let status = ds2(rt, alloc, words_of(case), &mut store, &mut log, gate);
     Ok(Left { status, store, log })
 }
 
@@ -319,6 +322,47 @@ fn answer_of(alloc: Global, case: Case, left: Left) -> Result<String, Stop<Mista
         return Err(Stop::OutOfMemory);
     }
     told(alloc, case, &left)
+}
+
+// The case's own meeting, or the given one where it has none.
+fn meeting_of(case: Case) -> Option<Meeting> {
+    match case.own.meeting {
+        Some(meeting) => Some(meeting),
+        None => case.given.meeting,
+    }
+}
+
+// Adds the answer by the call with threads, where it is another one.
+fn add_other(other: &str, answer: &mut String) -> Result<(), AllocError> {
+    if answer.as_str() == other {
+        return Ok(());
+    }
+    answer.push_str("and by the call with threads\n")?;
+    answer.push_str(other)
+}
+
+// Adds whether one group waited for the other.
+fn add_meeting(meeting: Meeting, has_waited: bool, answer: &mut String) -> Result<(), AllocError> {
+    let Meeting { held, awaited, .. } = meeting;
+    let way = if has_waited { "waited" } else { "did not wait" };
+    writeln!(answer, "gate: group {held} {way} for group {awaited}")
+}
+
+// Adds the answer by the call with threads at a gate, where it is another one, and what was seen there.
+fn add_at_gate(
+    rt: &(impl Threads + Wait + Sync),
+    alloc: Global,
+    case: Case,
+    meeting: Meeting,
+    answer: &mut String,
+) -> Result<(), Stop<Mistake>> {
+    let gate = WaitingGate::new(meeting.held, meeting.awaited);
+    let left = run_threaded(rt, alloc, case, &gate)?;
+    let has_waited = gate.has_waited(meeting.workers);
+    let other = answer_of(alloc, case, left)?;
+    add_other(other.as_str(), answer)?;
+    add_meeting(meeting, has_waited, answer)?;
+    Ok(())
 }
 
 // The answer by the call without threads, and the other one where it differs.
@@ -331,15 +375,16 @@ fn both_answers(
     if case.own.is_alone || case.given.is_alone {
         return Ok(answer);
     }
-    let other = answer_of(alloc, case, run_threaded(rt, alloc, case)?)?;
-    if answer.as_str() != other.as_str() {
-        answer.push_str("and by the call with threads\n")?;
-        answer.push_str(other.as_str())?;
+    if let Some(meeting) = meeting_of(case) {
+        add_at_gate(rt, alloc, case, meeting, &mut answer)?;
+        return Ok(answer);
     }
+    let other = answer_of(alloc, case, run_threaded(rt, alloc, case, &NoGate)?)?;
+    add_other(other.as_str(), &mut answer)?;
     Ok(answer)
 }
 
-/// The answer to a case: status, calls where they are to be shown, log, and the files that were made or changed.
+/// The answer to a case: status, calls where they are to be shown, log, the files that were made or changed, and what was seen at a gate.
 pub(crate) fn answer(
     rt: &(impl Threads + Wait + Sync),
     alloc: Global,

@@ -1,24 +1,32 @@
-//! Codes and whether they are valid.
+//! Codes: whether they are valid, and what their units do in the machine.
 //!
-//! Standard input holds cases, an empty line between two of them. Standard output gets each case again and, below it, `valid` or
-//! `not valid`. A block that begins with `##` is a heading. `ds2_code_text` tells how a case is written.
+//! Standard input holds cases, an empty line between two of them. A case is a code, as `ds2_code_text` tells. Behind one that is to be run
+//! stand lines that begin with `> `:
+//!
+//! - `> open PROGRAM PARAMETERS`, the program whose units are run (0 for the data program, k for the k-th thread program below it), and
+//!   the number of parameters of the thread program that it reads from; `open 0 0` where no line says it;
+//! - `> table` and below it `> row VALUES`, the tables of the hash objects that name one, in their order; values have `|` between them;
+//! - `> init BUDGET`, `> run BUDGET`, `> term BUDGET`, a unit; `> run BUDGET SLOT INTEGER` sets a slot by its load;
+//! - `> parameters`, what was set for the parameters of the thread program;
+//! - `> copy`, from where on a copy of the machine goes on in its place.
+//!
+//! Standard output gets each case again and, below a code that is not run, `valid` or `not valid`; below each unit its ending, with the
+//! budget left and the number of instructions, the rows and lines that it wrote, and whether the machine is spent. A block that begins with
+//! `##` is a heading.
 #![tactic(auto)]
 
-mod answer;
+mod case;
+mod lines;
+mod units;
 
-use crate::answer::answer;
+use crate::case::run_case;
 use std::io;
 
 fn main(rt: HostRuntime) -> anyhow::Result<()> {
     let input = io::read_to_string(rt.alloc(), rt.reader())?;
     for block in input.as_str().split("\n\n") {
-        let block = block.trim_end();
-        if block.starts_with("##") {
-            println!(rt; "{block}\n")?;
-        } else {
-            let answer = answer(rt.alloc(), block);
-            println!(rt; "{block}\n    {answer}\n")?;
-        }
+        run_case(&rt, block.trim_end())?;
+        println!(rt; "")?;
     }
     Ok(())
 }
