@@ -14,7 +14,7 @@ use std::alloc::Global;
 use std::collections::{HashMap, HashSet};
 
 /// What links a method to a name.
-#[derive(Clone, Copy, Debug)]
+#[derive(Clone, Copy)]
 pub(crate) enum LinkKind {
     /// It mentions a global of the name.
     Mentions,

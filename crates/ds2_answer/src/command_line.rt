@@ -37,7 +37,7 @@ pub enum CommandLine {
 }
 
 /// The options of a line, each where it is given.
-#[derive(Clone, Copy, Debug, PartialEq, Eq)]
+#[derive(Clone, Copy, PartialEq, Eq)]
 pub struct GivenOptions {
     pub threads: Option<u32>,
     pub budget: Option<u64>,

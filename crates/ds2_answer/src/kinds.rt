@@ -11,7 +11,7 @@ pub const TABLE_LIMIT: u64 = MOST_BYTES as u64;
 pub const OBJECT_LIMIT: u64 = 268_435_456;
 
 /// Why a file is refused. A new one touches the files that docs/ARCHITECTURE.md lists under 'To add a refusal'.
-#[derive(Clone, Copy, Debug, PartialEq, Eq)]
+#[derive(Clone, Copy, PartialEq, Eq)]
 pub enum FileKind {
     /// There is no file of this name.
     Absent,

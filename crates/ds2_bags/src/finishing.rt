@@ -11,7 +11,7 @@ use ds2_outside::Gate;
 use std::alloc::Global;
 
 /// What a stage gives.
-#[derive(Debug, Drop)]
+#[derive(Drop)]
 pub struct StageEnd {
     /// The answers of groups 0, 1, and so on, up to and with the least group that faulted, or of all groups.
     pub ends: List<GroupEnd>,
@@ -20,7 +20,7 @@ pub struct StageEnd {
 }
 
 /// What the caller makes of a stage.
-#[derive(Debug, Drop)]
+#[derive(Drop)]
 pub struct Finished {
     pub end: StageEnd,
     /// The groups that the caller ran itself, in order.

@@ -6,7 +6,7 @@ use ds2_base::{List, Text};
 use ds2_value::{Ending, Row};
 
 /// What the run of a group gave.
-#[derive(Debug, Drop)]
+#[derive(Drop)]
 pub struct GroupEnd {
     /// The rows that it wrote, in order.
     pub rows: List<Row>,

@@ -7,7 +7,7 @@ use std::marker::Model;
 use std::mem;
 
 /// A list. A contract sees its items, and nothing of the places that are reserved for more.
-#[derive(Debug, Drop)]
+#[derive(Drop)]
 pub struct List<T> {
     items: Vec<T>,
 }

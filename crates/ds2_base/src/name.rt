@@ -11,14 +11,14 @@ use std::marker::Model;
 
 /// The text is no name: it has 0 or more than 64 characters, holds a byte order mark (U+FEFF), a delete (U+007F) or a
 /// character below U+0020, or begins or ends with a blank.
-#[derive(Clone, Copy, Debug, PartialEq, Eq)]
+#[derive(Clone, Copy, PartialEq, Eq)]
 pub struct BadName;
 
 /// The most characters of a name.
 pub const NAME_CHARACTERS: usize = 64;
 
 /// A name of a program, a table, a column or a variable, its ASCII letters in lower case. A contract sees its UTF-8 bytes.
-#[derive(Debug, Drop)]
+#[derive(Drop)]
 pub struct Name {
     text: String,
 }

@@ -5,14 +5,14 @@ ghost use Rattle.ds2_base.specs.Place.{start_place, place_after, place_past};
 
 /// A place in a text. Lines and columns count from 1, columns in characters; a line feed ends a line.
 /// A count stays at `u32::MAX` once it is there, which no text that is read here comes near.
-#[derive(Clone, Copy, Debug, PartialEq, Eq, PartialOrd, Ord)]
+#[derive(Clone, Copy, PartialEq, Eq, PartialOrd, Ord)]
 pub struct Place {
     pub line: u32,
     pub column: u32,
 }
 
 /// A refusal of a kind, at the place where its cause stands.
-#[derive(Debug, Drop, PartialEq, Eq)]
+#[derive(Drop, PartialEq, Eq)]
 pub struct Refusal<K> {
     pub kind: K,
     pub place: Place,

@@ -10,7 +10,7 @@ use std::str;
 pub(crate) const SHORT_TEXT_BYTES: usize = 22;
 
 /// A text of at most 22 bytes. A contract sees its UTF-8 bytes.
-#[derive(Debug, Drop)]
+#[derive(Drop)]
 pub(crate) struct ShortText {
     length: u8,
     bytes: [u8; SHORT_TEXT_BYTES],

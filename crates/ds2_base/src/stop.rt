@@ -4,11 +4,11 @@ ghost use Rattle.ds2_base.specs.Says.{Says};
 use std::alloc::{AllocError, AllocFailed};
 
 /// There was no memory. What the call was given by reference is as it was, unless the call says otherwise.
-#[derive(Clone, Copy, Debug, PartialEq, Eq)]
+#[derive(Clone, Copy, PartialEq, Eq)]
 pub struct OutOfMemory;
 
 /// A call's own refusal, or want of memory.
-#[derive(Debug, Drop, PartialEq, Eq)]
+#[derive(Drop, PartialEq, Eq)]
 pub enum Stop<R> {
     /// The call refuses what it was given.
     Refused(R),

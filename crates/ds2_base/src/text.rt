@@ -12,7 +12,6 @@ use std::mem::size_of;
 
 /// A text. A contract sees its UTF-8 bytes; its characters are std's `chars` of them. One of at most 22 bytes takes no memory
 /// beside itself.
-#[derive(Debug)]
 pub struct Text {
     held: Held,
 }
@@ -25,7 +24,7 @@ impl Drop for Text {
 }
 
 // Where the characters are.
-#[derive(Debug, Drop)]
+#[derive(Drop)]
 enum Held {
     Within(ShortText),
     Apart(Box<String>),

@@ -5,7 +5,7 @@ ghost use Rattle.ds2_by_order.specs.Places.{opening_place, place_behind};
 use crate::TableRow;
 
 /// A place between two loads of a statement of at most 16 tables.
-#[derive(Clone, Copy, Debug)]
+#[derive(Clone, Copy)]
 pub struct Place {
     /// How many rows of each table were given, from its first one in BY order on.
     pub given: [usize; 16],

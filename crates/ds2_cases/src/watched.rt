@@ -5,7 +5,7 @@ use ds2_outside::{Failed, ReadStop, Store, WriteStop};
 use std::alloc::Global;
 
 /// What a call asks of a store.
-#[derive(Clone, Copy, Debug, PartialEq, Eq)]
+#[derive(Clone, Copy, PartialEq, Eq)]
 pub(crate) enum Asked {
     Read,
     Has,

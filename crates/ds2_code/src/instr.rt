@@ -8,7 +8,7 @@ use ds2_value::{Comparison, HashFunction, IteratorFunction, Ty};
 
 /// One instruction. What it takes from the operand list and what it leaves there is said as `a b -> c`, the last one on top; `Overflow`
 /// and the like are the faults that it may give. A null operand makes the result null, unless it is said otherwise.
-#[derive(Clone, Copy, Debug, PartialEq, Eq)]
+#[derive(Clone, Copy, PartialEq, Eq)]
 pub enum Instr {
     /// `-> value` of constant k.
     Const(u32),

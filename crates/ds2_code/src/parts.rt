@@ -5,7 +5,7 @@ use ds2_base::{List, Name};
 use ds2_value::{Column, Ty, Value};
 
 /// What `run` does to a slot before its statements.
-#[derive(Clone, Copy, Debug, PartialEq, Eq)]
+#[derive(Clone, Copy, PartialEq, Eq)]
 pub enum SlotRole {
     /// It is set to null.
     Cleared,
@@ -58,7 +58,7 @@ pub struct HashPart {
 }
 
 /// A parameter of a method.
-#[derive(Clone, Copy, Debug, PartialEq, Eq)]
+#[derive(Clone, Copy, PartialEq, Eq)]
 pub struct ParameterPart {
     pub ty: Ty,
     pub is_in_out: bool,
@@ -82,7 +82,7 @@ pub struct ReadPart {
 }
 
 /// A BY variable of a reading: its slot, and the slots of its two flags.
-#[derive(Clone, Copy, Debug, PartialEq, Eq)]
+#[derive(Clone, Copy, PartialEq, Eq)]
 pub struct ByPart {
     pub slot: u32,
     pub is_descending: bool,

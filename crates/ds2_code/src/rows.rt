@@ -5,7 +5,7 @@ ghost use Rattle.ds2_code.specs.OperationCode.{operation_code, RowsInOrder};
 use crate::Instr;
 
 /// A table with an item for each row of the machine's table.
-#[derive(Clone, Copy, Debug)]
+#[derive(Clone, Copy)]
 pub struct Rows<const N: usize> {
     /// The number of each row, which is its operation code in an object file.
     pub codes: [u8; N],

@@ -37,7 +37,7 @@ pub enum CsvKind {
 
 /// A refusal. A row counts from 1 below the header, a column from 1. What says nothing of a kind is 0: the row of all kinds but
 /// BadRecord and BadCell, the column of all but BadHeader, BadType, DuplicateColumn and BadCell.
-#[derive(Clone, Copy, Debug, PartialEq, Eq)]
+#[derive(Clone, Copy, PartialEq, Eq)]
 pub struct CsvRefusal {
     pub kind: CsvKind,
     pub row: u64,

@@ -6,7 +6,7 @@ use ds2_base::OutOfMemory;
 use std::alloc::Global;
 
 /// A cell of a record.
-#[derive(Clone, Copy, Debug)]
+#[derive(Clone, Copy)]
 pub enum Cell<'t> {
     /// The cell's text, which stands in the file as it is.
     Plain(&'t str),

@@ -5,7 +5,7 @@ ghost use Rattle.ds2_dealer.specs.Stage.{HandIn};
 ghost use Rattle.ds2_dealer.specs.Sums.{lesser_fault, handed, AreSums};
 
 /// The sums over the hand-ins.
-#[derive(Clone, Copy, PartialEq, Eq, Debug)]
+#[derive(Clone, Copy, PartialEq, Eq)]
 pub struct Totals {
     /// How many groups were handed in.
     pub groups: u64,

@@ -7,7 +7,7 @@ use atomic_table::{Seat, Table};
 use std::alloc::Global;
 
 /// What a draw gives.
-#[derive(Clone, Copy, PartialEq, Eq, Debug)]
+#[derive(Clone, Copy, PartialEq, Eq)]
 pub enum Draw {
     /// The groups from `from` up to, and without, `to`; there is at least one.
     Run { from: u64, to: u64 },

@@ -19,7 +19,7 @@ use std::mem::size_of;
 pub const MOST_DIGITS: u8 = 38;
 
 /// Why an operation on decimals has no result.
-#[derive(Debug, Clone, Copy, PartialEq, Eq, Drop)]
+#[derive(Clone, Copy, PartialEq, Eq, Drop)]
 pub enum DecFault {
     /// An operand brought to the scale of the result, or the result, has more than 38 digits (`rescale`: more than p).
     Overflow,
@@ -28,7 +28,7 @@ pub enum DecFault {
 }
 
 /// The number units / 10 ^ scale, with at most 38 digits, and at most 38 of them after the point.
-#[derive(Debug, Clone, Copy)]
+#[derive(Clone, Copy)]
 pub struct Dec {
     units: Units,
     scale: u8,

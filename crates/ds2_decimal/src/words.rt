@@ -1,7 +1,6 @@
 //! Units in two words: what holds them is aligned to 8 bytes, where an `i128` asks for 16.
 ghost use Rattle.std.specs.Prelude.{◌≡◌};
 
-use std::fmt;
 use std::marker::Model;
 
 /// 2 ^ 64.
@@ -51,11 +50,5 @@ impl Units {
         ensures { result ≡ self }
     {
         self.high as i128 * WORD + self.low as i128
-    }
-}
-
-impl fmt::Debug for Units {
-    fn fmt<W: fmt::Write>(&self, f: &mut fmt::Formatter<W>) -> fmt::Result {
-        fmt::Debug::fmt(&self.get(), f)
     }
 }

@@ -9,7 +9,7 @@ use ds2_types::rules::is_one;
 use ds2_value::{Column, Ty, join_types};
 
 /// What is known of the type of a column over the first tables of a statement.
-#[derive(Clone, Copy, Debug, PartialEq, Eq)]
+#[derive(Clone, Copy, PartialEq, Eq)]
 pub enum ColumnTyping {
     /// None of them has it.
     Absent,

@@ -1,7 +1,7 @@
 //! How the statements of a body return.
 
 /// What a `return` of a body comes to.
-#[derive(Clone, Copy, Debug, PartialEq, Eq)]
+#[derive(Clone, Copy, PartialEq, Eq)]
 pub enum Returning {
     /// A jump to the end of a system method.
     ToEnd,

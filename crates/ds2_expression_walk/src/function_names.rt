@@ -3,7 +3,7 @@ ghost use Rattle.std.specs.Prelude.{◌≡◌};
 ghost use Rattle.ds2_expression_walk.specs.FunctionNames.{one_named, several_named};
 
 /// A function that takes one argument.
-#[derive(Clone, Copy, Debug, PartialEq, Eq)]
+#[derive(Clone, Copy, PartialEq, Eq)]
 pub enum OneName {
     Absolute,
     Ceiling,
@@ -15,7 +15,7 @@ pub enum OneName {
 }
 
 /// A function that takes several arguments.
-#[derive(Clone, Copy, Debug, PartialEq, Eq)]
+#[derive(Clone, Copy, PartialEq, Eq)]
 pub enum SeveralName {
     Coalesce,
     Least,

@@ -22,7 +22,7 @@ use ds2_tree::{OutputOption, OutputOptions, OutputTable};
 use std::alloc::Global;
 
 /// The earliest places at which outputs break the rules on their columns, None where they do not.
-#[derive(Clone, Copy, Debug)]
+#[derive(Clone, Copy)]
 pub(crate) struct BrokenOutputs {
     /// The later one of two columns of one name.
     pub clash: Option<Place>,

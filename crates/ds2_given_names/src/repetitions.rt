@@ -22,7 +22,7 @@ use ds2_token::Token;
 use std::alloc::Global;
 
 /// The earliest places at which a unit breaks the rules on the names that it gives, None where it does not.
-#[derive(Clone, Copy, Debug)]
+#[derive(Clone, Copy)]
 pub struct BrokenNames {
     /// A name that was given before.
     pub duplicate_name: Option<Place>,

@@ -7,7 +7,7 @@ ghost use Rattle.ds2_hash.specs.Calls.{iteration_of};
 use crate::HashObject;
 
 /// An iterator of a hash object: a position among its items, none at first.
-#[derive(Clone, Copy, Debug, PartialEq, Eq)]
+#[derive(Clone, Copy, PartialEq, Eq)]
 pub struct Hiter {
     /// The position, counted from 0.
     pub at: Option<u64>,

@@ -18,7 +18,7 @@ use ds2_scope::{Instance, UnitNames, earlier_of};
 use std::alloc::Global;
 
 /// The earliest places at which declarations of instances break the rules of names, None where they do not.
-#[derive(Clone, Copy, Debug)]
+#[derive(Clone, Copy)]
 pub struct BrokenInstances {
     /// A package, a thread program, a variable, a column of a table or a hash object that is not there.
     pub unknown_name: Option<Place>,

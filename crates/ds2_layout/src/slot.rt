@@ -5,7 +5,7 @@ use ds2_meaning::Global;
 use ds2_value::Ty;
 
 /// What a slot is for.
-#[derive(Clone, Copy, Debug, PartialEq, Eq)]
+#[derive(Clone, Copy, PartialEq, Eq)]
 pub enum SlotRole {
     /// A variable that each `run` sets to null.
     Cleared,

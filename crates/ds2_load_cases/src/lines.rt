@@ -16,7 +16,7 @@ pub fn table_of(alloc: Global, file: &str) -> Result<Table, Mistake> {
 }
 
 /// A BY variable, as a line says it.
-#[derive(Clone, Copy, Debug)]
+#[derive(Clone, Copy)]
 pub struct ByLine<'a> {
     pub name: &'a str,
     pub is_descending: bool,

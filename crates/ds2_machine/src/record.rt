@@ -11,7 +11,7 @@ use ds2_value::{Row, Value};
 use std::alloc::Global;
 
 /// A row that a unit wrote.
-#[derive(Debug, Drop)]
+#[derive(Drop)]
 pub struct OutRow {
     /// The number of the output.
     pub output: u32,
@@ -19,7 +19,7 @@ pub struct OutRow {
 }
 
 /// The rows and the lines that units wrote, each in order.
-#[derive(Debug, Drop)]
+#[derive(Drop)]
 pub struct UnitRecord {
     pub rows: List<OutRow>,
     pub lines: List<Text>,

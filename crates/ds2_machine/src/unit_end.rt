@@ -3,7 +3,7 @@
 use ds2_value::Ending;
 
 /// How a unit has ended.
-#[derive(Clone, Copy, Debug, PartialEq, Eq)]
+#[derive(Clone, Copy, PartialEq, Eq)]
 pub struct UnitEnd {
     pub ending: Ending,
     /// How many steps and calls of the budget are left.

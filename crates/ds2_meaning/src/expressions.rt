@@ -8,7 +8,7 @@ use ds2_base::{List, Name};
 use ds2_value::{Comparison, HashFunction, IteratorFunction, Ty, Value};
 
 /// What stands between two operands of a chain. The operands are of the operation's types.
-#[derive(Clone, Copy, Debug, PartialEq, Eq)]
+#[derive(Clone, Copy, PartialEq, Eq)]
 pub enum Operation {
     /// `+` of two BIGINT values.
     IntegerAdd,
@@ -33,7 +33,7 @@ pub enum Operation {
 }
 
 /// An operator before its operand.
-#[derive(Clone, Copy, Debug, PartialEq, Eq)]
+#[derive(Clone, Copy, PartialEq, Eq)]
 pub enum Prefix {
     /// `-` before a BIGINT.
     IntegerNegate,
@@ -46,7 +46,7 @@ pub enum Prefix {
 }
 
 /// A function of the language, by the types of its arguments.
-#[derive(Clone, Copy, Debug, PartialEq, Eq)]
+#[derive(Clone, Copy, PartialEq, Eq)]
 pub enum Function {
     /// `null(x)`.
     IsNull,

@@ -1,7 +1,7 @@
 //! Why a source is refused.
 
 /// Why the names of a unit are refused. Of two refusals at one place the one that comes first here is given.
-#[derive(Clone, Copy, Debug, PartialEq, Eq)]
+#[derive(Clone, Copy, PartialEq, Eq)]
 pub enum ScopeKind {
     /// There is no such variable, flag, instance, package, thread, output or global.
     UnknownName,
@@ -26,7 +26,7 @@ pub enum ScopeKind {
 }
 
 /// Why the types of a unit are refused. Of two refusals at one place the one that comes first here is given.
-#[derive(Clone, Copy, Debug, PartialEq, Eq)]
+#[derive(Clone, Copy, PartialEq, Eq)]
 pub enum TypeKind {
     /// Types do not fit.
     TypeClash,

@@ -5,7 +5,7 @@ ghost use Rattle.ds2_merge.specs.KeyPlaces.{opening_key_place, key_place_behind,
 use ds2_by_order::TableRow;
 
 /// A place between the loads of two keys.
-#[derive(Clone, Copy, Debug)]
+#[derive(Clone, Copy)]
 pub(crate) struct KeyPlace {
     /// How many rows of each table have a key that comes before, from its first one in BY order on.
     pub given: [usize; 16],
@@ -16,7 +16,7 @@ pub(crate) struct KeyPlace {
 }
 
 /// The rows of a key, behind a place between keys.
-#[derive(Clone, Copy, Debug)]
+#[derive(Clone, Copy)]
 pub(crate) struct KeyRows {
     /// The first of them.
     pub first: TableRow,
@@ -29,7 +29,7 @@ pub(crate) struct KeyRows {
 }
 
 /// Where a cursor stands: at a place between two keys, or among the loads of the key behind it.
-#[derive(Clone, Copy, Debug)]
+#[derive(Clone, Copy)]
 pub(crate) struct MergePlace {
     pub place: KeyPlace,
     pub key: Option<KeyRows>,

@@ -1,7 +1,7 @@
 //! Which `output` statements may stand in a method.
 
 /// Which `output` statements may stand in a method.
-#[derive(Clone, Copy, Debug)]
+#[derive(Clone, Copy)]
 pub(crate) enum OutputRule {
     /// None: in a package, and in a method other than `init`, `run` and `term`.
     Nowhere,

@@ -5,7 +5,7 @@ use ds2_calls::Calls;
 use ds2_scope::NameSet;
 
 /// The rules on uses of names that tests on names decide.
-#[derive(Clone, Copy, Debug)]
+#[derive(Clone, Copy)]
 pub(crate) enum UsageRule {
     UnknownName,
     NotVariable,

@@ -20,7 +20,7 @@ use std::alloc::Global;
 use std::collections::HashSet;
 
 /// The earliest places at which a unit breaks the rules on uses of names, None where it does not.
-#[derive(Clone, Copy, Debug)]
+#[derive(Clone, Copy)]
 pub struct BrokenUses {
     /// A name that is not there.
     pub unknown_name: Option<Place>,

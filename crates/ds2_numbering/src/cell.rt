@@ -8,7 +8,7 @@ use ds2_code::Instr;
 use ds2_value::{HashFunction, IteratorFunction, Ty};
 
 /// Where code keeps something: in a slot, in a local of the frame, as a hash object or an iterator, or as a parameter for the thread program.
-#[derive(Clone, Copy, Debug)]
+#[derive(Clone, Copy)]
 pub enum Cell {
     Slot(u32),
     Local(u32),

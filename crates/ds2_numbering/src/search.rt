@@ -5,7 +5,7 @@ ghost use Rattle.ds2_numbering.specs.Searching.{first_or_this, unbegun, looked_o
 use ds2_base::OutOfMemory;
 
 /// The number of the first location that was the one sought, where one was, and how many were looked at.
-#[derive(Clone, Copy, Debug)]
+#[derive(Clone, Copy)]
 pub struct Search {
     pub found: Option<u32>,
     pub seen: u32,

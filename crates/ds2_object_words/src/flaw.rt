@@ -1,7 +1,7 @@
 //! What is wrong with bytes.
 
 /// What is wrong first where bytes do not begin with a part of the format.
-#[derive(Clone, Copy, Debug)]
+#[derive(Clone, Copy)]
 pub enum Flaw {
     /// The bytes end within a field.
     Truncated,

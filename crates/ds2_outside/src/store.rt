@@ -8,7 +8,7 @@ use ds2_base::{Bytes, OutOfMemory, Text};
 use std::alloc::Global;
 
 /// Why a read gave no bytes.
-#[derive(Clone, Copy, Debug, PartialEq, Eq)]
+#[derive(Clone, Copy, PartialEq, Eq)]
 pub enum ReadStop {
     /// There is no file of that name.
     Absent,
@@ -19,7 +19,7 @@ pub enum ReadStop {
 }
 
 /// Why a write was not done, or not all of it.
-#[derive(Clone, Copy, Debug, PartialEq, Eq)]
+#[derive(Clone, Copy, PartialEq, Eq)]
 pub enum WriteStop {
     /// The bytes could not be written; the count of write faults rose.
     Failed,
@@ -28,7 +28,7 @@ pub enum WriteStop {
 }
 
 /// The store could not tell; its count of read faults rose.
-#[derive(Clone, Copy, Debug, PartialEq, Eq)]
+#[derive(Clone, Copy, PartialEq, Eq)]
 pub struct Failed;
 
 /// Files by name. A store may tell what it holds, as one in memory does. Its two counts of faults never fall, and a call

@@ -2,7 +2,7 @@
 
 /// The input of one call of `run`: the number of the row that is read of each table of the reading statement, `u64::MAX` where none is,
 /// and flags as bits, in the order of the BY variables and of the tables.
-#[derive(Clone, Copy, Debug, PartialEq, Eq)]
+#[derive(Clone, Copy, PartialEq, Eq)]
 pub struct Load {
     pub rows: [u64; 16],
     /// Whether the load before it has other values of the BY variables, or there is none.

@@ -8,7 +8,7 @@ use ds2_table::Table;
 use ds2_value::{Column, Ty};
 
 /// A table that a statement reads: its number, the slot of each of its columns, and the slot of its `in=` flag.
-#[derive(Debug, Drop)]
+#[derive(Drop)]
 pub struct ReadTable {
     pub table: u32,
     pub slots: List<u32>,
@@ -16,7 +16,7 @@ pub struct ReadTable {
 }
 
 /// A BY variable of a statement: its slot, and the slots of its two flags.
-#[derive(Clone, Copy, Debug, PartialEq, Eq)]
+#[derive(Clone, Copy, PartialEq, Eq)]
 pub struct ByKey {
     pub slot: u32,
     pub is_descending: bool,
@@ -25,7 +25,7 @@ pub struct ByKey {
 }
 
 /// A reading statement: the tables that it reads, in order, and its BY variables.
-#[derive(Debug, Drop)]
+#[derive(Drop)]
 pub struct Reading {
     pub tables: List<ReadTable>,
     pub bys: List<ByKey>,

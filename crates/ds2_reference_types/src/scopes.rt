@@ -11,7 +11,7 @@ use ds2_value::Ty;
 use std::collections::HashMap;
 
 /// What kind of variable a name stands for.
-#[derive(Clone, Copy, Debug, PartialEq, Eq)]
+#[derive(Clone, Copy, PartialEq, Eq)]
 pub enum Standing {
     /// A parameter or a local of the method.
     Local,

@@ -11,7 +11,7 @@ use ds2_scope::{Instance, InstanceSort, KnownUnits, earlier_of, place_unless, sp
 use std::alloc::Global;
 
 /// The count of tokens behind instances, and the earliest of these behind which it is above 1,000,000.
-#[derive(Clone, Copy, Debug)]
+#[derive(Clone, Copy)]
 pub(crate) struct TokenCount {
     pub behind: usize,
     pub beyond: Option<Place>,

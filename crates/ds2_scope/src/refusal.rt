@@ -8,7 +8,7 @@ use ds2_base::{Place, Refusal};
 use ds2_meaning::ScopeKind;
 
 /// For each rule of names the earliest place at which it is broken, None where it is not.
-#[derive(Clone, Copy, Debug)]
+#[derive(Clone, Copy)]
 pub struct BrokenRules {
     pub unknown_name: Option<Place>,
     pub duplicate_name: Option<Place>,

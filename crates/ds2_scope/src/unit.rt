@@ -8,7 +8,7 @@ use ds2_token::Token;
 use ds2_tree::{DataProgram, GlobalItem, OutputTable, Package, Parameter, Parameters, Thread};
 
 /// The kinds of units.
-#[derive(Clone, Copy, Debug)]
+#[derive(Clone, Copy)]
 pub enum UnitKind {
     Package,
     Thread,

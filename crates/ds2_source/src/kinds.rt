@@ -5,7 +5,7 @@ use ds2_meaning::{ScopeKind, TypeKind};
 use ds2_token::LexKind;
 
 /// Why a source is refused, by the step that refuses it. A new one touches the files that docs/ARCHITECTURE.md lists under 'To add a refusal'.
-#[derive(Clone, Copy, Debug, PartialEq, Eq)]
+#[derive(Clone, Copy, PartialEq, Eq)]
 pub enum SourceKind {
     /// A part of the text is no token.
     Lex(LexKind),
@@ -18,7 +18,7 @@ pub enum SourceKind {
 }
 
 /// The first reason why a source is refused, and its place: lines and columns from 1, columns in characters.
-#[derive(Clone, Copy, Debug, PartialEq, Eq)]
+#[derive(Clone, Copy, PartialEq, Eq)]
 pub struct SourceRefusal {
     pub kind: SourceKind,
     pub place: Place,

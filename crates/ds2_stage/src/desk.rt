@@ -9,7 +9,7 @@ use std::sync::ledger;
 use std::sync::ledger::Ledger;
 
 /// A test of the book under its lock that failed.
-#[derive(Clone, Copy, PartialEq, Eq, Debug)]
+#[derive(Clone, Copy, PartialEq, Eq)]
 pub enum Odd {
     /// The book is not of a stage with as many groups as the worker's job has.
     Groups {

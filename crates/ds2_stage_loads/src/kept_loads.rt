@@ -9,7 +9,7 @@ use ds2_reading::Load;
 use std::alloc::Global;
 
 /// Loads that are kept, each a group by itself, and how many of them were given.
-#[derive(Debug, Drop)]
+#[derive(Drop)]
 pub(crate) struct KeptLoads {
     pub loads: List<Load>,
     pub given: usize,

@@ -3,7 +3,7 @@
 use ds2_value::Ending;
 
 /// How some units, one after the other, have ended.
-#[derive(Clone, Copy, Debug, PartialEq, Eq)]
+#[derive(Clone, Copy, PartialEq, Eq)]
 pub struct TurnsEnd {
     pub ending: Ending,
     /// How many instructions they executed together.

@@ -12,7 +12,7 @@ pub const END: u32 = 4_294_967_292;
 pub const BODY: u32 = 4_294_967_291;
 
 /// The target that each mark gets. One that is the mark itself leaves it.
-#[derive(Clone, Copy, Debug)]
+#[derive(Clone, Copy)]
 pub struct Aims {
     pub leave: u32,
     pub continue_to: u32,

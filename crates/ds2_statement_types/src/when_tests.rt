@@ -36,7 +36,7 @@ use std::alloc::Global;
 
 /// What the tests of a `select` are looked at by: what is known of its value, where it has one, and whether DECIMAL values are
 /// compared, so that each BIGINT among them is widened.
-#[derive(Clone, Copy, Debug, PartialEq, Eq)]
+#[derive(Clone, Copy, PartialEq, Eq)]
 pub struct TestRule {
     pub beside: Option<Typing>,
     pub decimals: bool,

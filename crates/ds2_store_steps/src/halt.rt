@@ -10,7 +10,7 @@ use ds2_value::Fault;
 use std::alloc::Global;
 
 /// Why a command goes no further. `?` carries it up to the call that writes the log.
-#[derive(Clone, Copy, Debug, PartialEq, Eq)]
+#[derive(Clone, Copy, PartialEq, Eq)]
 pub enum Halt {
     /// It has ended with this status, and its text has the line that says why.
     Ended(Status),

@@ -9,7 +9,7 @@ use std::alloc::Global;
 use std::marker::Model;
 
 /// A table: a schema, and rows that fit it. A contract sees its columns and its rows.
-#[derive(Debug, Drop)]
+#[derive(Drop)]
 pub struct Table {
     schema: Schema,
     rows: List<Row>,

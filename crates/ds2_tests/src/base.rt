@@ -2,7 +2,7 @@
 use ds2_base::{List, Name, OutOfMemory, Stop, Text};
 use std::alloc::Global;
 
-#[derive(Debug, Drop, PartialEq, Eq, Hash)]
+#[derive(Drop, PartialEq, Eq, Hash)]
 enum Tree {
     Leaf(u8),
     Node(List<Tree>),

@@ -6,7 +6,7 @@ use ds2_base::{OutOfMemory, Place, Text};
 use std::alloc::Global;
 
 /// A token: its kind, the characters that it is written with, and the place of the first of them.
-#[derive(Debug, Drop, PartialEq, Eq)]
+#[derive(Drop, PartialEq, Eq)]
 pub struct Token {
     pub kind: TokenKind,
     pub spelling: Text,

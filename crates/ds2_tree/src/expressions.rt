@@ -68,7 +68,7 @@ pub enum Expression {
 const _: () = prove!(size_of::<Expression>() <= 64);
 
 /// The operators of a chain.
-#[derive(Clone, Copy, Debug, PartialEq, Eq)]
+#[derive(Clone, Copy, PartialEq, Eq)]
 pub enum ChainKind {
     /// `"or" | "|"`
     Or,

@@ -8,7 +8,7 @@ use ds2_meaning::{Expression, TypeKind};
 use ds2_value::Ty;
 
 /// What is known of the type of an expression.
-#[derive(Clone, Copy, Debug, PartialEq, Eq)]
+#[derive(Clone, Copy, PartialEq, Eq)]
 pub enum Typing {
     /// Its type.
     Known(Ty),

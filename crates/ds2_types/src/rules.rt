@@ -94,7 +94,7 @@ pub fn is_assigned_from(to: Ty, from: Ty) -> bool
 }
 
 /// What types an operand may have.
-#[derive(Clone, Copy, Debug, PartialEq, Eq)]
+#[derive(Clone, Copy, PartialEq, Eq)]
 pub enum OperandTest {
     /// BIGINT and DECIMAL.
     Number,
@@ -118,7 +118,7 @@ impl OperandTest {
 }
 
 /// A test on the types of arguments, else TypeClash at the function's name.
-#[derive(Clone, Copy, Debug, PartialEq, Eq)]
+#[derive(Clone, Copy, PartialEq, Eq)]
 pub struct ArgumentRule {
     pub test: OperandTest,
     pub name: Place,

@@ -7,7 +7,7 @@ use ds2_value::Value;
 use std::alloc::Global;
 
 /// Loads that set nothing: the one of a program without a reading statement, or none, as of a program without `run`.
-#[derive(Clone, Copy, Debug)]
+#[derive(Clone, Copy)]
 pub(crate) struct BareLoads {
     pub is_left: bool,
 }

@@ -5,7 +5,7 @@ use ds2_table::Table;
 use ds2_value::Ending;
 
 /// What is known of a thread program from which a program read.
-#[derive(Clone, Copy, Debug, PartialEq, Eq)]
+#[derive(Clone, Copy, PartialEq, Eq)]
 pub struct StageNote {
     /// How many groups its loads make at its grain; 0 where it ended by a fault.
     pub groups: u64,
@@ -14,7 +14,7 @@ pub struct StageNote {
 }
 
 /// How a program has ended whose rows and lines went to a sink.
-#[derive(Debug, Drop)]
+#[derive(Drop)]
 pub struct RunEnd {
     pub ending: Ending,
     /// How many instructions its own units executed together, without those of its thread programs.
@@ -24,7 +24,7 @@ pub struct RunEnd {
 }
 
 /// What a program leaves.
-#[derive(Debug, Drop)]
+#[derive(Drop)]
 pub struct ProgramEnd {
     /// The table of each output, in order. After a fault they have the rows that were written before it.
     pub tables: List<Table>,

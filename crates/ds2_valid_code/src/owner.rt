@@ -16,7 +16,7 @@ use std::alloc::Global;
 use std::collections::HashMap;
 
 /// Whose code an instruction is: a unit's, or a method's, by the number of the first method with an equal signature.
-#[derive(Clone, Copy, Debug, PartialEq, Eq)]
+#[derive(Clone, Copy, PartialEq, Eq)]
 pub(crate) enum CodeOwner {
     Unit,
     Method(usize),

@@ -10,7 +10,7 @@ use ds2_code::{MethodPart, ParameterPart};
 use ds2_value::{TEXT_CHARACTERS, Ty};
 
 /// The scale that an operation on two decimals leaves.
-#[derive(Clone, Copy, Debug, PartialEq, Eq)]
+#[derive(Clone, Copy, PartialEq, Eq)]
 pub(crate) enum ScaleRule {
     Greater,
     Sum,

@@ -14,7 +14,7 @@ use std::alloc::Global;
 use std::collections::HashMap;
 
 /// What is kept of an instruction: whose code it is, and whether no operand stands before it.
-#[derive(Clone, Copy, Debug, PartialEq, Eq)]
+#[derive(Clone, Copy, PartialEq, Eq)]
 pub(crate) struct CodeMark {
     pub(crate) owner: CodeOwner,
     pub(crate) is_empty: bool,

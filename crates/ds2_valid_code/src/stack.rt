@@ -25,7 +25,7 @@ impl Model for TypeStack {
 }
 
 /// What an instruction needs of an operand.
-#[derive(Clone, Copy, Debug, PartialEq, Eq)]
+#[derive(Clone, Copy, PartialEq, Eq)]
 pub(crate) enum Class {
     One(Ty),
     Decimal,

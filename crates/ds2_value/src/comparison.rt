@@ -6,7 +6,7 @@ use crate::{Value, key_compare};
 use std::cmp::Ordering;
 
 /// A comparison of two values.
-#[derive(Clone, Copy, Debug, PartialEq, Eq)]
+#[derive(Clone, Copy, PartialEq, Eq)]
 pub enum Comparison {
     Equal,
     NotEqual,

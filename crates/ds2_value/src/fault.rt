@@ -6,7 +6,7 @@ use ds2_base::Place;
 pub const CALL_DEPTH: usize = 100;
 
 /// Why a run ends early. A new one touches the files that docs/ARCHITECTURE.md lists under 'To add a fault'.
-#[derive(Clone, Copy, Debug, PartialEq, Eq)]
+#[derive(Clone, Copy, PartialEq, Eq)]
 pub enum Fault {
     /// A number has more digits than its type.
     Overflow,
@@ -23,7 +23,7 @@ pub enum Fault {
 }
 
 /// How a run ends.
-#[derive(Clone, Copy, Debug, PartialEq, Eq)]
+#[derive(Clone, Copy, PartialEq, Eq)]
 pub enum Ending {
     /// At its end.
     Normal,

@@ -1,7 +1,7 @@
 //! The calls of hash objects and of their iterators.
 
 /// A call of a hash object.
-#[derive(Clone, Copy, Debug, PartialEq, Eq)]
+#[derive(Clone, Copy, PartialEq, Eq)]
 pub enum HashFunction {
     /// The data of the item with the key go into the data variables.
     Find,
@@ -20,7 +20,7 @@ pub enum HashFunction {
 }
 
 /// A call of a hash iterator: it goes to an item, whose data go into the data variables.
-#[derive(Clone, Copy, Debug, PartialEq, Eq)]
+#[derive(Clone, Copy, PartialEq, Eq)]
 pub enum IteratorFunction {
     /// To the first item.
     First,

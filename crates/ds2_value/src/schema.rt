@@ -9,14 +9,14 @@ use std::alloc::Global;
 use std::marker::Model;
 
 /// A column of a table: its name and the type of its values.
-#[derive(Debug, Drop, PartialEq, Eq)]
+#[derive(Drop, PartialEq, Eq)]
 pub struct Column {
     pub name: Name,
     pub ty: Ty,
 }
 
 /// The columns of a table, with distinct names and types in bounds. A contract sees the list of them.
-#[derive(Debug, Drop, PartialEq, Eq)]
+#[derive(Drop, PartialEq, Eq)]
 pub struct Schema {
     columns: List<Column>,
 }

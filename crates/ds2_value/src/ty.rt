@@ -8,7 +8,7 @@ use ds2_decimal::MOST_DIGITS;
 pub const TEXT_CHARACTERS: u16 = 1024;
 
 /// A type of variables and columns. It is in bounds where 1 <= p <= [`MOST_DIGITS`], s <= p and 1 <= n <= [`TEXT_CHARACTERS`].
-#[derive(Clone, Copy, Debug, PartialEq, Eq)]
+#[derive(Clone, Copy, PartialEq, Eq)]
 pub enum Ty {
     /// Whole numbers of 64 bits.
     BigInt,

@@ -8,7 +8,7 @@ use std::alloc::Global;
 use std::mem::size_of;
 
 /// What a variable or a cell holds.
-#[derive(Debug, Drop)]
+#[derive(Drop)]
 pub enum Value {
     /// No value. It is of every type.
     Null,

@@ -1,8 +1,5 @@
-//! A line of words over the files of the current folder and standard output.
-//!
-//! [`run`] is what the program `ds2` does: `main` calls it and ends with the status. It promises nothing of what files hold,
+//! A line of words over the files of the current folder and standard output. [`run`] promises nothing of what files hold,
 //! as [`FolderStore`] and [`StdSink`] don't.
-#![tactic(auto)]
 
 use ds2_base::{OutOfMemory, Text};
 use ds2_outside::{FolderStore, NoGate, StdSink};
