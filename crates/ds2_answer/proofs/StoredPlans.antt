@@ -14,8 +14,8 @@ use Rattle.ds2_code.specs.declared.parts.Slot.{Slot}
 use Rattle.ds2_code.specs.declared.parts.StagedParts.{StagedParts}
 use Rattle.ds2_code.specs.declared.parts.TableReference.{TableReference}
 use Rattle.ds2_code_answer.specs.CodeTables.{program_references, rows_of_each}
-use Rattle.ds2_unit.specs.Outputs.{tables_from}
-use Rattle.ds2_same_answer.specs.SameAnswer.{AreLikeAnswers, AreLikeStages, HaveRowsMentioned, programs_in_chain}
+use Rattle.ds2_same_meaning.specs.Outputs.{tables_from}
+use Rattle.ds2_same_meaning.specs.SameAnswer.{AreLikeAnswers, AreLikeStages, HaveRowsMentioned, programs_in_chain}
 use Rattle.ds2_same_meaning.specs.SameMeaning.{MeansSame, code_tables_made, number_of_bys, table_referred, tables_of_outputs}
 use Rattle.ds2_answer.specs.HeldTables.{HeldTables, held_behind, made_by_name, rows_held, table_held, tables_held}
 use Rattle.ds2_answer.specs.ObjectPlans.{answer_over, left_by_code, outputs_of_code, run_of_code, stage_in_code, stages_of_code}

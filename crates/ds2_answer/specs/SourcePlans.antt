@@ -8,7 +8,7 @@ use Rattle.ds2_source.specs.Units.{SourcePart}
 use Rattle.ds2_source.specs.ProgramMeaning.{program_answer, tables_made}
 use Rattle.ds2_meaning.specs.ProgramTree.{UnitTree, ProgramTree, reader_of}
 use Rattle.ds2_meaning.specs.Reading.{bys_of}
-use Rattle.ds2_same_answer.specs.SameAnswer.{programs_in_chain}
+use Rattle.ds2_same_meaning.specs.SameAnswer.{programs_in_chain}
 use Rattle.ds2_meaning.specs.declared.globals.OutputTable.{OutputTable}
 use Rattle.ds2_source.specs.Elaboration.{ProgramRefusal, elaborated_source}
 use Rattle.ds2_source.specs.AnswersOfTexts.{SourcesRead}

@@ -1,12 +1,13 @@
 -- The thread programs of a source: their trees, their types and the verdicts on them.
-use Rattle.std.proofs.Common.{◌≡◌, ℕ, List, [], ◌∷◌, ◌++◌, map, Option, Some, None, Result, Ok, Err, refl, sym, ap, subst, ◌∙◌, Box, Global}
+use Rattle.std.proofs.Common.{◌≡◌, ℕ, List, [], ◌∷◌, ◌++◌, map, Option, Some, None, Result, Ok, Err, refl, sym, ap, subst, ◌∙◌, Global}
 use Rattle.std.specs.List.{AllByRecursion}
 use Rattle.std.specs.Option.{option_map}
+use Rattle.std.specs.declared.sync.Arc.{Arc}
 use Rattle.std.proofs.lemmas.List.{map-append}
 use Rattle.ds2_tree.specs.Units.{SourcePart, Thread, Proc, Run, Quit, APackage, AThread, AData}
 use Rattle.ds2_meaning.specs.IsTyped.{IsTypedProgram, IsTypedUnit}
 use Rattle.ds2_meaning.specs.ProgramTree.{UnitTree, ProgramTree, OverTables, OverStage, reader_of}
-use Rattle.ds2_meaning.specs.View.{over_stage, thread_part, typed_thread_program, unboxed, unit_tree}
+use Rattle.ds2_meaning.specs.View.{over_stage, thread_part, typed_thread_program, unit_tree, unshared}
 use Rattle.ds2_meaning.specs.declared.globals.Variable.{Variable}
 use Rattle.ds2_meaning.specs.declared.units.Program.{Program}
 use Rattle.ds2_meaning.specs.declared.units.TypedData.{TypedData}
@@ -18,7 +19,7 @@ use Rattle.ds2_elaboration.specs.Elaboration.{ProgramRefusal, before_source, ela
 use Rattle.ds2_elaboration.specs.TypedPrograms.{EveryThreadIsTyped, HaveSchemas, StandsInSource}
 use Rattle.ds2_elaboration.specs.ProgramTypes.{typed_program}
 use Rattle.ds2_elaboration.specs.UnitsBefore.{UnitsBefore}
-use Rattle.ds2_program_types.specs.TypedPrograms.{IsTypedThread}
+use Rattle.ds2_typed_source.specs.TypedPrograms.{IsTypedThread}
 use Rattle.ds2_typed_source.specs.SourceOutcomes.{AreProgramsOf}
 use Rattle.ds2_typed_source.specs.SourceThreads.{AreThreadsBehind, AreThreadsIn, AreThreadsOfSource}
 use Rattle.ds2_typed_source.proofs.UnitOutcomes.{reader_made}
@@ -28,9 +29,9 @@ use Rattle.ds2_verdicts.specs.declared.verdicts.ThreadVerdict.{ThreadVerdict}
 
 -- ---- a thread program has its name
 
-thread_rolled : (name : List ℕ) (parameters : List Variable) (program : Program) (o : Option (Box TypedThread Global))
+thread_rolled : (name : List ℕ) (parameters : List Variable) (program : Program) (o : Option (Arc TypedThread Global))
     → typed_thread_program (roll-TypedThread (record { name = name; parameters = parameters; program = program; stage = o }))
-    ≡ over_stage (unit_tree (Some name) parameters program) (option_map typed_thread_program (unboxed o))
+    ≡ over_stage (unit_tree (Some name) parameters program) (option_map typed_thread_program (unshared o))
 thread_rolled name parameters program None = fold-roll-TypedThread ProgramTree thread_part (record { name = name; parameters = parameters; program = program; stage = None })
 thread_rolled name parameters program (Some b) = fold-roll-TypedThread ProgramTree thread_part (record { name = name; parameters = parameters; program = program; stage = Some b })
 
@@ -42,7 +43,7 @@ name_kept : (t : TypedThread) → (reader_of (typed_thread_program t)).thread �
 name_kept t =
     let rolled = thread_rolled (out-TypedThread t).name (out-TypedThread t).parameters (out-TypedThread t).program (out-TypedThread t).stage in
     ap (λ (p : ProgramTree). (reader_of p).thread) (sym (ap typed_thread_program (roll-out-TypedThread t)) ∙ rolled)
-    ∙ name_over (unit_tree (Some (out-TypedThread t).name) (out-TypedThread t).parameters (out-TypedThread t).program) (option_map typed_thread_program (unboxed (out-TypedThread t).stage))
+    ∙ name_over (unit_tree (Some (out-TypedThread t).name) (out-TypedThread t).parameters (out-TypedThread t).program) (option_map typed_thread_program (unshared (out-TypedThread t).stage))
 
 -- the name, or another one
 abbrev name_or : List ℕ → Option (List ℕ) → List ℕ

@@ -58,7 +58,8 @@ fn instance_method<'p>(instances: &'p [Instance], name: &Name, k: usize) -> Opti
 {
     'instances: for instance in instances {
         if instance.name == *name {
-            return instance.package.methods.get(k);
+            let package = instance.package.get();
+            return package.methods.get(k);
         }
     }
     None
@@ -101,7 +102,7 @@ pub fn methods_in_order(
     add_methods(&mut methods, CodeHome::Program, program.methods.len())?;
     'instances: for instance in program.instances.as_slice() {
         let home = CodeHome::Instance(&instance.name);
-        add_methods(&mut methods, home, instance.package.methods.len())?;
+        add_methods(&mut methods, home, instance.package.get().methods.len())?;
     }
     Ok(methods)
 }

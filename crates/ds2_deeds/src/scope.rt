@@ -75,8 +75,8 @@ fn instance_scope<'p>(instances: &'p [Instance], name: &'p Name) -> BodyScope<'p
         if instance.name == *name {
             return BodyScope {
                 home: CodeHome::Instance(name),
-                hashes: instance.package.hashes.as_slice(),
-                iterators: instance.package.iterators.as_slice(),
+                hashes: instance.package.get().hashes.as_slice(),
+                iterators: instance.package.get().iterators.as_slice(),
                 outputs: &[],
             };
         }

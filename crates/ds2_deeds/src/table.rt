@@ -69,7 +69,7 @@ fn add_instance_hashes<'p>(
 {
     'instances: for instance in instances {
         let home = CodeHome::Instance(&instance.name);
-        add_hashes(locations, home, instance.package.hashes.as_slice())?;
+        add_hashes(locations, home, instance.package.get().hashes.as_slice())?;
     }
     Ok(())
 }
@@ -97,7 +97,7 @@ fn add_instance_iterators<'p>(
 {
     'instances: for instance in instances {
         let home = CodeHome::Instance(&instance.name);
-        add_iterators(locations, home, instance.package.iterators.as_slice())?;
+        add_iterators(locations, home, instance.package.get().iterators.as_slice())?;
     }
     Ok(())
 }

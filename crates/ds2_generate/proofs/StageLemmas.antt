@@ -1,13 +1,14 @@
 -- The codes of thread programs, each behind that of the program that reads from it.
-use Rattle.std.proofs.Common.{◌≡◌, ℕ, List, [], ◌∷◌, ◌++◌, Option, Some, None, Result, Ok, Err, IfOk, Box, Global, refl, sym, ap, ◌∙◌, append_assoc}
+use Rattle.std.proofs.Common.{◌≡◌, ℕ, List, [], ◌∷◌, ◌++◌, Option, Some, None, Result, Ok, Err, IfOk, Global, refl, sym, ap, ◌∙◌, append_assoc}
 use Rattle.std.specs.Option.{option_map}
+use Rattle.std.specs.declared.sync.Arc.{Arc}
 use Rattle.ds2_meaning.specs.declared.globals.Variable.{Variable}
 use Rattle.ds2_meaning.specs.declared.units.Program.{Program}
 use Rattle.ds2_meaning.specs.declared.units.TypedThread.{TypedThread, out-TypedThread}
 use Rattle.ds2_meaning.specs.declared.units.TypedThread.TheFolds.{fold-roll-TypedThread}
 use Rattle.ds2_meaning.specs.declared.units.TypedThread.TheViews.{roll-TypedThread, roll-out-TypedThread}
 use Rattle.ds2_meaning.specs.ProgramTree.{UnitTree, ProgramTree, reader_of}
-use Rattle.ds2_meaning.specs.View.{over_stage, thread_part, typed_thread_program, unboxed, unit_tree}
+use Rattle.ds2_meaning.specs.View.{over_stage, thread_part, typed_thread_program, unit_tree, unshared}
 use Rattle.ds2_layout.specs.declared.slot.Layout.{Layout}
 use Rattle.ds2_layout.specs.Layout.{layout_of}
 use Rattle.ds2_code.specs.declared.parts.ProgramParts.{ProgramParts}
@@ -45,8 +46,8 @@ data_coded p o (Err e) is = tt
 
 -- ---- thread programs
 
-thread_rolled : (name : List ℕ) (parameters : List Variable) (program : Program) (o : Option (Box TypedThread Global))
-    → typed_thread_program (roll-TypedThread (record { name = name; parameters = parameters; program = program; stage = o })) ≡ over_stage (unit_tree (Some name) parameters program) (option_map typed_thread_program (unboxed o))
+thread_rolled : (name : List ℕ) (parameters : List Variable) (program : Program) (o : Option (Arc TypedThread Global))
+    → typed_thread_program (roll-TypedThread (record { name = name; parameters = parameters; program = program; stage = o })) ≡ over_stage (unit_tree (Some name) parameters program) (option_map typed_thread_program (unshared o))
 thread_rolled name parameters program None = fold-roll-TypedThread ProgramTree thread_part (record { name = name; parameters = parameters; program = program; stage = None })
 thread_rolled name parameters program (Some b) = fold-roll-TypedThread ProgramTree thread_part (record { name = name; parameters = parameters; program = program; stage = Some b })
 
@@ -59,7 +60,7 @@ own_tree t = unit_tree (Some (out-TypedThread t).name) (out-TypedThread t).param
 
 -- the one that it may read from
 abbrev pub tree_below : TypedThread → Option ProgramTree
-tree_below t = option_map typed_thread_program (unboxed (out-TypedThread t).stage)
+tree_below t = option_map typed_thread_program (unshared (out-TypedThread t).stage)
 
 thread_is : (t : TypedThread) → typed_thread_program t ≡ over_stage (own_tree t) (tree_below t)
 thread_is t =
@@ -94,14 +95,14 @@ pub last_stage : (t : TypedThread) (old new : List ProgramParts) (code : Program
     → code ≡ program_code (reader_of (typed_thread_program t)) → new ≡ old ++ code ∷ [] → new ≡ old ++ codes_of (typed_thread_program t)
 last_stage t old new code none first added =
     added ∙ ap (λ c. old ++ c ∷ []) first
-    ∙ sym (ap (λ l. old ++ l) (codes_at t ∙ ap (λ o. program_code (reader_of (typed_thread_program t)) ∷ codes_below (option_map typed_thread_program (unboxed o))) none))
+    ∙ sym (ap (λ l. old ++ l) (codes_at t ∙ ap (λ o. program_code (reader_of (typed_thread_program t)) ∷ codes_below (option_map typed_thread_program (unshared o))) none))
 
 -- one that reads from another stands before that one's codes
-pub stage_before : (t : TypedThread) (b : Box TypedThread Global) (old mid new : List ProgramParts) (code : ProgramParts) → (out-TypedThread t).stage ≡ Some b
+pub stage_before : (t : TypedThread) (b : Arc TypedThread Global) (old mid new : List ProgramParts) (code : ProgramParts) → (out-TypedThread t).stage ≡ Some b
     → code ≡ program_code (reader_of (typed_thread_program t)) → mid ≡ old ++ code ∷ [] → new ≡ mid ++ codes_of (typed_thread_program b.value)
     → new ≡ old ++ codes_of (typed_thread_program t)
 stage_before t b old mid new code some first added rest =
     let c = program_code (reader_of (typed_thread_program t)) in
     let l = codes_of (typed_thread_program b.value) in
     rest ∙ ap (λ m. m ++ l) (added ∙ ap (λ x. old ++ x ∷ []) first) ∙ append_assoc old (c ∷ []) l
-    ∙ sym (ap (λ m. old ++ m) (codes_at t ∙ ap (λ o. c ∷ codes_below (option_map typed_thread_program (unboxed o))) some))
+    ∙ sym (ap (λ m. old ++ m) (codes_at t ∙ ap (λ o. c ∷ codes_below (option_map typed_thread_program (unshared o))) some))

@@ -192,7 +192,7 @@ pub fn emit_instance_methods<'p>(
     ensures parts { (rest : Items CodeMethod) → OnOk result (with_method_parts (tree_of_unit unit.now) (length code.new) rest parts.new ≡ with_method_parts (tree_of_unit unit.now) (length code.old) (flat_map instance_code_methods (map instance_tree instances.now) ++ rest) parts.old) }
 {
     'instances: for instance in instances {
-        let methods = instance.package.methods.as_slice();
+        let methods = instance.package.get().methods.as_slice();
         emit_declared_methods(
             unit,
             code,

@@ -69,7 +69,7 @@ fn collect_instances(
     ensures { OnOk result (table.new ≡ with_used (flat_map constants_of_instance (map instance_tree instances.now)) table.old) }
 {
     'instances: for instance in instances {
-        collect_methods(alloc, table, instance.package.methods.as_slice())?;
+        collect_methods(alloc, table, instance.package.get().methods.as_slice())?;
     }
     Ok(())
 }

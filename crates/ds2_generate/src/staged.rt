@@ -12,7 +12,7 @@ use crate::program::program_parts;
 use ds2_base::{List, OutOfMemory};
 use ds2_code::{ProgramParts, StagedParts};
 use ds2_layout::{lay_out, lay_out_thread};
-use ds2_meaning::{TypedData, TypedThread};
+use ds2_meaning::{Shared, TypedData, TypedThread};
 use ds2_valid_code::{ProgramCode, verify};
 use std::alloc::Global;
 
@@ -57,7 +57,7 @@ fn add_stages(
 // The code of the thread programs that a data program stands on.
 fn stage_parts(
     alloc: Global,
-    stage: &Option<TypedThread>,
+    stage: &Option<Shared<TypedThread>>,
 ) -> Result<List<ProgramParts>, OutOfMemory>
     ensures { IfOk result (λ codes. codes ≡ codes_below (option_map typed_thread_program stage.now)) }
 {
@@ -65,7 +65,7 @@ fn stage_parts(
     match stage {
         None => Ok(stages),
         Some(thread) => {
-            add_stages(alloc, &mut stages, thread)?;
+            add_stages(alloc, &mut stages, thread.get())?;
             Ok(stages)
         }
     }

@@ -177,7 +177,7 @@ fn add_instance_hashes(
     ensures { OnOk result (parts.new ≡ parts.old ++ flat_map (λ (i : InstanceTree). map (hash_part_among slots.now (Some i.name)) i.objects.hashes) (map instance_tree instances.now)) }
 {
     'instances: for instance in instances {
-        let hashes = instance.package.hashes.as_slice();
+        let hashes = instance.package.get().hashes.as_slice();
         add_hashes(
             alloc,
             parts,
@@ -234,7 +234,7 @@ fn add_instance_iterators(
     ensures { OnOk result (parts.new ≡ parts.old ++ flat_map (λ (i : InstanceTree). map (walked_hash (tree_of program.now) (Some i.name)) i.objects.iterators) (map instance_tree instances.now)) }
 {
     'instances: for instance in instances {
-        let iterators = instance.package.iterators.as_slice();
+        let iterators = instance.package.get().iterators.as_slice();
         add_iterators(
             parts,
             program,

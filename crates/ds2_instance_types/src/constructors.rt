@@ -22,7 +22,6 @@ use ds2_meaning::{Argument, Instance as TypedInstance, Method as TypedMethod, Ty
 use ds2_reference_types::passing::PassedArguments;
 use ds2_scope::{Instance, one_more, spelled_name};
 use ds2_tree::{Constant, GlobalItem, Method};
-use ds2_typed_copies::package_copy;
 use std::alloc::Global;
 
 /// An instance of a package, or the one of the rules that its constants break that is given.
@@ -57,7 +56,7 @@ fn constructor_arguments(
 ) -> Result<PassedArguments, OutOfMemory>
     ensures { IfOk result (AreAllPassed (arguments_of_constructor place constants.now (constructor_of (kept_types found.now)))) }
 {
-    let own = found.typed.name.as_str().as_bytes();
+    let own = found.typed.get().name.as_str().as_bytes();
     let globals = found.source.globals.as_slice();
     let constructor = method_named(alloc, globals, own)?;
     match constructor {
@@ -88,8 +87,8 @@ fn method_number(methods: &[TypedMethod], name: &[u8]) -> Result<Option<u32>, Ou
 fn constructor_number(found: &KnownPackage<'_>) -> Result<Option<u32>, OutOfMemory>
     ensures { IfOk result (λ n. n ≡ method_number 0 (kept_types found.now).methods (kept_types found.now).name) }
 {
-    let own = found.typed.name.as_str().as_bytes();
-    let number = method_number(found.typed.methods.as_slice(), own)?;
+    let own = found.typed.get().name.as_str().as_bytes();
+    let number = method_number(found.typed.get().methods.as_slice(), own)?;
     Ok(number)
 }
 
@@ -105,11 +104,11 @@ fn constructed(
 {
     let constructor = constructor_number(found)?;
     let own = name(alloc, instance.name)?;
-    let copy = package_copy(alloc, &found.typed)?;
+    let package = found.typed.share()?;
     Ok(TypedInstance {
         place: instance.keyword.place,
         name: own,
-        package: copy,
+        package,
         constructor,
         arguments,
     })

@@ -13,6 +13,7 @@ ghost use Rattle.ds2_types.specs.Judgements.{IsOutcome};
 
 use crate::constructors::{PackageOutcome, package_instance};
 use crate::hashes::{HashDeclaration, hash_clash, hash_object, text_name};
+use crate::variables::variables_copy;
 use ds2_base::{OutOfMemory, Refusal};
 use ds2_declared_types::names::name;
 use ds2_known_types::{KnownTypes, parameters_of};
@@ -25,7 +26,6 @@ use ds2_reference_types::scopes::KnownNames;
 use ds2_scope::{Instance, InstanceSort, spelled_name};
 use ds2_token::Token;
 use ds2_tree::Constant;
-use ds2_typed_copies::variables_copy;
 use std::alloc::Global;
 
 /// What a declaration of an instance becomes.
@@ -154,7 +154,7 @@ fn declared_thread(
         None => Ok(TypedDeclaration::Nothing),
         Some(thread) => {
             let own = name(alloc, instance.name)?;
-            let parameters = variables_copy(alloc, parameters_of(thread))?;
+            let parameters = variables_copy(alloc, parameters_of(thread.get()))?;
             Ok(TypedDeclaration::Thread(ThreadInstance {
                 name: own,
                 parameters,

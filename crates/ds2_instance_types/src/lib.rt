@@ -12,6 +12,7 @@ mod declarations;
 mod hashes;
 mod instances;
 mod mentions;
+mod variables;
 
 pub use instances::{InstancesOutcome, TypedInstances, typed_instances};
 pub use mentions::mentioned;

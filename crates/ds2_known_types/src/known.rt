@@ -9,7 +9,7 @@ ghost use Rattle.ds2_names.specs.SourceUnit.{source_methods};
 ghost use Rattle.ds2_tree.specs.UnitViews.{global_tree};
 
 use ds2_base::{List, OutOfMemory};
-use ds2_meaning::{TypedPackage, TypedThread, Variable};
+use ds2_meaning::{Shared, TypedPackage, TypedThread, Variable};
 use ds2_tree::{GlobalItem, Package};
 use std::alloc::Global;
 
@@ -18,14 +18,14 @@ use std::alloc::Global;
 pub struct KnownPackage<'s> {
     /// Where it stands in the source.
     pub source: &'s Package,
-    pub typed: TypedPackage,
+    pub typed: Shared<TypedPackage>,
 }
 
 /// The packages and thread programs that stand before a unit, each kind with the last one first.
 #[derive(Drop)]
 pub struct KnownTypes<'s> {
     pub packages: List<KnownPackage<'s>>,
-    pub threads: List<TypedThread>,
+    pub threads: List<Shared<TypedThread>>,
 }
 
 /// The first of these packages that has a name.
@@ -36,7 +36,7 @@ fn first_package<'k, 's>(
     ensures { option_map kept_types (option_copied result) ≡ package_types (map kept_types packages.now) name.now }
 {
     'packages: for p in packages {
-        if p.typed.name.as_str().as_bytes() == name {
+        if p.typed.get().name.as_str().as_bytes() == name {
             return Some(p);
         }
     }
@@ -45,11 +45,14 @@ fn first_package<'k, 's>(
 
 /// The first of these thread programs that has a name.
 #[tactic(auto, using(crate::proofs::ThreadTrees::one_more_thread))]
-fn first_thread<'k>(threads: &'k [TypedThread], name: &[u8]) -> Option<&'k TypedThread>
+fn first_thread<'k>(
+    threads: &'k [Shared<TypedThread>],
+    name: &[u8],
+) -> Option<&'k Shared<TypedThread>>
     ensures { option_map typed_thread_program (option_copied result) ≡ typed_thread_named (map typed_thread_program threads.now) name.now }
 {
     'threads: for t in threads {
-        if t.name.as_str().as_bytes() == name {
+        if t.get().name.as_str().as_bytes() == name {
             return Some(t);
         }
     }
@@ -69,12 +72,18 @@ impl<'s> KnownTypes<'s> {
     }
 
     /// With one package more.
-    pub fn with_package(self, source: &'s Package, typed: TypedPackage) -> Result<Self, OutOfMemory>
+    pub fn with_package(
+        self,
+        alloc: Global,
+        source: &'s Package,
+        typed: TypedPackage,
+    ) -> Result<Self, OutOfMemory>
         ensures threads { IfOk result (λ known. known.threads ≡ self.entry.threads) }
         ensures tells { (before behind : UnitsBefore) → TellsTypes self.entry before → behind.packages ≡ types_of_package source.now typed ∷ before.packages → behind.threads ≡ before.threads
             → IfOk result (λ known. TellsTypes known behind) }
     {
         let KnownTypes { packages, threads } = self;
+        let typed = Shared::new(alloc, typed)?;
         let mut all = packages.into_vec();
         all.insert(0, KnownPackage { source, typed })?;
         Ok(KnownTypes {
@@ -84,12 +93,13 @@ impl<'s> KnownTypes<'s> {
     }
 
     /// With one thread program more.
-    pub fn with_thread(self, typed: TypedThread) -> Result<Self, OutOfMemory>
+    pub fn with_thread(self, alloc: Global, typed: TypedThread) -> Result<Self, OutOfMemory>
         ensures kept { IfOk result (λ known. known.threads ≡ typed ∷ self.entry.threads) }
         ensures tells { (before behind : UnitsBefore) → TellsTypes self.entry before → behind.packages ≡ before.packages → behind.threads ≡ typed_thread_program typed ∷ before.threads
             → IfOk result (λ known. TellsTypes known behind) }
     {
         let KnownTypes { packages, threads } = self;
+        let typed = Shared::new(alloc, typed)?;
         let mut all = threads.into_vec();
         all.insert(0, typed)?;
         Ok(KnownTypes {
@@ -106,7 +116,7 @@ impl<'s> KnownTypes<'s> {
     }
 
     /// The thread program of a name, where there is one.
-    pub fn thread_named(&self, name: &[u8]) -> Option<&TypedThread>
+    pub fn thread_named(&self, name: &[u8]) -> Option<&Shared<TypedThread>>
         ensures { (before : UnitsBefore) → TellsTypes self.now before → option_map typed_thread_program (option_copied result) ≡ typed_thread_named before.threads name.now }
     {
         first_thread(self.threads.as_slice(), name)
@@ -128,7 +138,7 @@ impl<'s> KnownTypes<'s> {
     {
         match self.thread_named(name) {
             None => &[],
-            Some(thread) => parameters_of(thread),
+            Some(thread) => parameters_of(thread.get()),
         }
     }
 }

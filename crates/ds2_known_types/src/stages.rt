@@ -9,7 +9,7 @@ ghost use Rattle.ds2_scope.specs.CodeUnits.{instance_sort, instances_in_source};
 
 use crate::known::KnownTypes;
 use ds2_base::{List, OutOfMemory};
-use ds2_meaning::{OutputColumn, OutputTable, TypedThread};
+use ds2_meaning::{OutputColumn, OutputTable, Shared, TypedThread};
 use ds2_scope::{Instance, InstanceSort, find_instance, spelled_name};
 use ds2_token::Token;
 use ds2_value::Column;
@@ -20,7 +20,7 @@ fn thread_of_sort<'k>(
     alloc: Global,
     known: &'k KnownTypes<'_>,
     sort: InstanceSort<'_>,
-) -> Result<Option<&'k TypedThread>, OutOfMemory>
+) -> Result<Option<&'k Shared<TypedThread>>, OutOfMemory>
     ensures { IfOk result (λ thread. (before : UnitsBefore) → TellsTypes known.now before → option_map typed_thread_program (option_copied thread) ≡ thread_of_sort before.threads (instance_sort sort.entry)) }
 {
     match sort {
@@ -40,7 +40,7 @@ fn behind_instance<'k>(
     known: &'k KnownTypes<'_>,
     instances: &[Instance<'_>],
     stage: &Token,
-) -> Result<Option<&'k TypedThread>, OutOfMemory>
+) -> Result<Option<&'k Shared<TypedThread>>, OutOfMemory>
     ensures { IfOk result (λ thread. (before : UnitsBefore) → TellsTypes known.now before
         → option_map typed_thread_program (option_copied thread) ≡ thread_behind_instance before.threads (instances_in_source instances.now) stage.now) }
 {
@@ -57,7 +57,7 @@ pub fn stage_behind<'k>(
     known: &'k KnownTypes<'_>,
     instances: &[Instance<'_>],
     stage: Option<&Token>,
-) -> Result<Option<&'k TypedThread>, OutOfMemory>
+) -> Result<Option<&'k Shared<TypedThread>>, OutOfMemory>
     ensures { IfOk result (λ thread. (before : UnitsBefore) → TellsTypes known.now before
         → option_map typed_thread_program (option_copied thread) ≡ typed_stage before.threads (instances_in_source instances.now) (option_copied stage.entry)) }
 {
@@ -103,12 +103,12 @@ fn columns_of_one(alloc: Global, outputs: &[OutputTable]) -> Result<List<Column>
 /// The columns of the rows of a thread program that is read from; none where there is none.
 pub fn stage_columns(
     alloc: Global,
-    stage: Option<&TypedThread>,
+    stage: Option<&Shared<TypedThread>>,
 ) -> Result<List<Column>, OutOfMemory>
     ensures { IfOk result (λ columns. columns ≡ typed_stage_columns (option_map typed_thread_program (option_copied stage.entry))) }
 {
     match stage {
         None => Ok(List::new(alloc)),
-        Some(stage) => columns_of_one(alloc, stage.program.outputs.as_slice()),
+        Some(stage) => columns_of_one(alloc, stage.get().program.outputs.as_slice()),
     }
 }

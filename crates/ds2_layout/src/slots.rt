@@ -203,7 +203,7 @@ pub(crate) fn add_instances(
     ensures { OnOk result (slots.new ≡ slots.old ++ flat_map instance_slots (map instance_tree instances.now)) }
 {
     'instances: for instance in instances {
-        let variables = instance.package.variables.as_slice();
+        let variables = instance.package.get().variables.as_slice();
         add_instance(alloc, slots, &instance.name, variables)?;
     }
     Ok(())

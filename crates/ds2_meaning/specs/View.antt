@@ -1,7 +1,9 @@
 -- The trees that the code holds, as plain data.
 use Rattle.std.specs.Prelude.{ℕ, List, [], ◌∷◌, map, Option, Some, None}
 use Rattle.std.specs.Option.{option_map}
+use Rattle.std.specs.Arc.{arc_value}
 use Rattle.std.specs.declared.boxed.Box.{Box}
+use Rattle.std.specs.declared.sync.Arc.{Arc}
 use Rattle.std.specs.declared.alloc.Global as allocator
 use Rattle.ds2_base.specs.declared.place.Place.{Place}
 use Rattle.ds2_meaning.specs.declared.expressions.Argument.TheFolds.{fold-Argument, fold-Call, fold-Expression, fold-Link}
@@ -131,6 +133,10 @@ all_statements (s ∷ ss) = statement.Next s (all_statements ss)
 abbrev pub unboxed : {A : Type 0} → Option (Box A allocator.Global) → Option A
 unboxed {A} = option_map (λ (boxed : Box A allocator.Global). boxed.value)
 
+-- what is shared where there is something
+abbrev pub unshared : {A : Type 0} → Option (Arc A allocator.Global) → Option A
+unshared {A} = option_map (λ (shared : Arc A allocator.Global). arc_value shared)
+
 -- a statement, from what its parts are
 abbrev pub statement_part : statement_node.Statement-F statement.TypedStatement Chained (Part statement.TypedWhens) → statement.TypedStatement
 statement_part (statement_node.Empty place) = statement.Empty place
@@ -228,7 +234,7 @@ over_stage p (Some stage) = OverStage p stage
 
 -- a thread program, from what the one that it reads from is
 abbrev pub thread_part : thread_node.TypedThread-F ProgramTree → ProgramTree
-thread_part t = over_stage (unit_tree (Some t.name) t.parameters t.program) (unboxed t.stage)
+thread_part t = over_stage (unit_tree (Some t.name) t.parameters t.program) (unshared t.stage)
 
 -- a thread program as its meaning sees it
 abbrev pub typed_thread_program : TypedThread → ProgramTree

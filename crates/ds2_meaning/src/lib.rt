@@ -17,6 +17,7 @@ mod location;
 mod methods;
 mod readings;
 mod refusals;
+mod shared;
 mod statements;
 mod units;
 
@@ -27,5 +28,6 @@ pub use location::{Global, Reference};
 pub use methods::{Method, Parameter, SystemMethod};
 pub use readings::{ByVariable, Input, MentionedTable, Reading};
 pub use refusals::{ScopeKind, TypeKind};
+pub use shared::Shared;
 pub use statements::{Arm, ParameterSetting, PutItem, Statement, When};
 pub use units::{Instance, Program, TypedData, TypedPackage, TypedThread, TypedUnit};

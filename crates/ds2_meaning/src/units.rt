@@ -1,10 +1,12 @@
 //! Typed units.
 
 use crate::{
-    Argument, DeclaredHash, DeclaredIterator, Method, OutputTable, Reading, SystemMethod,
+    Argument, DeclaredHash, DeclaredIterator, Method, OutputTable, Reading, Shared, SystemMethod,
     ThreadInstance, Variable,
 };
 use ds2_base::{List, Name, Place};
+use std::alloc::Global;
+use std::sync::Arc;
 
 /// A unit of a source whose names and types fit.
 #[derive(Drop)]
@@ -22,7 +24,7 @@ pub enum TypedUnit {
 pub struct TypedData {
     pub program: Program,
     /// The thread program that it reads from, where it reads from one.
-    pub stage: Option<TypedThread>,
+    pub stage: Option<Shared<TypedThread>>,
 }
 
 /// A thread program whose names and types fit.
@@ -33,7 +35,7 @@ pub struct TypedThread {
     pub parameters: List<Variable>,
     pub program: Program,
     /// The thread program that it reads from, where it reads from one.
-    pub stage: Option<Box<TypedThread>>,
+    pub stage: Option<Arc<TypedThread, Global>>,
 }
 
 /// A package whose names and types fit.
@@ -53,7 +55,7 @@ pub struct Instance {
     /// The place of its declaration.
     pub place: Place,
     pub name: Name,
-    pub package: TypedPackage,
+    pub package: Shared<TypedPackage>,
     /// The number of the method of the package's name, which is called before `init`; None where the package has none.
     pub constructor: Option<u32>,
     /// The constants that the constructor is called with.

@@ -42,7 +42,7 @@ fn search_instance_hashes(
 {
     let mut search = begun;
     'instances: for instance in instances {
-        let hashes = instance.package.hashes.as_slice();
+        let hashes = instance.package.get().hashes.as_slice();
         search = search_hashes(search, sought, HomeName::Instance(&instance.name), hashes)?;
     }
     Ok(search)
@@ -89,7 +89,7 @@ fn search_instance_iterators(
 {
     let mut search = begun;
     'instances: for instance in instances {
-        let iterators = instance.package.iterators.as_slice();
+        let iterators = instance.package.get().iterators.as_slice();
         search = search_iterators(
             search,
             sought,

@@ -22,7 +22,8 @@ fn instance_method<'p>(instances: &'p [Instance], name: &Name, k: usize) -> Opti
 {
     'instances: for instance in instances {
         if instance.name == *name {
-            return instance.package.methods.get(k);
+            let package = instance.package.get();
+            return package.methods.get(k);
         }
     }
     None
@@ -49,7 +50,7 @@ fn first_of_named(before: u32, instances: &[Instance], name: &Name) -> Result<u3
         if instance.name == *name {
             return Ok(at);
         }
-        at = plus_length(at, instance.package.methods.len())?;
+        at = plus_length(at, instance.package.get().methods.len())?;
     }
     Ok(at)
 }

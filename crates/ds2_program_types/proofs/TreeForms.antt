@@ -2,11 +2,11 @@
 use Rattle.std.proofs.Common.{◌≡◌, ℕ, List, Option, Some, None, Result, false, refl, sym, ap, ◌∙◌, subst}
 use Rattle.std.specs.Option.{option_map}
 use Rattle.std.specs.declared.alloc.Global as allocator
-use Rattle.std.specs.declared.boxed.Box.{Box}
+use Rattle.std.specs.declared.sync.Arc.{Arc}
 use Rattle.ds2_base.specs.declared.place.Refusal.{Refusal}
 use Rattle.ds2_tree.specs.Units.{DataProgram, Thread}
 use Rattle.ds2_meaning.specs.ProgramTree.{ProgramTree}
-use Rattle.ds2_meaning.specs.View.{over_stage, thread_part, typed_thread_program, unboxed, unit_tree}
+use Rattle.ds2_meaning.specs.View.{over_stage, thread_part, typed_thread_program, unit_tree, unshared}
 use Rattle.ds2_meaning.specs.declared.globals.Variable.{Variable}
 use Rattle.ds2_meaning.specs.declared.refusals.TypeKind.{TypeKind}
 use Rattle.ds2_meaning.specs.declared.units.Program.{Program}
@@ -58,9 +58,9 @@ pub data_told : (tables : TableColumns) (before : UnitsBefore) (p : DataProgram)
 data_told tables before p d h = record { tree = over_told tables before (unit_of_data p) d h; places = h.program.places }
 
 -- a thread program of its parts
-pub thread_opened : (name : List ℕ) (parameters : List Variable) (program : Program) (stage : Option (Box TypedThread allocator.Global))
+pub thread_opened : (name : List ℕ) (parameters : List Variable) (program : Program) (stage : Option (Arc TypedThread allocator.Global))
     → typed_thread_program (roll-TypedThread (record { name = name; parameters = parameters; program = program; stage = stage }))
-    ≡ over_stage (unit_tree (Some name) parameters program) (option_map typed_thread_program (unboxed stage))
+    ≡ over_stage (unit_tree (Some name) parameters program) (option_map typed_thread_program (unshared stage))
 thread_opened name parameters program None = fold-roll-TypedThread ProgramTree thread_part (record { name = name; parameters = parameters; program = program; stage = None })
 thread_opened name parameters program (Some b) = fold-roll-TypedThread ProgramTree thread_part (record { name = name; parameters = parameters; program = program; stage = Some b })
 

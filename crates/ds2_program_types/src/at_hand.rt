@@ -15,7 +15,7 @@ use ds2_base::{List, OutOfMemory, Place};
 use ds2_declared_types::columns::ReadFrom;
 use ds2_declared_types::variables::program_variables;
 use ds2_known_types::{KnownTypes, stage_behind, stage_columns};
-use ds2_meaning::TypedThread;
+use ds2_meaning::{Shared, TypedThread};
 use ds2_names::{NamedSchema, PlacedName};
 use ds2_scope::{
     Instance, KnownUnits, Unit, UnitNames, instances_of, names_of_unit, reading_of_unit, stage_of,
@@ -33,7 +33,7 @@ pub struct UnitReading<'t, 'k> {
     /// Its reading statement, which a package has not.
     pub reading: Option<&'t Reading>,
     /// The thread program that it reads from.
-    pub stage: Option<&'k TypedThread>,
+    pub stage: Option<&'k Shared<TypedThread>>,
     /// The columns of that one's rows.
     pub rows: List<Column>,
     /// How many variables it declares.

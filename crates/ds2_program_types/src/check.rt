@@ -5,7 +5,7 @@ ghost use Rattle.ds2_elaboration.specs.ProgramTypes.{broken_type_rules};
 ghost use Rattle.ds2_elaboration.specs.SourceTypes.{unit_names};
 ghost use Rattle.ds2_elaboration.specs.UnitsBefore.{UnitsBefore};
 ghost use Rattle.ds2_known_types.specs.TypesKnown.{TellsTypes};
-ghost use Rattle.ds2_meaning.specs.View.{over_stage, typed_thread_program, unboxed, unit_tree};
+ghost use Rattle.ds2_meaning.specs.View.{over_stage, typed_thread_program, unit_tree, unshared};
 ghost use Rattle.ds2_meaning.specs.declared.units.TypedThread.{out-TypedThread};
 ghost use Rattle.ds2_names.specs.SourceUnit.{TableColumns, columns_stored, unit_of_data, unit_of_package, unit_of_thread};
 ghost use Rattle.ds2_program_types.specs.ThreadHeads.{IsHeadOf};
@@ -23,12 +23,13 @@ use ds2_declared_types::names::name;
 use ds2_declared_types::variables::parameter_variables;
 use ds2_known_types::KnownTypes;
 use ds2_meaning::{
-    MentionedTable, Program, TypeKind, TypedData, TypedPackage, TypedThread, Variable,
+    MentionedTable, Program, Shared, TypeKind, TypedData, TypedPackage, TypedThread, Variable,
 };
 use ds2_names::NamedSchema;
 use ds2_scope::{UnitNames, unit_of_data, unit_of_package, unit_of_thread};
 use ds2_tree::{DataProgram, Package, Thread};
 use std::alloc::Global;
+use std::sync::Arc;
 
 /// A typed data program, or the refusal of its types.
 pub type CheckOutcome = Result<TypedData, Refusal<TypeKind>>;
@@ -51,16 +52,13 @@ pub fn check(
     Ok(typed)
 }
 
-/// What is read from, in a box.
-fn boxed(alloc: Global, stage: Option<TypedThread>) -> Result<Option<Box<TypedThread>>, OutOfMemory>
-    ensures { IfOk result (λ b. unboxed b ≡ stage) }
+/// What is read from, as a thread program holds it.
+fn arc_of(stage: Option<Shared<TypedThread>>) -> Option<Arc<TypedThread, Global>>
+    ensures { unshared result ≡ stage }
 {
     match stage {
-        None => Ok(None),
-        Some(stage) => {
-            let own = Box::new(alloc, stage)?;
-            Ok(Some(own))
-        }
+        None => None,
+        Some(stage) => Some(stage.into_arc()),
     }
 }
 
@@ -82,8 +80,12 @@ fn head_of(alloc: Global, unit: &Thread) -> Result<ThreadHead, OutOfMemory>
 }
 
 /// A thread program of these parts.
-fn with_head(head: ThreadHead, program: Program, stage: Option<Box<TypedThread>>) -> TypedThread
-    ensures tree { typed_thread_program result ≡ over_stage (unit_tree (Some head.name) head.parameters program) (option_map typed_thread_program (unboxed stage)) }
+fn with_head(
+    head: ThreadHead,
+    program: Program,
+    stage: Option<Arc<TypedThread, Global>>,
+) -> TypedThread
+    ensures tree { typed_thread_program result ≡ over_stage (unit_tree (Some head.name) head.parameters program) (option_map typed_thread_program (unshared stage)) }
     ensures program { (out-TypedThread result).program ≡ program }
 {
     TypedThread {
@@ -95,13 +97,13 @@ fn with_head(head: ThreadHead, program: Program, stage: Option<Box<TypedThread>>
 }
 
 /// A thread program of what it becomes without its name and its parameters.
-fn thread_of(alloc: Global, head: ThreadHead, typed: TypedData) -> Result<TypedThread, OutOfMemory>
+fn thread_of(head: ThreadHead, typed: TypedData) -> TypedThread
     ensures { (tables : TableColumns) (before : UnitsBefore) (t : ThreadSource) → IsHeadOf t head → IsStagedProgram tables before (unit_of_thread t) typed
-        → IfOk result (IsTypedThread tables before (unit_of_thread t)) }
+        → IsTypedThread tables before (unit_of_thread t) result }
 {
     let TypedData { program, stage } = typed;
-    let stage = boxed(alloc, stage)?;
-    Ok(with_head(head, program, stage))
+    let stage = arc_of(stage);
+    with_head(head, program, stage)
 }
 
 /// What a thread program of these names becomes, as [`check`] says of a data program.
@@ -122,7 +124,7 @@ pub fn check_thread(
         Err(refusal) => Ok(Err(refusal)),
         Ok(program) => {
             let head = head_of(alloc, unit)?;
-            let thread = thread_of(alloc, head, program)?;
+            let thread = thread_of(head, program);
             Ok(Ok(thread))
         }
     }

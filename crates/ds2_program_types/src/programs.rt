@@ -23,11 +23,10 @@ use crate::unit_tables::unit_tables;
 use ds2_base::{OutOfMemory, Refusal};
 use ds2_instance_types::TypedInstances;
 use ds2_known_types::KnownTypes;
-use ds2_meaning::{MentionedTable, Program, TypeKind, TypedData, TypedThread};
+use ds2_meaning::{MentionedTable, Program, Shared, TypeKind, TypedData, TypedThread};
 use ds2_names::NamedSchema;
 use ds2_scope::{Unit, UnitNames};
 use ds2_simple_statement_types::parts::{Both, of_both};
-use ds2_typed_copies::thread_copy;
 use std::alloc::Global;
 
 /// The instances and the methods of a program, or the one of the rules of types that it breaks that is given.
@@ -66,18 +65,17 @@ fn typed_program(
     }
 }
 
-/// A copy of the thread program that is read from.
-fn stage_copy(
-    alloc: Global,
-    stage: Option<&TypedThread>,
-) -> Result<Option<TypedThread>, OutOfMemory>
-    ensures { IfOk result (λ copy. option_map typed_thread_program copy ≡ option_map typed_thread_program (option_copied stage.entry)) }
+/// The thread program that is read from, with one owner more.
+fn shared_stage(
+    stage: Option<&Shared<TypedThread>>,
+) -> Result<Option<Shared<TypedThread>>, OutOfMemory>
+    ensures { IfOk result (λ own. own ≡ option_copied stage.entry) }
 {
     match stage {
         None => Ok(None),
         Some(stage) => {
-            let copy = thread_copy(alloc, stage)?;
-            Ok(Some(copy))
+            let own = stage.share()?;
+            Ok(Some(own))
         }
     }
 }
@@ -88,7 +86,7 @@ fn with_stage(
     made: &[MentionedTable],
     known: &KnownTypes<'_>,
     unit: UnitAtHand<'_, '_>,
-    stage: Option<&TypedThread>,
+    stage: Option<&Shared<TypedThread>>,
 ) -> Result<Result<TypedData, Refusal<TypeKind>>, OutOfMemory>
     ensures { (before : UnitsBefore) → TellsTypes known.now before → before.names.made ≡ made.now → IsAtHand before unit.entry → is_package (source_at_hand unit.entry).kind ≡ false
         → option_map typed_thread_program (option_copied stage.entry) ≡ unit_stage (columns_at_hand unit.entry) before (source_at_hand unit.entry)
@@ -98,11 +96,8 @@ fn with_stage(
     match typed {
         Err(refusal) => Ok(Err(refusal)),
         Ok(program) => {
-            let copy = stage_copy(alloc, stage)?;
-            Ok(Ok(TypedData {
-                program,
-                stage: copy,
-            }))
+            let stage = shared_stage(stage)?;
+            Ok(Ok(TypedData { program, stage }))
         }
     }
 }

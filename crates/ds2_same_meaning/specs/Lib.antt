@@ -9,4 +9,5 @@ pub use Rattle.ds2_meaning.specs.Reading
 pub use Rattle.ds2_program_code.specs.CodeParts
 pub use Rattle.ds2_program_code.specs.ProgramCode
 pub use Rattle.ds2_same_answer.specs.SameAnswer
+pub use Rattle.ds2_unit.specs.Outputs
 pub use Rattle.ds2_unit.specs.UnitsRun

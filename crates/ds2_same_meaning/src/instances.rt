@@ -37,7 +37,7 @@ fn read_program(program: &TypedData)
     read_names(program.program.threads.as_slice());
     match &program.stage {
         None => {}
-        Some(thread) => read_thread(thread),
+        Some(thread) => read_thread(thread.get()),
     }
 }
 

@@ -42,7 +42,7 @@ use Rattle.ds2_answer.specs.TablePlans.{read_file, read_tables}
 use Rattle.ds2_answer.specs.Words.{is_source}
 use Rattle.ds2_exec.specs.CodeRuns.{AreLinked, HasColumnsStored}
 use Rattle.ds2_exec.specs.VerdictGrains.{VerdictGrainsFit}
-use Rattle.ds2_local_stages.specs.LocalStages.{StagesAreIndependent}
+use Rattle.ds2_compile.specs.LocalStages.{StagesAreIndependent}
 use Rattle.ds2_local_threads.specs.LocalThreads.{IndependentCodeGivesStages}
 use Rattle.ds2_verdicts.specs.OwnVerdicts.{ProgramsHaveVerdicts, StagesHaveVerdicts}
 use Rattle.ds2_verdicts.specs.SourceVerdicts.{source_verdicts}

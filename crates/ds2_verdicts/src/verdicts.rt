@@ -11,7 +11,7 @@ use ds2_base::{List, Name, OutOfMemory};
 use ds2_declared_types::names::name;
 use ds2_local::judge;
 use ds2_locality::Verdict;
-use ds2_meaning::TypedThread;
+use ds2_meaning::{Shared, TypedThread};
 use ds2_scope::{Instance, instances_of};
 use ds2_tree::{Source, SourcePart, Thread};
 use std::alloc::Global;
@@ -65,14 +65,14 @@ fn judge_next<'t>(
     alloc: Global,
     verdicts: &mut List<ThreadVerdict>,
     unit: &Thread,
-    threads: &'t [TypedThread],
-) -> Result<&'t [TypedThread], OutOfMemory>
+    threads: &'t [Shared<TypedThread>],
+) -> Result<&'t [Shared<TypedThread>], OutOfMemory>
     requires { AllByRecursion IsTyped threads.now }
     ensures tells { IfOk result (λ left. (parts : Items PartTree) → verdicts.new ++ verdicts_on parts left.now ≡ verdicts.old ++ verdicts_on (AThread (thread_tree unit.now) ∷ parts) threads.now) }
     ensures typed { IfOk result (λ left. AllByRecursion IsTyped left.now) }
 {
     if let [thread, others @ ..] = threads {
-        verdicts.push(verdict_on(alloc, unit, thread)?)?;
+        verdicts.push(verdict_on(alloc, unit, thread.get())?)?;
         Ok(others)
     } else {
         Ok(threads)
@@ -84,8 +84,8 @@ fn judge_part<'t>(
     alloc: Global,
     verdicts: &mut List<ThreadVerdict>,
     part: &SourcePart,
-    threads: &'t [TypedThread],
-) -> Result<&'t [TypedThread], OutOfMemory>
+    threads: &'t [Shared<TypedThread>],
+) -> Result<&'t [Shared<TypedThread>], OutOfMemory>
     requires { AllByRecursion IsTyped threads.now }
     ensures tells { IfOk result (λ left. (parts : Items PartTree) → verdicts.new ++ verdicts_on parts left.now ≡ verdicts.old ++ verdicts_on (part_tree part.now ∷ parts) threads.now) }
     ensures typed { IfOk result (λ left. AllByRecursion IsTyped left.now) }
@@ -104,7 +104,7 @@ fn judge_part<'t>(
 pub fn judge_threads(
     alloc: Global,
     source: &Source,
-    threads: &[TypedThread],
+    threads: &[Shared<TypedThread>],
 ) -> Result<List<ThreadVerdict>, OutOfMemory>
     requires { AllByRecursion IsTyped threads.now }
     ensures { IfOk result (λ verdicts. verdicts ≡ verdicts_on (source_tree source.now) threads.now) }

@@ -1,5 +1,6 @@
 use Rattle.std.proofs.Common.{List, [], Some, ap, ◌∙◌}
 use Rattle.ds2_meaning.specs.declared.hashes.DeclaredIterator.{DeclaredIterator}
+use Rattle.ds2_meaning.specs.declared.units.TypedPackage.{TypedPackage}
 use Rattle.ds2_meaning.specs.Location.{Location, is_same_location}
 use Rattle.ds2_meaning.specs.View.{instance_tree, objects_tree}
 use Rattle.ds2_placement.specs.PlacedProgram.{iterators_at}
@@ -14,5 +15,6 @@ instances-preserved c =
     let test = λ (other : Location). is_same_location (location_sought c.args.sought.now) other in
     let x = c.instance-item.result in
     let s = c.instances.search in
-    let is = c.in_ok-search.ensures ∙ ap (λ (l : List DeclaredIterator). search_by test (iterators_at (Some x.name) (objects_tree [] l)) s) c.as_slice-iterators.ensures in
+    let is = c.in_ok-search.ensures ∙ ap (λ (l : List DeclaredIterator). search_by test (iterators_at (Some x.name) (objects_tree [] l)) s) c.as_slice-iterators.ensures
+    ∙ ap (λ (p : TypedPackage). search_by test (iterators_at (Some x.name) (objects_tree [] p.iterators)) s) c.get.ensures in
     mapped_list_searched test instance_tree instance_iterators c.args.instances.now c.instances.instance-index x s c.in_ok-search.search _ c.instances-test.true c.instance-item.is is c.instances.invariant

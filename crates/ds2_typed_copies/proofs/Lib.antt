@@ -1,2 +1,0 @@
-pub mod StatementTrees
-pub mod ProgramTrees
