@@ -4,3 +4,4 @@ pub mod SteadyUnitLaws
 pub mod SourceLaws
 pub mod SymbolPromises
 pub mod MethodSteps
+pub mod PackageSteps

@@ -1,5 +1,5 @@
 -- A function that gives what the rule of a symbol does keeps the promise of the symbol.
-use Rattle.std.proofs.Common.{◌≡◌, ℕ, suc, ◌≤◌, ◌<◌, List, [], ◌∷◌, length, Result, None, refl, sym, ap, ◌∙◌, arith}
+use Rattle.std.proofs.Common.{◌≡◌, ℕ, suc, ◌≤◌, ◌<◌, List, [], ◌∷◌, length, Result, None, refl, sym, ap, ◌∙◌, subst, arith}
 use Rattle.std.proofs.lemmas.List.{append-nil}
 use Rattle.ds2_base.specs.declared.place.Place.{Place}
 use Rattle.ds2_base.specs.declared.place.Refusal.{Refusal}
@@ -7,6 +7,7 @@ use Rattle.ds2_base.specs.declared.stop.Stop.{Stop}
 use Rattle.ds2_token.specs.declared.token.Token.{Token}
 use Rattle.ds2_grammar.specs.declared.kind.ParseKind.{ParseKind}
 use Rattle.ds2_grammar.specs.Parsers.{ParserOutcome, Read, Unexpected, and_then, peek}
+use Rattle.ds2_grammar.specs.Acceptance.{Answers}
 use Rattle.ds2_grammar.specs.Promise.{Gives, Fails, Promises, SaysOfText}
 use Rattle.ds2_grammar.proofs.Goes.{goes}
 use Rattle.ds2_grammar.proofs.Words.{sym as symbol}
@@ -63,6 +64,10 @@ source_read n ts s r h e = ap (λ (o : ParserOutcome (List SourcePart)). and_the
     ended : (r : List Token) → length r ≡ 0 → peek (at_the_end s) r ≡ Read s []
     ended [] h = refl
     ended (t ∷ r) h = absurd (omega (arith, h))
+
+-- they are the tree that the tokens spell
+pub source_accepted : (n : ℕ) (ts : List Token) (s : List SourcePart) (r : List Token) → parts_rule (suc (length ts)) n ts ≡ Read s r → length r ≡ 0 → Answers source_symbol n ts (Read s [])
+source_accepted n ts s r h e = subst (Answers source_symbol n ts) (source_read n ts s r h e) (sources_exactly.answers n ts)
 
 -- before any other token nothing goes on
 pub source_trails : (n : ℕ) (ts : List Token) (s : List SourcePart) (r : List Token) → parts_rule (suc (length ts)) n ts ≡ Read s r → 0 < length r → parse_source n ts ≡ Unexpected r

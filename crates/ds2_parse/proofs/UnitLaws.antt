@@ -1,13 +1,14 @@
 -- The laws of output tables, units and the parts of a source.
-use Rattle.std.proofs.Common.{◌≡◌, ℕ, true, false, codes, List, [], ◌∷◌, ◌++◌, Option, None, refl, ap, ap₂, ◌∙◌, arith}
+use Rattle.std.proofs.Common.{◌≡◌, ℕ, ◌+◌, true, false, codes, List, [], ◌∷◌, ◌++◌, length, Option, None, refl, ap, ap₂, ◌∙◌, subst, arith, length-append}
 use Rattle.std.specs.List.{list_any}
 use Rattle.std.specs.Str.{bytes_eq}
 use Rattle.ds2_base.specs.declared.place.Place.{Place}
 use Rattle.ds2_token.specs.declared.token.Token.{Token}
 use Rattle.ds2_token.specs.Words.{is_word, is_name_token, is_package_name, is_table}
 use Rattle.ds2_grammar.specs.Levels.{first_opened}
-use Rattle.ds2_grammar.specs.Parsers.{Parser, Either, One, Two, first, kept, when, choose_by, to, seq, many_of, optional}
-use Rattle.ds2_grammar.proofs.Words.{Part, Law, Passes, kept_law, to_law, choice_part, then_part, kept_part, flat, flat_opens, each, many_law}
+use Rattle.ds2_grammar.specs.Parsers.{Read, Parser, Either, One, Two, first, kept, when, choose_by, to, seq, many_of, optional}
+use Rattle.ds2_grammar.proofs.Rules.{Rule}
+use Rattle.ds2_grammar.proofs.Words.{sym as symbol, Part, Law, Passes, kept_law, to_law, choice_part, then_part, kept_part, flat, flat_opens, each, many_law}
 use Rattle.ds2_tree.specs.declared.units.OutputOption.{OutputOption}
 use Rattle.ds2_tree.specs.declared.units.OutputOption.TheVariants as option
 use Rattle.ds2_tree.specs.declared.units.Renaming.{Renaming}
@@ -206,6 +207,12 @@ module _ (m n : ℕ) where
       (word_then (codes "package") refl (kept_then is_package_name (word_token (codes "x"), refl) (mark_then (codes ";") refl (unit_body_law m n (codes "endpackage") refl refl))))
       package_of (λ u. (u.keyword, (u.name, (u.semicolon, (u.globals, (u.end_keyword, u.end))))))
       (λ u f. refl) (λ a. refl) (λ a. refl) (λ a f. (f.0, f.1.0, f.1.1.1.0, f.1.1.1.1.0)) (λ u f. (f.0, (f.1, (tt, (f.2, (f.3, tt, tt), tt), tt), tt), tt)) (λ x o f h. tt) (λ x o f h. tt)
+
+  -- the tokens of a package are those that were read
+  pub package_read : (ts r : List Token) (u : Package) → package_rule m n ts ≡ Read u r → length ts ≡ length (package_spelling u) + length r
+  package_read ts r u reads =
+      let h : Rule (symbol (package_part n)) m [] ts (Read u r) = subst (Rule (symbol (package_part n)) m [] ts) reads (package_law.rule ts) in
+      omega (arith, ap length h.1, length-append h.0 r, ap length h.2)
 
   thread_law : Law m n (thread_part n) (thread_rule m n)
   thread_law =

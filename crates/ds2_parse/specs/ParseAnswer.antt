@@ -7,7 +7,7 @@ use Rattle.ds2_token.specs.declared.token.Token.{Token}
 use Rattle.ds2_grammar.specs.declared.kind.ParseKind.{ParseKind}
 use Rattle.ds2_grammar.specs.Acceptance.{Symbol, Exactly}
 use Rattle.ds2_grammar.specs.Promise.{SaysOfText}
-use Rattle.ds2_tree.specs.declared.units.Source.{Source}
+use Rattle.ds2_tree.specs.declared.source.Source.{Source}
 use Rattle.ds2_tree.specs.Globals.{GlobalItem, global_spelling, IsGlobal, global_opens}
 use Rattle.ds2_tree.specs.Units.{SourcePart, part_spelling, IsPart, part_opens, source_spelling, IsSource, source_opens}
 use Rattle.ds2_tree.specs.UnitViews.{source_tree}

@@ -26,7 +26,10 @@ pub fn parse(
 {
     let (parts, rest) = parts(alloc, tokens.as_slice(), end, MOST_LEVELS)?;
     match rest {
-        [] => Ok(Source { parts }),
+        [] => Ok(Source {
+            parts,
+            tokens: tokens.len(),
+        }),
         [..] => Err(unexpected(rest, end)),
     }
 }

@@ -64,6 +64,7 @@ fn package(alloc: Global, tokens: &[Token], end: Place, levels: u64) -> Parsed<'
         globals: body.globals,
         end_keyword: body.end_keyword,
         end: body.end,
+        tokens: tokens.len() - rest.len(),
     };
     Ok((package, rest))
 }

@@ -3,7 +3,7 @@ ghost use Rattle.std.specs.Prelude.{◌≡◌, ◌-◌, ◌||◌, [], ℕ, lengt
 ghost use Rattle.std.specs.Cmp.Lexicographic.{pointwise};
 ghost use Rattle.std.specs.HashSet.{contains};
 ghost use Rattle.ds2_tree.specs.UnitViews.{global_tree, package_tree, thread_tree, data_tree, source_tree};
-ghost use Rattle.ds2_tree.specs.Units.{SourcePart, APackage, AThread, AData, package_spelling, source_spelling};
+ghost use Rattle.ds2_tree.specs.Units.{SourcePart, APackage, AThread, AData, source_spelling};
 ghost use Rattle.ds2_meaning.specs.ProgramTree.{is_listed};
 ghost use Rattle.ds2_names.specs.NameRules.{columns_left};
 ghost use Rattle.ds2_names.specs.SourceLimits.{BeforeUnit, before_all, behind_part, beyond_source_limits, unit_place};
@@ -146,14 +146,6 @@ pub(crate) fn enter_unit(
     Ok(earlier_of(earlier_of(first, counted.beyond), tables))
 }
 
-// How many tokens a source has.
-fn token_count(alloc: Global, source: &Source) -> Result<usize, OutOfMemory>
-    ensures { IfOk result (λ tokens. tokens ≡ length (source_spelling (source_tree source.now))) }
-{
-    let tokens = source.spelling(alloc)?;
-    Ok(tokens.len())
-}
-
 impl UnitsBefore {
     // What stands before the first unit of a source with so many tokens.
     fn new(alloc: Global, tokens: usize) -> Self
@@ -171,11 +163,10 @@ impl UnitsBefore {
     }
 
     /// What stands before the first unit of a source.
-    pub fn of_source(alloc: Global, source: &Source) -> Result<Self, OutOfMemory>
-        ensures { IfOk result (λ before. TellsOfUnits before (before_all (source_tree source.now))) }
+    pub fn of_source(alloc: Global, source: &Source) -> Self
+        ensures { TellsOfUnits result (before_all (source_tree source.now)) }
     {
-        let tokens = token_count(alloc, source)?;
-        Ok(UnitsBefore::new(alloc, tokens))
+        UnitsBefore::new(alloc, source.tokens)
     }
 
     /// Moves behind a data program whose mentions and tokens are there. Answers want of memory, too, beyond 2^32 - 1 programs.
@@ -192,19 +183,13 @@ impl UnitsBefore {
         Ok(())
     }
 
-    /// Moves behind a package of so many tokens whose mentions and tokens are there. Answers want of memory, too, beyond 2^32 - 1 packages.
-    pub(crate) fn enter_package(
-        &mut self,
-        alloc: Global,
-        unit: &Package,
-        tokens: usize,
-    ) -> Result<(), OutOfMemory>
-        requires { tokens ≡ length (package_spelling (package_tree unit.now)) }
+    /// Moves behind a package whose mentions and tokens are there. Answers want of memory, too, beyond 2^32 - 1 packages.
+    pub(crate) fn enter_package(&mut self, alloc: Global, unit: &Package) -> Result<(), OutOfMemory>
         ensures { OnOk result ((tables : TableColumns) (units : BeforeUnit) → TellsOfUnits self.old (behind_mentions (unit_of_package (package_tree unit.now)) units) → TellsOfUnits self.new (behind_part tables (APackage (package_tree unit.now)) units)) }
     {
         let name = spelled_name(alloc, &unit.name)?;
         self.calls.add_package(alloc, unit)?;
-        self.known.add_package(name, tokens)?;
+        self.known.add_package(name, unit.tokens)?;
         Ok(())
     }
 

@@ -1,7 +1,7 @@
 //! The refusal of a unit's names.
-ghost use Rattle.std.specs.Prelude.{◌≡◌, IfOk, OnOk, length};
+ghost use Rattle.std.specs.Prelude.{◌≡◌, IfOk, OnOk};
 ghost use Rattle.ds2_tree.specs.UnitViews.{package_tree, thread_tree, data_tree};
-ghost use Rattle.ds2_tree.specs.Units.{APackage, AThread, AData, package_spelling};
+ghost use Rattle.ds2_tree.specs.Units.{APackage, AThread, AData};
 ghost use Rattle.ds2_names.specs.SourceLimits.{BeforeUnit, behind_part, scope_refusal};
 ghost use Rattle.ds2_names.specs.SourceUnit.{columns_stored, source_instances, names_of_unit, unit_of_package, unit_of_thread, unit_of_data};
 ghost use Rattle.ds2_scope.specs.CodeUnits.{unit_source, instances_in_source};
@@ -108,15 +108,13 @@ pub fn resolve(
     Ok(refusal)
 }
 
-/// The refusal of the names of a package of so many tokens, likewise. The package stands among those before then.
+/// The refusal of the names of a package, likewise. The package stands among those before then.
 pub fn resolve_package(
     alloc: Global,
     tables: &[NamedSchema],
     before: &mut UnitsBefore,
     unit: &Package,
-    tokens: usize,
 ) -> Result<Option<Refusal<ScopeKind>>, OutOfMemory>
-    requires { tokens ≡ length (package_spelling (package_tree unit.now)) }
     ensures refusal { IfOk result (λ refusal. (units : BeforeUnit) → TellsOfUnits before.old units → refusal ≡ scope_refusal (columns_stored tables.now) units (unit_of_package (package_tree unit.now))) }
     ensures behind { OnOk result ((units : BeforeUnit) → TellsOfUnits before.old units → TellsOfUnits before.new (behind_part (columns_stored tables.now) (APackage (package_tree unit.now)) units)) }
 {
@@ -125,7 +123,7 @@ pub fn resolve_package(
     let instances = instances.as_slice();
     let names = names_of_unit(alloc, tables, &before.known, instances, all)?;
     let refusal = refusal_of_unit(alloc, tables, before, &names, instances, all)?;
-    before.enter_package(alloc, unit, tokens)?;
+    before.enter_package(alloc, unit)?;
     Ok(refusal)
 }
 

@@ -6,7 +6,7 @@ use Rattle.ds2_base.specs.declared.place.Place.{Place}
 use Rattle.ds2_base.specs.declared.stop.Stop.{Stop}
 use Rattle.ds2_token.specs.Standing.{StandsFor}
 use Rattle.ds2_token.specs.declared.token.Token.{Token}
-use Rattle.ds2_tree.specs.declared.units.Source.{Source}
+use Rattle.ds2_tree.specs.declared.source.Source.{Source}
 use Rattle.ds2_tree.specs.UnitViews.{source_tree}
 use Rattle.ds2_source.specs.SourceAnswer.{GivesAnswerForTokens}
 use Rattle.ds2_source.specs.SourceTexts.{StandsInText}

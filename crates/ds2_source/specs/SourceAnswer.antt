@@ -11,7 +11,7 @@ use Rattle.ds2_token.specs.Standing.{StandsFor, IsFirstRefusal, end_place}
 use Rattle.ds2_grammar.specs.Acceptance.{Answers}
 use Rattle.ds2_grammar.specs.Parsers.{Read}
 use Rattle.ds2_grammar.specs.Promise.{Said}
-use Rattle.ds2_tree.specs.declared.units.Source.{Source}
+use Rattle.ds2_tree.specs.declared.source.Source.{Source}
 use Rattle.ds2_tree.specs.Units.{SourcePart}
 use Rattle.ds2_tree.specs.UnitViews.{source_tree}
 use Rattle.ds2_parse.specs.ParseAnswer.{source_symbol, most_levels}

@@ -7,5 +7,8 @@ pub mod Globals
 pub mod Units
 pub mod ExpressionViews
 pub mod StatementViews
+pub mod GlobalViews
+pub mod PackageParts
+pub mod PartViews
 pub mod UnitViews
 pub mod Examples

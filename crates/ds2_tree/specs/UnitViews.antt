@@ -1,59 +1,9 @@
 -- The trees of the methods, units and sources that the code holds.
 use Rattle.std.specs.Prelude.{List, map}
-use Rattle.ds2_tree.specs.declared.globals.Method as code_method
-use Rattle.ds2_tree.specs.declared.globals.GlobalItem as code_global
-use Rattle.ds2_tree.specs.declared.globals.GlobalItem.TheVariants as global
-use Rattle.ds2_tree.specs.declared.units.Package as code_package
-use Rattle.ds2_tree.specs.declared.units.Thread as code_thread
-use Rattle.ds2_tree.specs.declared.units.DataProgram as code_data
-use Rattle.ds2_tree.specs.declared.units.SourcePart as code_part
-use Rattle.ds2_tree.specs.declared.units.SourcePart.TheVariants as part
-use Rattle.ds2_tree.specs.declared.units.Source as code
-use Rattle.ds2_tree.specs.Globals.{Method, GlobalItem, Declared, Listed, Defined}
-use Rattle.ds2_tree.specs.Units.{Package, Thread, DataProgram, SourcePart, Proc, Run, Quit, APackage, AThread, AData}
-use Rattle.ds2_tree.specs.StatementViews.{statements_of}
-
--- the tree of a method
-abbrev pub method_tree : code_method.Method → Method
-method_tree m = record {
-  keyword = m.keyword;
-  name = m.name;
-  parameters = m.parameters;
-  returns = m.returns;
-  semicolon = m.semicolon;
-  locals = m.locals;
-  reading = m.reading;
-  body = statements_of m.body;
-  end_keyword = m.end_keyword;
-  end = m.end;
-}
-
--- the tree of a declaration, a list of names, or a method
-abbrev pub global_tree : code_global.GlobalItem → GlobalItem
-global_tree (global.Declaration d) = Declared d
-global_tree (global.Listed keyword names end) = Listed keyword names end
-global_tree (global.Method m) = Defined (method_tree m)
-
--- the tree of a package
-abbrev pub package_tree : code_package.Package → Package
-package_tree u = record { keyword = u.keyword; name = u.name; semicolon = u.semicolon; globals = map global_tree u.globals; end_keyword = u.end_keyword; end = u.end }
-
--- the tree of a thread program
-abbrev pub thread_tree : code_thread.Thread → Thread
-thread_tree u = record { keyword = u.keyword; name = u.name; parameters = u.parameters; semicolon = u.semicolon; globals = map global_tree u.globals; end_keyword = u.end_keyword; end = u.end }
-
--- the tree of a data program
-abbrev pub data_tree : code_data.DataProgram → DataProgram
-data_tree u = record { keyword = u.keyword; outputs = u.outputs; semicolon = u.semicolon; globals = map global_tree u.globals; end_keyword = u.end_keyword; end = u.end }
-
--- the tree of a part of a source
-abbrev pub part_tree : code_part.SourcePart → SourcePart
-part_tree (part.Proc keyword ds2 end) = Proc keyword ds2 end
-part_tree (part.Run keyword end) = Run keyword end
-part_tree (part.Quit keyword end) = Quit keyword end
-part_tree (part.Package u) = APackage (package_tree u)
-part_tree (part.Thread u) = AThread (thread_tree u)
-part_tree (part.Data u) = AData (data_tree u)
+use Rattle.ds2_tree.specs.declared.source.Source as code
+use Rattle.ds2_tree.specs.Units.{SourcePart}
+pub use Rattle.ds2_tree.specs.GlobalViews.{method_tree, global_tree}
+pub use Rattle.ds2_tree.specs.PartViews.{package_tree, thread_tree, data_tree, part_tree}
 
 -- the tree of a source
 abbrev pub source_tree : code.Source → List SourcePart

@@ -3,3 +3,4 @@ pub mod SourceOutcomes
 pub mod SourceThreads
 pub mod TablesBehind
 pub mod TypedSoFar
+pub use Rattle.ds2_program_types.specs.TypedPrograms

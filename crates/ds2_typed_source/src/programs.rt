@@ -11,7 +11,7 @@ ghost use Rattle.ds2_typed_source.specs.SourceThreads.{AreThreadsOfSource};
 use crate::typed_so_far::TypedSoFar;
 use ds2_base::{List, Stop};
 use ds2_elaboration::laws::tokens_stand_in_order;
-use ds2_meaning::{TypedData, TypedThread};
+use ds2_meaning::{Shared, TypedData, TypedThread};
 use ds2_names::Schemas;
 use ds2_source::SourceRefusal;
 use ds2_tree::Source;
@@ -23,7 +23,7 @@ pub struct TypedSource {
     /// Its data programs, in order, each with the thread program that it reads from.
     pub programs: List<TypedData>,
     /// Its thread programs, in order, whether a program reads from them or not.
-    pub threads: List<TypedThread>,
+    pub threads: List<Shared<TypedThread>>,
 }
 
 /// What a source becomes, over the columns of tables of the store and of those that earlier programs make: its typed programs, or its first

@@ -79,7 +79,7 @@ impl<'s> TypedSoFar<'s> {
         ensures known { (units : UnitTypes) → units.packages ≡ [] → units.threads ≡ [] → IfOk result (λ t. TellsTypes t.known units) }
         ensures threads { IfOk result (λ t. t.known.threads ≡ []) }
     {
-        let before = UnitsBefore::of_source(alloc, source)?;
+        let before = UnitsBefore::of_source(alloc, source);
         let tables = copied(alloc, tables)?;
         Ok(TypedSoFar {
             before,
@@ -203,7 +203,7 @@ impl<'s> TypedSoFar<'s> {
             tables.as_slice(),
             unit,
         )?;
-        let all = known.with_package(unit, own)?;
+        let all = known.with_package(alloc, unit, own)?;
         Ok(TypedSoFar {
             before: names,
             known: all,
@@ -242,7 +242,7 @@ impl<'s> TypedSoFar<'s> {
             tables.as_slice(),
             unit,
         )?;
-        let all = known.with_thread(own)?;
+        let all = known.with_thread(alloc, own)?;
         Ok(TypedSoFar {
             before: names,
             known: all,

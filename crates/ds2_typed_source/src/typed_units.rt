@@ -61,8 +61,7 @@ pub(crate) fn typed_package(
     ensures behind { OnOk result ((units : BeforeUnit) → TellsOfUnits before.old units → TellsOfUnits before.new (behind_part (columns_stored tables.now) (APackage (package_tree unit.now)) units)) }
 {
     let names = unit_names(alloc, tables, &before.known, unit_of_package(unit))?;
-    let tokens = unit.spelling(alloc)?.len();
-    match resolve_package(alloc, tables, before, unit, tokens)? {
+    match resolve_package(alloc, tables, before, unit)? {
         Some(refusal) => Err(Stop::Refused(of_names(refusal))),
         None => match check_package(alloc, tables, made, &names, known, unit)? {
             Ok(typed) => Ok(typed),

@@ -1,11 +1,11 @@
-use Rattle.std.proofs.Common.{◌≡◌, suc, length, List, [], map, Ok, Err, sym, subst, arith}
+use Rattle.std.proofs.Common.{◌≡◌, suc, length, List, [], map, Err, sym, ap, subst, arith}
 use Rattle.ds2_grammar.specs.Parsers.{Read}
 use Rattle.ds2_grammar.specs.Promise.{Fails}
 use Rattle.ds2_tree.specs.Units.{SourcePart}
 use Rattle.ds2_tree.specs.UnitViews.{part_tree, source_tree}
 use Rattle.ds2_parse_rules.specs.UnitGrammar.{parts_rule, parse_source}
 use Rattle.ds2_parse_rules.proofs.RuleSteps.{exit, fails_unexpected}
-use Rattle.ds2_parse.proofs.SymbolPromises.{source_said, source_fails, source_read, source_trails}
+use Rattle.ds2_parse.proofs.SymbolPromises.{source_said, source_fails, source_accepted, source_trails}
 use Rattle.ds2_parse.proofs.source.parse.Goals as goal
 
 pub returns-in_err-parts : goal.returns-in_err-parts
@@ -17,10 +17,14 @@ returns-in_err-parts c =
 
 pub returns-in-empty : goal.returns-in-empty
 returns-in-empty c =
-    let end = c.args.end in let ts = c.args.tokens.now in let parts = map part_tree c.in_ok-parts.parts in let rest = c.in_ok-parts.rest.now in
-    source_said source_tree 64 end ts (Ok (record { parts = c.in_ok-parts.parts }))
-    (source_read 64 ts parts rest (subst (λ l. parts_rule (suc (length l)) 64 l ≡ Read parts rest) c.as_slice.ensures (c.in_ok-parts.ensures.exact (suc (length c.as_slice.result.now)) (omega arith)))
-    (omega (arith, c.in-empty.len_below)))
+    let ts = c.args.tokens.now in let parts = map part_tree c.in_ok-parts.parts in let rest = c.in_ok-parts.rest.now in
+    source_accepted 64 ts parts rest (subst (λ l. parts_rule (suc (length l)) 64 l ≡ Read parts rest) c.as_slice.ensures (c.in_ok-parts.ensures.exact (suc (length c.as_slice.result.now)) (omega arith))) (omega (arith, c.in-empty.len_below))
+
+pub invariant_of-result : goal.invariant_of-result
+invariant_of-result c =
+    let ts = c.args.tokens.now in let parts = map part_tree c.in_ok-parts.parts in let rest = c.in_ok-parts.rest.now in
+    let accepted = source_accepted 64 ts parts rest (subst (λ l. parts_rule (suc (length l)) 64 l ≡ Read parts rest) c.as_slice.ensures (c.in_ok-parts.ensures.exact (suc (length c.as_slice.result.now)) (omega arith))) (omega (arith, c.in-empty.len_below)) in
+    let counted = ap length accepted.2 in omega (arith, counted)
 
 pub returns-in_default : goal.returns-in_default
 returns-in_default c =

@@ -10,6 +10,6 @@ returns c = λ tables units kept.
     let u = package_tree c.args.unit.now in
     let p : KnownPackage = record { name = spelled_name u.name; methods = source_methods u.globals; tokens = length (package_spelling u) } in
     package_behind c.args.self.now _ units u tables kept
-    (c.in_ok-add_package-2.ensures units.known p kept.known (sym c.in_ok-name.ensures) (sym c.requires))
+    (c.in_ok-add_package-2.ensures units.known p kept.known (sym c.in_ok-name.ensures) (sym c.args.unit.now.counted))
     (c.in_ok-add_package.ensures units.known p refl refl kept.calls)
     refl refl refl refl refl
