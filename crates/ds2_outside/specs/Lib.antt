@@ -3,4 +3,5 @@ pub mod Causes
 pub mod Files
 pub mod LogView
 pub mod Memory
+pub mod Tears
 pub mod Written

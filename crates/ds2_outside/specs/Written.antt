@@ -12,3 +12,9 @@ abbrev pub has_write_failed : {T : Type 0} → Result T WriteStop → Bool
 has_write_failed (Ok x) = false
 has_write_failed (Err Failed) = true
 has_write_failed (Err OutOfMemory) = false
+
+-- whether a write found no memory
+abbrev pub is_want_of_memory : {T : Type 0} → Result T WriteStop → Bool
+is_want_of_memory (Ok x) = false
+is_want_of_memory (Err Failed) = false
+is_want_of_memory (Err OutOfMemory) = true

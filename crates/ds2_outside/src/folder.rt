@@ -1,33 +1,54 @@
 //! The files of the current folder: an edge that is trusted, and tells nothing of what they hold.
 ghost use Rattle.std.specs.Prelude.{◌≡◌, ◌+◌, ◌^◌, ◌<◌, take, IfOk, IfSome};
 
+use crate::replacing::{Placing, is_there, replace_file};
 use crate::{Failed, ReadStop, Store, WriteStop};
-use ds2_base::{Bytes, List, Text};
+use ds2_base::{Bytes, List, OutOfMemory, Text};
 use std::alloc::Global;
+use std::fs::{Metadata, OpenFile};
 use std::io::{ErrorKind, Read};
 use std::rt::Files;
 use std::{fs, io};
 
-/// The files of the current folder.
+/// The files of the current folder. A file is written beside the one of its name and then takes its place; where the store was
+/// asked for the name and nothing had it, only if nothing has it still.
 #[derive(Drop)]
 pub struct FolderStore<'r, R: Files> {
     rt: &'r R,
+    // The names that nothing had when they were asked for, but for those written since.
+    absent: Vec<Text>,
     read_faults: u64,
     write_faults: u64,
 }
 
-impl<'r, R: Files> FolderStore<'r, R> {
-    /// The folder in which the program runs, with no fault counted.
+impl<'r, R: Files + AllocGlobal> FolderStore<'r, R> {
+    /// The folder in which the program runs, with no fault counted. Takes no memory.
     pub fn here(rt: &'r R) -> Self
         ensures reads { result.read_faults ≡ 0 }
         ensures writes { result.write_faults ≡ 0 }
     {
         FolderStore {
             rt,
+            absent: Vec::new(rt.alloc()),
             read_faults: 0,
             write_faults: 0,
         }
     }
+
+    // How a file of this name is put in its place.
+    fn placing(&self, name: &Text) -> Placing {
+        if self.absent.iter().any(|other| *other == *name) {
+            Placing::IfAbsent
+        } else {
+            Placing::Replacing
+        }
+    }
+}
+
+// Notes that nothing has this name.
+fn note_absent(alloc: Global, absent: &mut Vec<Text>, name: &Text) -> Result<(), OutOfMemory> {
+    absent.push(name.copy(alloc)?)?;
+    Ok(())
 }
 
 // Why a file gave no bytes, or not all of them, once it was there.
@@ -36,6 +57,31 @@ fn read_stop(error: io::Error) -> ReadStop {
         ErrorKind::OutOfMemory => ReadStop::OutOfMemory,
         _ => ReadStop::Failed,
     }
+}
+
+// Why a file was not written.
+fn write_stop(error: io::Error) -> WriteStop {
+    match error.kind() {
+        ErrorKind::OutOfMemory => WriteStop::OutOfMemory,
+        _ => WriteStop::Failed,
+    }
+}
+
+// Refuses what is no file with bytes of its own: a folder, a pipe, a device.
+fn require_file(metadata: Metadata) -> io::Result<()> {
+    if metadata.is_file() {
+        Ok(())
+    } else {
+        Err(io::Error::from(ErrorKind::InvalidInput))
+    }
+}
+
+// Opens a file to be read. The opening of a pipe would wait for a writer, so it is asked before what has the name.
+fn open_file<R: Files>(rt: &R, name: &str) -> io::Result<R::File> {
+    require_file(fs::metadata(rt, name)?)?;
+    let file = fs::open(rt, name)?;
+    require_file(file.metadata()?)?;
+    Ok(file)
 }
 
 // The first bytes of a reader, at most one more than `most`; no more are asked of it.
@@ -50,7 +96,7 @@ fn read_first<F: Read + Drop>(alloc: Global, file: F, most: u64) -> Result<Bytes
     }
 }
 
-impl<'r, R: Files> Store for FolderStore<'r, R> {
+impl<'r, R: Files + AllocGlobal> Store for FolderStore<'r, R> {
     ghost use Rattle.std.specs.Prelude.{None};
 
     ghost files = { λ s. None };
@@ -60,7 +106,7 @@ impl<'r, R: Files> Store for FolderStore<'r, R> {
     ghost write_faults = { λ s. s.write_faults };
 
     fn read(&mut self, alloc: Global, name: &Text, most: u64) -> Result<Bytes, ReadStop> {
-        let answer = match fs::open(self.rt, name.as_str()) {
+        let answer = match open_file(self.rt, name.as_str()) {
             Ok(file) => read_first(alloc, file, most),
             Err(error) if error.kind() == ErrorKind::NotFound => Err(ReadStop::Absent),
             Err(error) => Err(read_stop(error)),
@@ -72,22 +118,29 @@ impl<'r, R: Files> Store for FolderStore<'r, R> {
     }
 
     fn has(&mut self, name: &Text) -> Result<bool, Failed> {
-        match fs::exists(self.rt, name.as_str()) {
-            Ok(there) => Ok(there),
-            Err(_) => {
-                self.read_faults = self.read_faults.saturating_add(1);
-                Err(Failed)
+        match is_there(self.rt, name.as_str()) {
+            Ok(true) => return Ok(true),
+            Ok(false) => {
+                if note_absent(self.rt.alloc(), &mut self.absent, name).is_ok() {
+                    return Ok(false);
+                }
             }
+            Err(_) => {}
         }
+        self.read_faults = self.read_faults.saturating_add(1);
+        Err(Failed)
     }
 
-    // `fs::write` makes an error of a write that takes nothing of the bytes that are left.
-    fn write(&mut self, _alloc: Global, name: &Text, bytes: &Bytes) -> Result<(), WriteStop> {
-        match fs::write(self.rt, name.as_str(), bytes.as_slice()) {
-            Ok(()) => Ok(()),
-            Err(_) => {
+    fn write(&mut self, alloc: Global, name: &Text, bytes: &Bytes) -> Result<(), WriteStop> {
+        let placing = self.placing(name);
+        match replace_file(self.rt, alloc, name.as_str(), bytes.as_slice(), placing) {
+            Ok(()) => {
+                self.absent.retain(|other| *other != *name);
+                Ok(())
+            }
+            Err(error) => {
                 self.write_faults = self.write_faults.saturating_add(1);
-                Err(WriteStop::Failed)
+                Err(write_stop(error))
             }
         }
     }
