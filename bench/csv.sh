@@ -1,25 +1,23 @@
 #!/bin/sh
-# Times ds2_csv reading a table of four columns of mixed types and writing it again, beside Python's csv module copying the file
-# record by record, and mawk copying it field by field.
+# Times `ds2 run` copying a table of four columns of mixed types row by row, beside Python's csv module copying the file record by
+# record, and mawk copying it field by field.
 #
 # usage: bench/csv.sh [ROWS]
 #
 # At most 1,000,000 rows, which have as many cells as a table may have. Needs mawk (Debian's package mawk), Python 3 and GNU time
-# (Debian's package time) for the peak memory. Builds the program first where it is not built. Prints the wall time of each in
-# seconds, the best of five runs in turn, their ratios, the time within read_table and write_table, and the peak memory. The
-# outputs are compared.
+# (Debian's package time) for the peak memory. Prints the wall time of each in seconds, the best of five runs in turn, their ratios,
+# the time of a job that reads the same table and writes no row of it, and the peak memory. The outputs are compared.
 set -eu
 
 rows=${1:-1000000}
 top=$(cd "$(dirname "$0")/.." && pwd)
-crate=$top/crates/ds2_bench
-ours=$crate/out/ds2_bench
-if [ ! -x "$ours" ]; then
-    (cd "$crate" && rt run >/dev/null 2>&1)
-fi
+ours=$top/crates/ds2/out/ds2
 work=$(mktemp -d)
 trap 'rm -rf "$work"' EXIT
 cd "$work"
+"$top/ds2" --build
+echo 'data copy(overwrite=yes); method run(); set t; end; enddata;' >copy.ds2
+echo 'data none(overwrite=yes); method run(); set t; if null(id) then output; end; enddata;' >none.ds2
 
 mawk -v n="$rows" 'BEGIN {
     print "id,name,amount,city"
@@ -49,7 +47,8 @@ milliseconds() { # COMMAND..
     echo $(((to - from) / 1000000))
 }
 
-copy_ours() { "$ours" tables time >times; }
+copy_ours() { "$ours" run copy.ds2 >log; }
+read_ours() { "$ours" run none.ds2 >log; }
 copy_python() {
     python3 -c '
 import csv
@@ -63,11 +62,9 @@ time_ours=999999
 time_python=999999
 time_mawk=999999
 time_read=999999
-time_write=999999
 for turn in 1 2 3 4 5; do
     time_ours=$(best "$time_ours" "$(milliseconds copy_ours)")
-    time_read=$(best "$time_read" "$(sed 's/read \([0-9]*\) ms.*/\1/' times)")
-    time_write=$(best "$time_write" "$(sed 's/.*write \([0-9]*\) ms/\1/' times)")
+    time_read=$(best "$time_read" "$(milliseconds read_ours)")
     time_python=$(best "$time_python" "$(milliseconds copy_python)")
     time_mawk=$(best "$time_mawk" "$(milliseconds copy_mawk)")
 done
@@ -76,11 +73,11 @@ cmp t.csv mawk.csv
 head -n 1 copy.csv
 tail -n +2 t.csv >rows.csv
 tail -n +2 copy.csv | cmp - rows.csv
-peak=$(/usr/bin/time -f %M "$ours" tables time 2>&1 >/dev/null | tail -n 1 || echo '?')
+peak=$(/usr/bin/time -f %M "$ours" run copy.ds2 2>&1 >/dev/null | tail -n 1 || echo '?')
 mawk -v rows="$rows" -v bytes="$(wc -c <t.csv)" -v o="$time_ours" -v p="$time_python" -v m="$time_mawk" -v r="$time_read" \
-    -v w="$time_write" -v peak="$peak" 'BEGIN {
+    -v peak="$peak" 'BEGIN {
     printf "%d rows, %.1f MB\n", rows, bytes / 1000000
-    printf "ds2_csv %.3f s (read_table %.3f s, write_table %.3f s), peak memory %d KB\n", o / 1000, r / 1000, w / 1000, peak
+    printf "ds2 %.3f s, %.3f s without writing, peak memory %d KB\n", o / 1000, r / 1000, peak
     printf "python csv %.3f s, ratio %.2f\n", p / 1000, o / p
     printf "mawk %.3f s, ratio %.2f\n", m / 1000, o / m
 }'

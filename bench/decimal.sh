@@ -8,4 +8,4 @@ crate=$top/crates/ds2_bench
 if [ ! -x "$crate/out/ds2_bench" ]; then
     (cd "$crate" && rt run >/dev/null)
 fi
-"$crate/out/ds2_bench" decimals time | sed 's/ (-\{0,1\}[0-9]*)$//'
+"$crate/out/ds2_bench" time | sed 's/ (-\{0,1\}[0-9]*)$//'

@@ -1,5 +1,5 @@
 #!/usr/bin/env python3
-"""Works out the answers of ds2_load_cases anew, from the rules of BY order and of groups, and compares them with its stdout.
+"""Works out the answers of the loads of ds2_layer_cases anew, from the rules of BY order and of groups, and compares them with its stdout.
 
 usage: bench/load_cases.py [--write]
 
@@ -9,8 +9,9 @@ with the product. With --write it writes stdout.
 import csv
 import decimal
 import functools
-import pathlib
 import sys
+
+import layer_cases
 
 
 def value(text, ty):
@@ -132,9 +133,8 @@ def answers(block):
 
 
 def main():
-    folder = pathlib.Path(__file__).parent.parent / "crates" / "ds2_load_cases"
     out = []
-    for block in (folder / "stdin").read_text().split("\n\n"):
+    for block in layer_cases.read("stdin", "loads").split("\n\n"):
         block = block.rstrip()
         out.append(block)
         if not block.startswith("##"):
@@ -142,9 +142,9 @@ def main():
         out.append("")
     wanted = "\n".join(out) + "\n"
     if "--write" in sys.argv:
-        (folder / "stdout").write_text(wanted)
-    elif (folder / "stdout").read_text() != wanted:
-        sys.exit("the answers of crates/ds2_load_cases differ")
+        layer_cases.write("stdout", "loads", wanted)
+    elif layer_cases.read("stdout", "loads") != wanted:
+        sys.exit("the answers of the loads of crates/ds2_layer_cases differ")
     print(f"{sum(1 for b in wanted.split(chr(10) * 2) if b.strip() and not b.startswith('##'))} cases agree")
 
 

@@ -1,15 +1,13 @@
 #!/usr/bin/env python3
-"""Works the answers of the codes that crates/ds2_code_cases runs out anew from the machine's table, and compares them.
+"""Works the answers of the codes that crates/ds2_layer_cases runs out anew from the machine's table, and compares them.
 
 `machine_cases.py` compares the cases' stdout with the answers; `machine_cases.py --print` prints the answers. Nothing is shared with
 the product: numbers are Python's, and each instruction is written from its row of the table.
 """
-import os
 import re
 import sys
 
-TOP = os.path.dirname(os.path.dirname(os.path.abspath(__file__)))
-CASES = os.path.join(TOP, "crates", "ds2_code_cases")
+import layer_cases
 
 
 class Dec:
@@ -542,10 +540,8 @@ def is_run(block):
 
 
 def main():
-    with open(os.path.join(CASES, "stdin"), encoding="utf-8") as cases:
-        blocks = [block.rstrip() for block in cases.read().split("\n\n")]
-    with open(os.path.join(CASES, "stdout"), encoding="utf-8") as given:
-        told = given.read().rstrip("\n").split("\n\n")
+    blocks = [block.rstrip() for block in layer_cases.read("stdin", "codes").split("\n\n")]
+    told = layer_cases.read("stdout", "codes").rstrip("\n").split("\n\n")
     if len(told) != len(blocks):
         sys.exit(f"{len(blocks)} blocks have {len(told)} answers")
     run = [(answer, "\n".join(answered(block))) for block, answer in zip(blocks, told) if is_run(block)]

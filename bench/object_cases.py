@@ -1,16 +1,15 @@
 #!/usr/bin/env python3
-"""Works the answers of crates/ds2_object_cases out anew from the lines of the format, and compares them.
+"""Works the answers of the objects of crates/ds2_layer_cases out anew from the lines of the format, and compares them.
 
-`object_cases.py` compares the cases' stdin and stdout with what it works out; `object_cases.py --write` writes both; `object_cases.py
+`object_cases.py` compares that section of its stdin and stdout with what it works out; `object_cases.py --write` writes both; `object_cases.py
 --times` prints the stdin by which objects.sh takes times. Nothing is shared with the product. A second reader of the format, written
 from its lines alone (docs/OBJECT.md), gives the answers. It does not look at whether code is valid: it answers NotValid for a number
 of a comparison or a call that is none, and where else code is not valid, the case says so.
 """
-import os
 import struct
 import sys
 
-CASES = os.path.join(os.path.dirname(os.path.dirname(os.path.abspath(__file__))), "crates", "ds2_object_cases")
+import layer_cases
 
 RESERVED = set("""and bigint by char continue data dcl decimal declare descending do drop else end enddata endpackage endthread eq
 from ge gt if in_out keep le leave lt merge method ne not null numeric or otherwise output package put retain return returns select
@@ -379,7 +378,7 @@ def timed_objects():
 
 def main():
     if "--times" in sys.argv:
-        print("\n\n".join(f"# {name}\ntime {object_file(programs).hex()}" for name, programs in timed_objects()))
+        print("#### layer objects\n" + "\n\n".join(f"# {name}\ntime {object_file(programs).hex()}" for name, programs in timed_objects()))
         return
     given, wanted = [], []
     for block in blocks():
@@ -391,14 +390,10 @@ def main():
             given.append(f"# {name}\n{word} {data.hex()}".rstrip())
             wanted.append(f"# {name}\n    {found}")
     for name, text in (("stdin", "\n\n".join(given) + "\n"), ("stdout", "\n\n".join(wanted) + "\n\n")):
-        path = os.path.join(CASES, name)
         if "--write" in sys.argv:
-            with open(path, "w", encoding="utf-8") as file:
-                file.write(text)
-            continue
-        with open(path, encoding="utf-8") as file:
-            if file.read() != text:
-                sys.exit(f"{name} differs: object_cases.py --write writes it")
+            layer_cases.write(name, "objects", text)
+        elif layer_cases.read(name, "objects") != text:
+            sys.exit(f"{name} differs: object_cases.py --write writes it")
     print(f"{len(given)} blocks agree")
 
 

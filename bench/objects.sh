@@ -5,8 +5,8 @@
 set -eu
 
 top=$(cd "$(dirname "$0")/.." && pwd)
-crate=$top/crates/ds2_object_cases
-ours=$crate/out/ds2_object_cases
+crate=$top/crates/ds2_layer_cases
+ours=$crate/out/ds2_layer_cases
 if [ ! -x "$ours" ]; then
     (cd "$crate" && rt run <stdin >/dev/null 2>&1)
 fi

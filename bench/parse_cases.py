@@ -1,18 +1,19 @@
 #!/usr/bin/env python3
-"""Works out the answers of ds2_parse_cases anew, from the grammar as it is written below, and compares them with its stdout.
+"""Works out the answers of the trees of ds2_layer_cases anew, from the grammar as it is written below, and compares them with its stdout.
 
 usage: bench/parse_cases.py [--write]
 
-An Earley parser reads each source of crates/ds2_parse_cases/stdin. It keeps every way in which the tokens so far may go on, so the
+An Earley parser reads each source of that section of its stdin. It keeps every way in which the tokens so far may go on, so the
 first token that leaves none is the place of Unexpected, whatever a parser would have chosen; the end of the text is the place
 where ways are left and none is complete. Read again with the levels counted, the first token that leaves no way within 64 levels
 is the place of TooDeep where without a limit some way goes on. What is refused before there are tokens is taken as it stands there.
 With --write it writes stdout.
 """
 import itertools
-import pathlib
 import re
 import sys
+
+import layer_cases
 
 # `^rule` opens a level. A statement is `closed` where no `else` can still be added to it.
 GRAMMAR = r"""
@@ -363,9 +364,8 @@ def cases(lines):
 
 
 def main():
-    folder = pathlib.Path(__file__).parent.parent / "crates" / "ds2_parse_cases"
-    lines = (folder / "stdin").read_text(encoding="utf-8").splitlines()
-    stands = (folder / "stdout").read_text(encoding="utf-8").splitlines() if (folder / "stdout").exists() else []
+    lines = layer_cases.read("stdin", "trees").splitlines()
+    stands = layer_cases.read("stdout", "trees").splitlines()
     told = {(front, line): answer for (line, front), answer in zip(cases(stands), stands[1:])}
     out, count, untold = [], 0, 0
     for line, front in cases(lines):
@@ -376,7 +376,7 @@ def main():
             untold += wanted is None
             out.append(f"    {wanted}" if wanted else told.get((front, line), "    ?"))
     if "--write" in sys.argv[1:]:
-        (folder / "stdout").write_text("\n".join(out) + "\n", encoding="utf-8")
+        layer_cases.write("stdout", "trees", "\n".join(out) + "\n")
     differ = [(i + 1, a, b) for i, (a, b) in enumerate(itertools.zip_longest(stands, out)) if a != b]
     for number, a, b in differ:
         print(f"line {number}: {a} stands there, and {b} is due")

@@ -7,7 +7,6 @@ use ds2_meaning::{
 };
 use ds2_value::Ty;
 use std::alloc::Global;
-use std::test::Fail;
 
 fn name(alloc: Global, word: &str) -> Result<Name, OutOfMemory> {
     match Name::new(alloc, word) {
@@ -140,14 +139,18 @@ fn are(slots: &[LayoutSlot], wanted: &[(&str, &str, SlotRole)]) -> bool {
     hold
 }
 
-#[test]
-fn lays_out_a_thread_program(rt: HostRuntime) -> Result<(), Fail> {
-    let layout = thread_layout(rt.alloc())?;
+// Whether its slots are those of its variables and of its parameter.
+fn has_slots(alloc: Global) -> Result<bool, OutOfMemory> {
+    let layout = thread_layout(alloc)?;
     let wanted = [
         ("variable", "kept", SlotRole::Kept),
         ("variable", "cleared", SlotRole::Cleared),
         ("parameter", "n", SlotRole::Kept),
     ];
-    assert!(rt; are(layout.slots.as_slice(), &wanted));
-    Ok(())
+    Ok(are(layout.slots.as_slice(), &wanted))
+}
+
+#[test]
+fn lays_out_a_thread_program(rt: HostRuntime) {
+    assert!(rt; has_slots(rt.alloc()) == Ok(true));
 }

@@ -3,7 +3,8 @@ ghost use Rattle.std.specs.Prelude.{◌^◌, ◌<◌};
 
 use ds2_base::{Bytes, List, OutOfMemory, Text};
 use ds2_outside::{
-    FolderStore, Gate, MemSink, MemStore, NoGate, ReadStop, Sink, StdSink, Store, WriteStop,
+    FolderStore, Gate, MemFiles, MemSink, MemStore, NoGate, ReadStop, Sink, StdSink, Store, Tear,
+    WriteStop,
 };
 use std::alloc::Global;
 use std::cell::Cell;
@@ -51,6 +52,44 @@ fn store_in_memory(alloc: Global) -> Result<bool, OutOfMemory> {
     )
 }
 
+// Whether a file in memory has these bytes.
+fn holds(store: &MemStore, name: &Text, want: &str) -> bool {
+    match store.file(name) {
+        Some(bytes) => bytes.as_slice() == want.as_bytes(),
+        None => false,
+    }
+}
+
+// Calls 1 to 4 of the trait are torn, the first of them twice, and it is to fail besides.
+fn torn_in_memory(alloc: Global) -> Result<bool, OutOfMemory> {
+    let (old, new) = (Text::of(alloc, "t.csv")?, Text::of(alloc, "u.csv")?);
+    let mut store = MemStore::new(alloc);
+    store.put(alloc, &old, bytes(alloc, "abc")?)?;
+    store.fail_at(List::from_slice(alloc, &[1])?);
+    let (first, later) = (Tear { call: 1, keep: 2 }, Tear { call: 1, keep: 9 });
+    let (empty, whole) = (Tear { call: 2, keep: 0 }, Tear { call: 3, keep: 9 });
+    let asked = Tear { call: 4, keep: 1 };
+    store.tear_at(List::from_slice(alloc, &[asked, first, later, empty, whole])?);
+    let more = bytes(alloc, "xyz")?;
+    let mut hold = store.write(alloc, &old, &more) == Err(WriteStop::Failed);
+    hold = hold && holds(&store, &old, "xy");
+    hold = hold && store.write(alloc, &new, &more) == Err(WriteStop::Failed);
+    hold = hold && holds(&store, &new, "");
+    hold = hold && store.write(alloc, &new, &more) == Err(WriteStop::Failed);
+    hold = hold && holds(&store, &new, "xyz");
+    hold = hold && store.read(alloc, &old, 9) == Err(ReadStop::Failed);
+    Ok(hold && holds(&store, &old, "xy") && store.write(alloc, &old, &more) == Ok(()))
+}
+
+fn files_in_memory(alloc: Global) -> Result<bool, OutOfMemory> {
+    let name = Text::of(alloc, "t.csv")?;
+    let mut files = MemFiles::new(alloc);
+    files.put(alloc, &name, bytes(alloc, "abc")?)?;
+    let mut hold = files.has(&name) == Ok(true) && reads(&mut files, alloc, &name, 1, "ab");
+    hold = hold && files.write(alloc, &name, &bytes(alloc, "d")?) == Ok(());
+    Ok(hold && reads(&mut files, alloc, &name, 9, "d") && files.file(&name).is_some())
+}
+
 // The second write is to fail.
 fn log_in_memory(alloc: Global) -> Result<bool, OutOfMemory> {
     let mut log = MemSink::new(alloc);
@@ -79,6 +118,16 @@ fn store_in_folder(rt: &HostRuntime, name: &str) -> Result<bool, OutOfMemory> {
         && reads(&mut store, alloc, &file, 0, "z");
     hold = hold && store.read(alloc, &folder, 9) == Err(ReadStop::Failed);
     Ok(hold && store.write(alloc, &folder, &bytes(alloc, "z")?) == Err(WriteStop::Failed))
+}
+
+// Over a file that another makes between the look and the write, which the caller removes again.
+fn made_meanwhile(rt: &HostRuntime, name: &str) -> Result<bool, OutOfMemory> {
+    let alloc = rt.alloc();
+    let mut store = FolderStore::here(rt);
+    let file = Text::of(alloc, name)?;
+    let mut hold = store.has(&file) == Ok(false) && fs::write(rt, name, "other").is_ok();
+    hold = hold && store.write(alloc, &file, &bytes(alloc, "own")?) == Err(WriteStop::Failed);
+    Ok(hold && reads(&mut store, alloc, &file, 9, "other"))
 }
 
 // An output with room for so many bytes.
@@ -122,13 +171,17 @@ fn output_runs_full(alloc: Global) -> Result<bool, OutOfMemory> {
 fn memory_fails_at_the_chosen_calls(rt: HostRuntime) {
     NoGate.before(0, 0);
     NoGate.after(0, 0);
-    assert!(&rt; store_in_memory(rt.alloc()) == Ok(true) && log_in_memory(rt.alloc()) == Ok(true));
+    let alloc = rt.alloc();
+    let stores = store_in_memory(alloc) == Ok(true) && torn_in_memory(alloc) == Ok(true);
+    assert!(&rt; stores && files_in_memory(alloc) == Ok(true) && log_in_memory(alloc) == Ok(true));
 }
 
 #[test]
 fn a_real_file_and_standard_output(rt: HostRuntime) {
     let name = "ds2_outside_test_of_a_real_file.csv";
     let hold = store_in_folder(&rt, name) == Ok(true);
+    let hold = hold && fs::remove_file(&rt, name).is_ok();
+    let hold = hold && made_meanwhile(&rt, name) == Ok(true);
     let removed = fs::remove_file(&rt, name).is_ok();
     let written = match bytes(rt.alloc(), "standard output takes a line\n") {
         Ok(line) => StdSink::new(&rt).write_all(&line) == Ok(()),

@@ -1,0 +1,2 @@
+pub mod LoadCursors
+pub mod SampleEnds

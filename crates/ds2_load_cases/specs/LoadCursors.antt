@@ -1,9 +1,0 @@
--- Cursors over the loads of either statement.
-use Rattle.ds2_by_order.specs.CursorState.{Cursor}
-use Rattle.ds2_load_cases.specs.declared.cursor.LoadCursor.{LoadCursor}
-use Rattle.ds2_load_cases.specs.declared.cursor.LoadCursor.TheVariants.{Set, Merge}
-
--- what stands for a cursor, of whichever statement
-abbrev pub cursor_in : LoadCursor → Cursor
-cursor_in (Set cursor) = cursor
-cursor_in (Merge cursor) = cursor
