@@ -21,8 +21,8 @@ def unescaped(text, turn=1):
     return re.sub(r"\\(x[0-9a-f]{2}|.)", byte, text.encode().decode("latin-1")).encode("latin-1")
 
 
-def piece(word, rest):
-    """The bytes that a line on a file's contents stands for."""
+def piece(word, rest, most=MOST):
+    """The bytes that a line on a file's contents stands for, so many or a few more."""
     if word == "|":
         return unescaped(rest) + b"\n"
     if word == "+":
@@ -31,12 +31,26 @@ def piece(word, rest):
     if "\\i" in text:
         return b"".join(unescaped(text, turn) for turn in range(1, int(times) + 1))
     once = unescaped(text)
-    return once * min(int(times), 1 + MOST // len(once))
+    return once * min(int(times), 1 + most // len(once))
+
+
+class Given:
+    """What holds for the cases that follow: files, and the other lines by their first words."""
+
+    def __init__(self):
+        self.files, self.lines = {}, {}
 
 
 class Case:
-    def __init__(self, title, heading, files):
-        self.title, self.heading, self.files, self.log, self.status = title, heading, dict(files), [], None
+    def __init__(self, title, heading, given):
+        self.title, self.heading, self.given, self.files, self.lines = title, heading, given, dict(given.files), {}
+        # The answer: the lines of the log, the status, and the log and the files that were made or changed as their bytes.
+        self.log, self.status, self.answer = [], None, {}
+        self.without = set()
+
+    def line(self, word):
+        """What the case's own line of this word says, or else the given one; None where neither is."""
+        return self.lines.get(word, self.given.lines.get(word))
 
     def source(self):
         """The text of the source; None where it is none, or long."""
@@ -59,34 +73,52 @@ class Case:
         return found[0] if found else None
 
 
-def read_cases():
-    cases, given, heading, here = [], {}, "", None
+def read_cases(most=MOST):
+    """The cases with their answers; of a text that is repeated so many bytes, or a few more."""
+    cases, given, heading, here = [], Given(), "", None
     for line in (FOLDER / "stdin").read_text(encoding="utf-8").splitlines():
         word, _, rest = line.partition(" ")
+        block = here or given
         if word == "#":
             heading = rest
         elif word == "given":
-            given, here = {}, None
+            given, here = Given(), None
         elif word == "case":
             here = Case(rest, heading, given)
             cases.append(here)
         elif word == "file":
-            files, last = here.files if here else given, rest
-            files[last] = b""
+            last = rest
+            block.files[last] = b""
         elif word in ("|", "+", "repeat"):
-            files[last] += piece(word, rest)
+            block.files[last] += piece(word, rest, most)
         elif word == "without" and here:
             here.files.pop(rest, None)
-    index, is_log = -1, False
+            here.without.add(rest)
+        elif word in ("fail", "show"):
+            kind, _, rest = rest.partition(" ")
+            block.lines[f"{word} {kind}"] = rest
+        elif word:
+            block.lines[word] = rest
+    read_answers(cases, most)
+    return cases
+
+
+def read_answers(cases, most):
+    here, part = None, None
+    following = iter(cases)
     for line in (FOLDER / "stdout").read_text(encoding="utf-8").splitlines():
         word, _, rest = line.partition(" ")
         if word == "case":
-            index += 1
-            assert cases[index].title == rest, (cases[index].title, rest)
+            here = next(following)
+            assert here.title == rest, (here.title, rest)
         elif word == "status":
-            cases[index].status, is_log = int(rest), False
+            here.status, here.answer = int(rest), {}
         elif word in ("log", "file"):
-            is_log = word == "log"
-        elif is_log:
-            cases[index].log.append(line)
-    return cases
+            part = line
+            here.answer[part] = b""
+        elif word in ("|", "+", "repeat"):
+            here.answer[part] += piece(word, rest, most)
+            if part == "log":
+                here.log.append(line)
+        elif line == "is gone":
+            here.answer[part] = None

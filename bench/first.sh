@@ -13,6 +13,7 @@ top=$(cd "$(dirname "$0")/.." && pwd)
 work=$(mktemp -d)
 trap 'rm -rf "$work"' EXIT
 cd "$work"
+"$top/ds2" --build
 
 mawk -v n="$rows" 'BEGIN {
     print "a bigint,b bigint"
@@ -29,7 +30,6 @@ run() { # NAME SOURCE AWK
     name=$1
     printf '%s\n' "$2" >job.ds2
     awk_program=$3
-    "$top/ds2" run job.ds2 >/dev/null
     best_ds2=999999
     best_mawk=999999
     for turn in 1 2 3 4 5; do

@@ -31,7 +31,8 @@ else
     printf 'NOTE: 9 instructions.\nNOTE: Table out, 1 rows.\n' >wanted/log
 fi
 printf 'ERROR: Want of memory.\n' >memory.log
-"$top/ds2" run job.ds2 >/dev/null
+"$top/ds2" --build
+"$top/crates/ds2/out/ds2" run job.ds2 >/dev/null
 mv job.dso wanted/job.dso
 
 # fail WORDS: what was wrong with the run in which this allocation failed.

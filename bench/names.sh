@@ -13,8 +13,7 @@ top=$(cd "$(dirname "$0")/.." && pwd)
 work=$(mktemp -d)
 trap 'rm -rf "$work"' EXIT
 cd "$work"
-printf 'data _null_; enddata;\n' >none.ds2
-"$top/ds2" run none.ds2
+"$top/ds2" --build
 
 # program BYTES NAMES KIND END: the source, with a variable and a parameter beside the names. How many tokens stand before its end goes
 # into the file `tokens`.
