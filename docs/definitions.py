@@ -1,23 +1,78 @@
 #!/usr/bin/env python3
-"""Writes docs/DEFINITIONS.md: the definitions of the crates' specs/, each with the sentence above it.
+"""The definitions of the crates' specs/: those by which the headline is read as a page, and any by its name.
 
-usage: docs/definitions.py            writes the list
-       docs/definitions.py --check    refuses a definition without a sentence, one whose name another
-                                      file has, and a list that is not what this script writes
-
-What the headline says comes first: the definitions that the clauses of `ds2` cite with those that
-these cite, and then all that they stand on. The others follow, crate by crate in the order of
-crates.txt, and in each crate file by file in the order of specs/Lib.antt, each behind those that it
-uses.
+usage: docs/definitions.py NAME ..    prints definitions: where each stands, its text, what it cites, and who cites it
+       docs/definitions.py            writes docs/DEFINITIONS.md, the definitions of CHAIN with their texts
+       docs/definitions.py --check    refuses a definition without a sentence, one whose name another file has, one that
+                                      the headline cites and CHAIN lacks, one of CHAIN that the headline does not stand
+                                      on, and a page that is not what this script writes
 """
 import functools
 import re
+import signal
 import sys
 from pathlib import Path
 
 TOP = Path(__file__).resolve().parent.parent
 LIST = TOP / "docs" / "DEFINITIONS.md"
 HEADLINE = ("ds2_top", "ds2")
+
+# The headline's definitions in the order in which they are read: parts with a title, what a reader has to know before, and names.
+CHAIN = [
+    (
+        "What the top call promises",
+        "`ds2` and `ds2_alone` take a line of words, a store of files and a log. Their contract is `Headline`, over what is seen before\n"
+        "the call and after it. A store or a log that tells nothing of its contents is `None` there.",
+        "Headline Outside Files HoldsFiles LogGains Gained",
+    ),
+    (
+        "What is left at each status",
+        "The answer is a plan: steps, and a status at its end. A command has done the whole plan, or the plan up to a call that failed.",
+        "Leaves Did IsAnswered LeavesRefusal EndsInRead ReadFailed EndsInWrite WriteFailed Between AtWrite MemoryLog",
+    ),
+    (
+        "The plan of a line of words",
+        "What is logged, read, asked for and written, in order. Nothing of it names a worker.",
+        "Plan PlanStep steps_of files_behind_all command_line_of plan_of_command",
+    ),
+    (
+        "What a text is read as",
+        "Each text has exactly one answer (`laws` of `ds2_source`): its syntax tree, or its first refusal.",
+        "SourcesRead IsSourceAnswer IsAnswerForTokens",
+    ),
+    (
+        "From a source to its programs",
+        "The tables that a source mentions are read, and over their columns it becomes typed programs or is refused.",
+        "source_plan with_text with_tree read_tables with_tables elaborated_source elaborated_parts unit_refusal",
+    ),
+    (
+        "What a command does with programs",
+        "`run` asks for its outputs, stores the object and runs the programs one behind the other; each leaves what it means over the tables\n"
+        "that are held.",
+        "run_programs_of output_then run_of_program meant_over programs_plan program_then end_then",
+    ),
+    (
+        "What a program means",
+        "The one-thread meaning of a typed tree: `init`, `run` on each load, `term`. `exec` and `evaluate` follow statements and expressions;\n"
+        "no slot, jump or machine is mentioned.",
+        "program_answer program_over_loads alone_answer run_each run_all program_units exec evaluate",
+    ),
+    (
+        "The object that is stored",
+        "Where a command stores an object, it is valid code, and each of its programs means the same as the source's program at its place.",
+        "StoresObject StoresObjectOf IsObjectOf BecomesPrograms HaveCodes MeansSame CodeAnswersAs IsValidObject",
+    ),
+    (
+        "The object that is run",
+        "`exec` reads a file, decodes it, and runs its code. Nothing here joins a file that is read to a source.",
+        "ObjectReading IsDecoding DecodesTo DecodesObject DecodesFile EndsBeforeDecoding exec_plan object_plan object_over code_answer",
+    ),
+    (
+        "A runtime fault",
+        "A fault is the first one of the meaning, and its program has written nothing.",
+        "FaultLeft LeavesFault FirstFault",
+    ),
+]
 
 ITEM = re.compile(r"^((?:abbrev |unfoldable )?(?:pub )?(?:abbrev |unfoldable )?)(data |record )?([^\s(){}:;,]+)(?= )(.*)$")
 IMPORT = re.compile(r"^(?:ghost )?use Rattle\.(\w+)\.specs\.([\w.]+)\.(?:\{([^}]*)\}|([^\s.{};]+))(?: as (\S+))?;?$")
@@ -30,6 +85,17 @@ class Definition:
         self.crate, self.path, self.line, self.name, self.sentence = crate, path, line, name, sentence
         self.text = []
         self.cited = []
+
+    def block(self):
+        """Its text as it stands with the comment above, up to the next empty line, from the first column on."""
+        lines = self.path.read_text().splitlines()
+        first = last = self.line - 1
+        while first > 0 and lines[first - 1].strip().startswith("--"):
+            first -= 1
+        while last + 1 < len(lines) and lines[last + 1].strip():
+            last += 1
+        margin = len(lines[first]) - len(lines[first].lstrip())
+        return "\n".join(line[margin:] for line in lines[first : last + 1])
 
     def where(self):
         return f"{self.path.relative_to(TOP)}:{self.line}"
@@ -204,60 +270,37 @@ def below(cited):
     return found
 
 
-def lines(definitions):
-    return [f"- `{d.name}`: {d.sentence}" for d in definitions]
+def chain(by_name):
+    """The parts of CHAIN, each with its definitions."""
+    named = {}
+    for (_, _, name), definition in by_name.items():
+        named.setdefault(name, definition)
+    for title, before, names in CHAIN:
+        missing = [name for name in names.split() if name not in named]
+        if missing:
+            sys.exit(f"docs/definitions.py: no definition has the name {', '.join(missing)} of CHAIN")
+        yield title, before, [named[name] for name in names.split()]
 
 
-def by_crate(all_files, wanted, order):
-    """Sections of crates and files with the definitions that are wanted."""
-    out = []
-    for crate in order:
-        parts = []
-        for file in all_files:
-            chosen = [d for d in file.definitions if d in wanted]
-            if file.crate == crate and chosen:
-                parts += ["", f"#### specs/{file.path.name}", ""]
-                parts += [file.title, ""] if file.title else []
-                parts += lines(chosen)
-        if parts:
-            out += ["", f"### {crate}"] + parts
-    return out
-
-
-def with_next(cited):
-    """These definitions, each followed by those that it cites."""
-    found = []
-    for definition in cited:
-        found += [d for d in [definition] + definition.cited if d not in found]
-    return found
-
-
-def written(all_files, cited):
-    cited = with_next(cited)
-    first = below(cited)
-    rest = {d for f in all_files for d in f.definitions} - first
-    order = list(crates())
+def written(by_name):
+    parts = list(chain(by_name))
+    count = sum(len(definitions) for _, _, definitions in parts)
     out = [
         "# Definitions",
         "",
-        "The definitions that contracts cite, each with the sentence that stands above it. Who wants to know",
-        f"what the headline says reads the first two parts, {len(first)} definitions in all. This list is written",
+        f"The {count} definitions by which the headline is read, in reading order, as they stand in the crates' `specs/`.",
+        "[ARCHITECTURE](ARCHITECTURE.md#how-the-headline-is-put-together) tells how they hang together, and",
+        "`docs/definitions.py NAME` prints any definition with what it cites and who cites it. This page is written",
         "by `docs/definitions.py`.",
-        "",
-        "## What the headline says",
-        "",
-        f"The clauses of `{HEADLINE[1]}` in `crates/{HEADLINE[0]}` cite these, or these cite them.",
-        "",
     ]
-    out += [f"- `{d.name}` ({d.crate}, specs/{d.path.name}): {d.sentence}" for d in cited]
-    out += ["", "## What that stands on", "", "From the command down to numbers and texts."]
-    out += by_crate(all_files, first - set(cited), reversed(order))
-    out += ["", "## Everything else", "", "What the contracts of the single crates cite beside that, the lowest crate first."]
-    out += by_crate(all_files, rest, order)
+    for title, before, definitions in parts:
+        out += ["", f"## {title}", "", before]
+        for definition in definitions:
+            out += ["", f"### {definition.name}", "", f"`{definition.path.relative_to(TOP)}`", "", "```", definition.block(), "```"]
     return "\n".join(out) + "\n"
 
 
-def faults(all_files):
+def faults(all_files, by_name):
     found, seen = [], {}
     for definition in (d for f in all_files for d in f.definitions):
         if not definition.sentence:
@@ -265,19 +308,65 @@ def faults(all_files):
         other = seen.setdefault(definition.name, definition)
         if other.path != definition.path:
             found.append(f"{definition.where()}: the name `{definition.name}` is taken by {other.where()}")
+    shown = [d for _, _, definitions in chain(by_name) for d in definitions]
+    clauses = headline(by_name)
+    reached = below(clauses)
+    found += [f"{d.where()}: the headline does not stand on `{d.name}` of CHAIN" for d in shown if d not in reached]
+    found += [f"{d.where()}: the headline's contract cites `{d.name}`, which CHAIN lacks" for d in clauses if d not in shown]
     return found
 
 
+def contracts(definition):
+    """The functions whose contracts name a definition, each with its place."""
+    name = re.escape(definition.name)
+    for path in sorted((TOP / "crates").glob("*/src/**/*.rt")):
+        text = path.read_text()
+        if not re.search(rf"use Rattle\.[^;]*[{{., ]{name}[}},; ]", text):
+            continue
+        for match in re.finditer(r"^ *(?:pub(?:\([a-z]+\))? )?(?:const )?fn (\w+).*?(?=^ *\{$|\{\}$|;$)", text, re.M | re.S):
+            if re.search(rf"(?<![\w_]){name}(?![\w_])", match.group(0)):
+                yield f"{path.relative_to(TOP)}:{text.count(chr(10), 0, match.start()) + 1}: {match.group(1)}"
+
+
+def listed(title, definitions):
+    if definitions:
+        print(f"\n{title}")
+        for d in definitions:
+            print(f"  {d.name} ({d.where()}): {d.sentence}")
+
+
+def show(name, all_files):
+    found = [d for f in all_files for d in f.definitions if d.name.strip("◌") == name.strip("◌")]
+    if not found:
+        sys.exit(f"docs/definitions.py: no definition has the name {name}")
+    for definition in found:
+        print(f"{definition.where()}\n\n{definition.block()}")
+        listed("cites", definition.cited)
+        listed("is cited by", [d for f in all_files for d in f.definitions if definition in d.cited])
+        places = list(contracts(definition))
+        if places:
+            print("\nstands in the contracts of")
+            print("\n".join(f"  {place}" for place in places))
+        print()
+
+
 def main():
-    if sys.argv[1:] not in ([], ["--check"]):
+    words = sys.argv[1:]
+    if any(word.startswith("-") and word != "--check" for word in words) or "--check" in words and len(words) > 1:
         sys.exit(__doc__)
     all_files = list(files())
     by_name = resolve(all_files)
-    text = written(all_files, headline(by_name))
-    if not sys.argv[1:]:
+    if words and words != ["--check"]:
+        # A reader that has seen enough, as `head`, ends this program.
+        signal.signal(signal.SIGPIPE, signal.SIG_DFL)
+        for name in words:
+            show(name, all_files)
+        return
+    text = written(by_name)
+    if not words:
         LIST.write_text(text)
         return
-    found = faults(all_files)
+    found = faults(all_files, by_name)
     if not LIST.exists() or LIST.read_text() != text:
         found.append("docs/DEFINITIONS.md is not what docs/definitions.py writes")
     if found:
