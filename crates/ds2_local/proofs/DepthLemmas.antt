@@ -65,28 +65,6 @@ module _ (t : JudgedThread) (b : JudgedBodies) (holds : HoldsJudged t b) where
 abbrev pub EachTells : ProgramNumbers → List CallEffect → CallWalks → Type 0
 EachTells n effects calls = (m : MethodAt) (k : ℕ) (effect : CallEffect) → number_among_methods n.methods m ≡ Some k → slice_get effects k ≡ Some effect → EffectTells n effect (calls m)
 
-last_or_before : {A : Type 0} (xs : List A) (x y : A) (k : ℕ) → slice_get (xs ++ x ∷ []) k ≡ Some y → (slice_get xs k ≡ Some y) ⊎ ((k ≡ length xs) × (x ≡ y))
-last_or_before [] x y zero e = inr (refl, same_Some x y e)
-last_or_before [] x y (suc k) e = absurd cc
-last_or_before (z ∷ xs) x y zero e = inl e
-last_or_before (z ∷ xs) x y (suc k) e = later (last_or_before xs x y k e)
-  where
-    later : (slice_get xs k ≡ Some y) ⊎ ((k ≡ length xs) × (x ≡ y)) → (slice_get xs k ≡ Some y) ⊎ ((suc k ≡ suc (length xs)) × (x ≡ y))
-    later (inl f) = inl f
-    later (inr f) = inr (ap (λ n. suc n) f.0, f.1)
-
--- the effect of one more method
-pub one_more : (n : ProgramNumbers) (effects : List CallEffect) (calls : CallWalks) (effect : CallEffect) (x : MethodAt) (k : ℕ) → k ≡ length effects → slice_get n.methods k ≡ Some x
-    → EachTells n effects calls → (number_among_methods n.methods x ≡ Some k → EffectTells n effect (calls x)) → EachTells n (effects ++ effect ∷ []) calls
-one_more n effects calls effect x k counted here each tells m j other is found = by_place (last_or_before effects effect other j found)
-  where
-    by_place : (slice_get effects j ≡ Some other) ⊎ ((j ≡ length effects) × (effect ≡ other)) → EffectTells n other (calls m)
-    by_place (inl f) = each m j other is f
-    by_place (inr f) =
-        let at_k : j ≡ k = f.0 ∙ sym counted in
-        let one : x ≡ m = same_Some x m (sym here ∙ ap (λ i. slice_get n.methods i) (sym at_k) ∙ method_at n.methods m j is) in
-        subst (λ e. EffectTells n e (calls m)) f.1 (subst (λ y. EffectTells n effect (calls y)) one (tells (ap (λ y. number_among_methods n.methods y) one ∙ is ∙ ap (λ i. Some i) at_k)))
-
 none_within : {A : Type 0} (xs : List A) (k : ℕ) → k < length xs → slice_get xs k ≡ None → ⊥
 none_within [] k lt e = omega (arith, lt)
 none_within (x ∷ xs) zero lt e = absurd cc
@@ -112,10 +90,3 @@ all_tell t n known effects depth is counted each m place bits before = by_number
     by_number (Some k) e =
         by_effect k (slice_get effects k) e refl
         ∙ ap (λ o. past_effect n.locations (effect_numbered effects o) place (of_those (set_of_bits n.locations bits) before)) (sym e)
-
--- ---- one deeper
-
--- effects that are those of calls one deeper too are those of calls however much deeper
-pub same_deeper : (P : ℕ → Type 0) → ((depth : ℕ) → P depth → P (suc depth)) → (depth more : ℕ) → P depth → P (depth + more)
-same_deeper P next depth zero h = let e : depth ≡ depth + zero = omega arith in subst P e h
-same_deeper P next depth (suc more) h = let e : suc depth + more ≡ depth + suc more = omega arith in subst P e (same_deeper P next (suc depth) more (next depth h))

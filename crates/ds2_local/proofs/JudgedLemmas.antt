@@ -20,7 +20,7 @@ use Rattle.ds2_deeds.specs.NamedMethods.{methods_named, methods_in_order, number
 use Rattle.ds2_deeds.specs.NumberedCalls.{is_one_of_numbers, may_call, with_called}
 use Rattle.ds2_deeds.specs.NumberedDeeds.{ProgramNumbers, numbers_of, numbered_deeds}
 use Rattle.ds2_local.specs.declared.judged.JudgedBodies.{JudgedBodies}
-use Rattle.ds2_local.specs.JudgedBodies.{HoldsJudged, IsNumbered}
+use Rattle.ds2_local.specs.JudgedBodies.{AreCycleEffects, HoldsJudged, IsNumbered}
 use Rattle.ds2_local.specs.JudgedTrees.{judged_thread}
 
 -- the program of a thread program that is judged
@@ -49,8 +49,8 @@ module _ (t : JudgedThread) (b : JudgedBodies) (numbered : IsNumbered t b.progra
         ap (λ k. k + CALL_DEPTH)
         (ap (λ l. length l) deeds ∙ length-map (methods_named b.numbers.methods.now) (λ (x : MethodAt). numbered_deeds (numbers_of b.numbers) (method_deeds t.program x)) ∙ ap (λ l. length l) numbered.methods)
 
-    held_with : OnceToldAreDistinct → CalleesByNumber → ReachedByNumber → HoldsJudged t b
-    held_with once callees reached = record {
+    held_with : OnceToldAreDistinct → CalleesByNumber → ReachedByNumber → AreCycleEffects (length b.numbers.locations.now) b.deeds.now b.cycles.now → HoldsJudged t b
+    held_with once callees reached cycles = record {
       numbered = numbered;
       distinct = subst AreDistinct (sym numbered.locations) (once (locations_in_order t));
       deeds = deeds;
@@ -64,13 +64,14 @@ module _ (t : JudgedThread) (b : JudgedBodies) (numbered : IsNumbered t b.progra
           ∙ ap (λ all. is_one_of_numbers (may_call all (rounds_of_calls t.program) (numbered_deeds (numbers_of b.numbers) own)) k) all_are
           ∙ ap (λ n. is_one_of_numbers (may_call (all_by_number t.program (program_numbers t.program (locations_named b.numbers.locations.now))) (rounds_of_calls t.program) (numbered_deeds n own)) k) numbers_are
           ∙ reached t.program (locations_named b.numbers.locations.now) own m k (ap (λ ms. number_among_methods ms m) (sym numbered.methods) ∙ is);
+      cycles = cycles;
     }
 
   -- what the code holds
-  pub holds_judged : OnceToldAreDistinct → CalleesByNumber → ReachedByNumber
+  pub holds_judged : OnceToldAreDistinct → CalleesByNumber → ReachedByNumber → AreCycleEffects (length b.numbers.locations.now) b.deeds.now b.cycles.now
       → b.deeds.now ≡ map (λ (m : MethodAt). numbered_deeds (numbers_of b.numbers) (method_deeds (nameless_tree b.program.now) m)) (methods_named b.numbers.methods.now) → HoldsJudged t b
-  holds_judged once callees reached by_tree =
-      held_with (by_tree ∙ ap (λ of. map (λ (m : MethodAt). numbered_deeds (numbers_of b.numbers) (of m)) (methods_named b.numbers.methods.now)) method_deeds_held) once callees reached
+  holds_judged once callees reached cycles by_tree =
+      held_with (by_tree ∙ ap (λ of. map (λ (m : MethodAt). numbered_deeds (numbers_of b.numbers) (of m)) (methods_named b.numbers.methods.now)) method_deeds_held) once callees reached cycles
 
 -- the numbers of a thread program
 pub numbered_thread : (names : List (List ℕ)) (t : TypedThread) (n : ProgramNumbers) (slots : List LayoutSlot) → slots ≡ program_slots (reader_of (typed_thread_program t))

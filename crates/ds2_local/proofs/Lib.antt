@@ -1,6 +1,9 @@
 pub mod ReadingLemmas
 pub mod FirstLemmas
+pub mod AlikeLemmas
 pub mod RangeLemmas
+pub mod MarkLemmas
+pub mod PathLemmas
 pub mod DistinctLemmas
 pub mod MentionLemmas
 pub mod MethodLemmas
@@ -12,6 +15,7 @@ pub mod StepLemmas
 pub mod CellLemmas
 pub mod GrainLemmas
 pub mod OutputLemmas
+pub mod SettleLemmas
 pub mod RunLemmas
 pub mod FinestLemmas
 pub mod WriteLemmas

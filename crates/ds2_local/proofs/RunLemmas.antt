@@ -43,9 +43,8 @@ use Rattle.ds2_local.specs.JudgedTrees.{place_of_system}
 use Rattle.ds2_local.specs.RunGrounds.{AreCells, past_run_by, is_flag_at, find_dirty, IsGroundAt}
 use Rattle.ds2_local.specs.Verdicts.{TellsCells}
 use Rattle.ds2_local.proofs.CellLemmas.{told_number}
-use Rattle.ds2_local.proofs.DepthLemmas.{held_count, EachTells, one_more, all_tell, same_deeper}
+use Rattle.ds2_local.proofs.DepthLemmas.{held_count}
 use Rattle.ds2_local.proofs.GrainLemmas.{grain_told}
-use Rattle.ds2_local.proofs.StepLemmas.{first_tells}
 
 by_next : (b c d : Bool) → (if b then true else c) ≡ true → (c ≡ true → d ≡ true) → (if b then true else d) ≡ true
 by_next true c d e later = refl
@@ -133,61 +132,6 @@ module _ (t : JudgedThread) (b : JudgedBodies) (holds : HoldsJudged t b) where
       of_first None (Present name) f = absurd (true≢false (sym f))
       of_first None (Parameter name) f = absurd (true≢false (sym f))
       of_first (Some instance) g f = absurd (true≢false (sym f))
-
-  -- ---- the effects of methods, one after the other
-
-  -- the effects of so many methods tell how they are walked
-  pub record Told (known : List ByVariable) (depth number : ℕ) (effects : List CallEffect) : Type 0 where
-    count : number ≡ length effects
-    each : EachTells (numbers_of b.numbers) effects (walk_method t (first_flags known) depth)
-
-  pub none_told : (known : List ByVariable) (depth : ℕ) → Told known depth 0 []
-  none_told known depth = record { count = refl; each = λ m k effect is found. absurd cc }
-
-  method_here : (number : ℕ) (method : MethodName) → number < length b.numbers.methods.now → method ≡ get_or b.numbers.methods.now number method → slice_get (methods_named b.numbers.methods.now) number ≡ Some (method_of_name method)
-  method_here number method lt here =
-      slice_get-map method_of_name b.numbers.methods.now number ∙ ap (λ o. option_map method_of_name o) (slice_get_read b.numbers.methods.now (length b.numbers.methods.now) number method refl lt here)
-
-  pub more_told : (known : List ByVariable) (depth number : ℕ) (effects next : List CallEffect) (effect : CallEffect) (method : MethodName) → number < length b.numbers.methods.now
-      → method ≡ get_or b.numbers.methods.now number method → next ≡ effects ++ effect ∷ [] → Told known depth number effects
-      → (number_among_methods (methods_named b.numbers.methods.now) (method_of_name method) ≡ Some number → EffectTells (numbers_of b.numbers) effect (walk_method t (first_flags known) depth (method_of_name method)))
-      → Told known depth (number + 1) next
-  more_told known depth number effects next effect method lt here e told tells = record {
-    count = ap (λ n. n + 1) told.count ∙ sym (length-append effects (effect ∷ [])) ∙ ap (λ l. length l) (sym e);
-    each = subst (λ l. EachTells (numbers_of b.numbers) l (walk_method t (first_flags known) depth)) (sym e)
-        (one_more (numbers_of b.numbers) effects (walk_method t (first_flags known) depth) effect (method_of_name method) number told.count (method_here number method lt here) told.each tells);
-  }
-
-  -- where there is one for each method they tell how all calls are walked
-  pub told_whole : (known : List ByVariable) (depth number : ℕ) (effects : List CallEffect) → number ≡ length b.numbers.methods.now → Told known depth number effects → EffectsAtDepth t b known effects depth
-  told_whole known depth number effects e told =
-      all_tell t (numbers_of b.numbers) (first_flags known) effects depth holds.numbered.methods (sym told.count ∙ e ∙ sym (length-map b.numbers.methods.now method_of_name)) told.each
-
-  -- at no depth
-  pub first_whole : (known : List ByVariable) (effects : List CallEffect)
-      → effects ≡ map (λ deeds. effect_of_mentions (length b.numbers.locations.now) (with_called b.deeds.now (length b.deeds.now + CALL_DEPTH) deeds)) b.deeds.now → EffectsAtDepth t b known effects 0
-  first_whole known effects e =
-      all_tell t (numbers_of b.numbers) (first_flags known) effects 0 holds.numbered.methods
-      (ap (λ l. length l) e ∙ length-map b.deeds.now effect_of ∙ ap (λ l. length l) holds.deeds ∙ length-map (methods_named b.numbers.methods.now) (λ (m : MethodAt). numbered_deeds (numbers_of b.numbers) (method_deeds t.program m)))
-      (λ m k effect is found. first_tells t b holds (first_flags known) m k (deeds_or_none (slice_get b.deeds.now k)) effect is refl (there m k effect is found))
-    where
-      effect_of : List NumberedDeed → CallEffect
-      effect_of deeds = effect_of_mentions (length b.numbers.locations.now) (with_called b.deeds.now (length b.deeds.now + CALL_DEPTH) deeds)
-
-      there_by : (o : Option (List NumberedDeed)) (effect : CallEffect) → option_map effect_of o ≡ Some effect → effect ≡ effect_of (deeds_or_none o)
-      there_by None effect f = absurd cc
-      there_by (Some deeds) effect f = sym (same_Some (effect_of deeds) effect f)
-
-      there : (m : MethodAt) (k : ℕ) (effect : CallEffect) → number_among_methods (methods_named b.numbers.methods.now) m ≡ Some k → slice_get effects k ≡ Some effect → effect ≡ effect_of (deeds_or_none (slice_get b.deeds.now k))
-      there m k effect is found = there_by (slice_get b.deeds.now k) effect (sym (slice_get-map effect_of b.deeds.now k) ∙ ap (λ l. slice_get l k) (sym e) ∙ found)
-
-  -- where the next depth has the same effects, all further ones have
-  pub same_below : (known : List ByVariable) (effects next : List CallEffect) (depth whole : ℕ) → next ≡ effects
-      → ((d : ℕ) → EffectsAtDepth t b known effects d → EffectsAtDepth t b known next (suc d)) → depth < whole → EffectsAtDepth t b known effects depth → EffectsAtDepth t b known next whole
-  same_below known effects next depth whole e step lt told =
-      let deeper : (d : ℕ) → EffectsAtDepth t b known effects d → EffectsAtDepth t b known effects (suc d) = λ d h. subst (λ l. EffectsAtDepth t b known l (suc d)) e (step d h) in
-      let left : depth + (whole - depth) ≡ whole = omega (arith, lt) in
-      subst (λ l. EffectsAtDepth t b known l whole) (sym e) (subst (λ n. EffectsAtDepth t b known effects n) left (same_deeper (λ d. EffectsAtDepth t b known effects d) deeper depth (whole - depth) told))
 
   -- the ground at a grain, by what the code finds
   pub grain_found : TellsCells t → (cells : List Bool) → AreCells t ls cells → (grain : ℕ) (bys coarser finer : List ByVariable) (first : RecordedWalk) (flags dirty : List Bool) (read : Option RecordedRead) (later : RecordedWalk)

@@ -1,7 +1,5 @@
 -- The effects of one method, and of all of them one deeper.
-use Rattle.std.proofs.Common.{◌≡◌, ℕ, suc, ◌+◌, Bool, true, false, true≢false, List, [], ◌∷◌, length, Option, Some, None, refl, sym, ap, ◌∙◌, subst}
-use mathlib.Core.Bool.{beq}
-use Rattle.std.specs.Bool.{Decides}
+use Rattle.std.proofs.Common.{◌≡◌, ℕ, suc, ◌+◌, Bool, true, false, List, [], ◌∷◌, length, Option, Some, None, refl, sym, ap, ◌∙◌, subst}
 use Rattle.std.specs.List.{list_any, filter}
 use Rattle.std.specs.Prelude.{if◌then◌else◌, slice_get}
 use Rattle.ds2_value.specs.declared.fault.TheConstants.{CALL_DEPTH}
@@ -30,7 +28,7 @@ use Rattle.ds2_recorded_walk.specs.LocationBits.{set_of_bits}
 use Rattle.ds2_recorded_walk.specs.RecordedStatements.{TellsCalls}
 use Rattle.ds2_recorded_walk.specs.RecordedWalks.{of_those, past_effect, EffectsTell}
 use Rattle.ds2_local.specs.declared.judged.JudgedBodies.{JudgedBodies}
-use Rattle.ds2_local.specs.EffectSteps.{EffectTells, BodyTells, EffectsAtDepth}
+use Rattle.ds2_local.specs.EffectSteps.{EffectTells, BodyTells}
 use Rattle.ds2_local.specs.JudgedBodies.{HoldsJudged, effect_of_mentions}
 use Rattle.ds2_local.proofs.CycleLemmas.{mentions_told}
 use Rattle.ds2_local.proofs.DepthLemmas.{held_deeds, held_cycle, located, cycle_tells}
@@ -110,15 +108,15 @@ module _ (t : JudgedThread) (b : JudgedBodies) (holds : HoldsJudged t b) where
       ∙ ap (λ x. past_effect (locations_named b.numbers.locations.now) (Some x) place d) (sym e)
 
   -- another one
-  pub off_cycle_tells : (known : List ByVariable) (effects : List CallEffect) (depth : ℕ) (m : MethodAt) (k : ℕ) (deeds : List NumberedDeed) (effect : CallEffect)
+  pub off_cycle_tells : (known : List ByVariable) (depth : ℕ) (m : MethodAt) (k : ℕ) (deeds : List NumberedDeed) (effect : CallEffect)
       → number_among_methods (methods_named b.numbers.methods.now) m ≡ Some k → deeds ≡ deeds_or_none (slice_get b.deeds.now k)
-      → is_one_of_numbers (may_call b.deeds.now (length b.deeds.now + CALL_DEPTH) deeds) k ≡ false → EffectsAtDepth t b known effects depth
-      → ((calls : CallWalks) → EffectsTell (numbers_of b.numbers) effects calls → EffectTells (numbers_of b.numbers) effect (walk_body t (first_flags known) calls m.home (slice_get (methods_of t.program m.home) m.number)))
+      → is_one_of_numbers (may_call b.deeds.now (length b.deeds.now + CALL_DEPTH) deeds) k ≡ false
+      → EffectTells (numbers_of b.numbers) effect (walk_body t (first_flags known) (walk_method t (first_flags known) depth) m.home (slice_get (methods_of t.program m.home) m.number))
       → EffectTells (numbers_of b.numbers) effect (walk_method t (first_flags known) (suc depth) m)
-  off_cycle_tells known effects depth m k deeds effect is found off told tells place bits before =
+  off_cycle_tells known depth m k deeds effect is found off tells place bits before =
       let d = of_those (set_of_bits (locations_named b.numbers.locations.now) bits) before in
       ap (λ c. by_cycle (first_flags known) depth m place d c) (sym (held_cycle t b holds deeds m k is (deeds_held m k deeds is found)) ∙ off)
-      ∙ tells (walk_method t (first_flags known) depth) told place bits before
+      ∙ tells place bits before
 
   -- where calls are at no depth
   pub first_tells : (known : Location → Bool) (m : MethodAt) (k : ℕ) (deeds : List NumberedDeed) (effect : CallEffect) → number_among_methods (methods_named b.numbers.methods.now) m ≡ Some k
@@ -127,17 +125,3 @@ module _ (t : JudgedThread) (b : JudgedBodies) (holds : HoldsJudged t b) where
   first_tells known m k deeds effect is found e place bits before =
       let d = of_those (set_of_bits (locations_named b.numbers.locations.now) bits) before in
       cycle_tells t b holds deeds m (deeds_held m k deeds is found) place bits before ∙ ap (λ x. past_effect (locations_named b.numbers.locations.now) (Some x) place d) (sym e)
-
--- ---- effects that are the same
-
-abbrev effect_with : List ℕ → List Bool → CallEffect
-effect_with reads keeps = record { reads = reads; keeps = keeps }
-
-pub same_effect : (a b : CallEffect) → a.reads ≡ b.reads → a.keeps ≡ b.keeps → a ≡ b
-same_effect a b e f = ap (λ r. effect_with r a.keeps) e ∙ ap (λ k. effect_with b.reads k) f
-
-pub same_bool : (a b : Bool) → Decides (beq a b) (a ≡ b)
-same_bool true true = (λ e. refl, λ e. refl)
-same_bool true false = (λ e. absurd (true≢false (sym e)), λ e. absurd (true≢false e))
-same_bool false true = (λ e. absurd (true≢false (sym e)), λ e. absurd (true≢false (sym e)))
-same_bool false false = (λ e. refl, λ e. refl)

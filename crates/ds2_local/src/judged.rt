@@ -3,13 +3,16 @@
 use ds2_base::List;
 use ds2_deeds::{NumberedDeed, Numbers};
 use ds2_meaning::Program;
+use ds2_recorded_walk::CallEffect;
 use std::alloc::Global;
 
-/// A program that is judged: its locations and methods by their numbers, and the deeds of each method in the same order.
+/// A program that is judged: its locations and methods by their numbers, and in the same order the deeds of each method and the effect of
+/// each that is on a cycle of calls.
 #[derive(Clone, Copy)]
 pub struct JudgedBodies<'p> {
     pub alloc: Global,
     pub program: &'p Program,
     pub numbers: Numbers<'p>,
     pub deeds: &'p [List<NumberedDeed>],
+    pub cycles: &'p [Option<CallEffect>],
 }

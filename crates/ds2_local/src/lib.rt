@@ -1,13 +1,16 @@
 //! Whether the groups of a thread program may be spread over workers, and by how fine a group.
 //!
-//! [`judge`] gives the verdict that `ds2_locality` defines. `effects` has what calls of methods do, each method walked once however often
-//! it is called; `reading` what a program's loads set, `runs` the two walks over `run`, and `verdict` the rules.
+//! [`judge`] gives the verdict that `ds2_locality` defines. `effects` has what a call of a method does, and `settled` finds that of all
+//! methods, each body walked once however often it is called; `marks` has sets of locations by deeds, `reading` what a program's loads set,
+//! `runs` the two walks over `run`, and `verdict` the rules.
 #![tactic(auto)]
 
 mod effects;
 mod judged;
+mod marks;
 mod reading;
 mod runs;
+mod settled;
 mod verdict;
 
 pub use verdict::judge;

@@ -4,7 +4,6 @@ ghost use Rattle.std.specs.Option.{option_or};
 ghost use Rattle.std.specs.Prelude.{◌≡◌, ◌-◌, IfOk, OnOk, length, map, take, drop};
 ghost use Rattle.ds2_deeds.specs.CodeTrees.{nameless_tree};
 ghost use Rattle.ds2_deeds.specs.NamedLocations.{locations_named};
-ghost use Rattle.ds2_deeds.specs.NumberedCalls.{changes_number};
 ghost use Rattle.ds2_locality.specs.Deeds.{columns_written};
 ghost use Rattle.ds2_locality.specs.KeptLocations.{is_kept as is_kept_at};
 ghost use Rattle.ds2_locality.specs.Verdict.{JudgedThread};
@@ -23,56 +22,19 @@ ghost use Rattle.ds2_local.specs.JudgedTrees.{place_of_system};
 ghost use Rattle.ds2_local.specs.RunGrounds.{AreCells, find_dirty, is_flag_at, IsGroundAt, past_run_in};
 ghost use Rattle.ds2_local.specs.Verdicts.{TellsCells};
 
-use crate::effects::{call_effects, call_rounds};
+use crate::effects::call_rounds;
 use crate::judged::JudgedBodies;
+use crate::marks::changed_bits;
 use crate::reading::{bys_read, is_flag_of_bys, is_kept};
+use crate::settled::call_effects;
 use ds2_base::{List, OutOfMemory, Place};
 use ds2_body_survey::statements_have_output;
-use ds2_deeds::{LocationName, NumberedDeed, run_deeds, system_scope, with_called};
+use ds2_deeds::{LocationName, run_deeds, system_scope, with_called};
 use ds2_meaning::{ByVariable, Method, Program, SystemMethod};
 use ds2_recorded_walk::{
     RecordScope, RecordedRead, RecordedWalk, all_on, common, is_on, read_output, united, walk_body,
 };
 use std::alloc::Global;
-
-// Whether a deed changes the location of a number.
-fn changes(deed: NumberedDeed, number: usize) -> bool
-    ensures { result ≡ changes_number number deed }
-{
-    match deed {
-        NumberedDeed::Change(other) => other == number,
-        NumberedDeed::Mention(_) => false,
-        NumberedDeed::Call(_) => false,
-        NumberedDeed::Write(_) => false,
-    }
-}
-
-// Whether one of deeds changes the location of a number.
-fn is_changed(deeds: &[NumberedDeed], number: usize) -> bool
-    ensures { result ≡ list_any (changes_number number) deeds.now }
-{
-    'deeds: for deed in deeds {
-        if changes(*deed, number) {
-            return true;
-        }
-    }
-    false
-}
-
-// Which of so many locations deeds change.
-fn changed_bits(
-    alloc: Global,
-    count: usize,
-    deeds: &[NumberedDeed],
-) -> Result<List<bool>, OutOfMemory>
-    ensures { IfOk result (λ bits. bits ≡ map (λ n. list_any (changes_number n) deeds.now) (range_with_len 0 count)) }
-{
-    let mut bits = List::new(alloc);
-    'locations: for number in 0..count {
-        bits.push(is_changed(deeds, number))?;
-    }
-    Ok(bits)
-}
 
 // Which locations keep what they hold from one load to the next but for what `run` does.
 fn kept_bits(
@@ -93,7 +55,7 @@ fn kept_bits(
 pub fn cells(bodies: &JudgedBodies<'_>) -> Result<List<bool>, OutOfMemory>
     ensures { (t : JudgedThread) → HoldsJudged t bodies.now → TellsCells t → IfOk result (λ bits. AreCells t (locations_named bodies.now.numbers.locations.now) bits) }
 {
-    let rounds = call_rounds(bodies)?;
+    let rounds = call_rounds(bodies.deeds)?;
     let own = run_deeds(bodies.alloc, bodies.numbers, bodies.program)?;
     let deeds = with_called(bodies.alloc, bodies.deeds, rounds, own.as_slice())?;
     let locations = bodies.numbers.locations;

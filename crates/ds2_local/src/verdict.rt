@@ -17,7 +17,7 @@ ghost use Rattle.ds2_local.specs.JudgedTrees.{judged_thread, place_of_system};
 ghost use Rattle.ds2_local.specs.RunGrounds.{ground_of_read, IsNotLocalBy};
 ghost use Rattle.ds2_local.specs.Verdicts.{earlier_of_places, ground_of_place, first_write_numbered, place_written, IsSoundAt, TellsCells};
 
-use crate::effects::call_rounds;
+use crate::effects::{call_rounds, cycle_effects};
 use crate::judged::JudgedBodies;
 use crate::reading::bys_read;
 use crate::runs::{cells, failing_at_grain, record_later_loads};
@@ -121,7 +121,7 @@ fn first_write(deeds: &[NumberedDeed]) -> Option<Place>
 fn first_write_of_init(bodies: &JudgedBodies<'_>) -> Result<Option<Place>, OutOfMemory>
     ensures { (t : JudgedThread) → HoldsJudged t bodies.now → IfOk result (λ place. place ≡ first_write_of (deeds_of_init t.program)) }
 {
-    let rounds = call_rounds(bodies)?;
+    let rounds = call_rounds(bodies.deeds)?;
     let own = init_deeds(bodies.alloc, bodies.numbers, bodies.program)?;
     let deeds = with_called(bodies.alloc, bodies.deeds, rounds, own.as_slice())?;
     Ok(first_write(deeds.as_slice()))
@@ -235,11 +235,13 @@ fn verdict_by_numbers(
     ds2_deeds::laws::callees_are_found();
     ds2_deeds::laws::reached_are_found();
     let deeds = all_method_deeds(alloc, numbers, program)?;
+    let cycles = cycle_effects(alloc, numbers.locations.len(), deeds.as_slice())?;
     verdict_on(&JudgedBodies {
         alloc,
         program,
         numbers,
         deeds: deeds.as_slice(),
+        cycles: cycles.as_slice(),
     })
 }
 

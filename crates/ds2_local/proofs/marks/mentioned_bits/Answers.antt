@@ -1,0 +1,7 @@
+use Rattle.std.proofs.Common.{◌∙◌}
+use Rattle.ds2_local.specs.MarkedLocations.{number_mentioned}
+use Rattle.ds2_local.proofs.MarkLemmas.{all_mentioned, named_whole}
+use Rattle.ds2_local.proofs.marks.mentioned_bits.Goals as goal
+
+pub returns : goal.returns
+returns c = named_whole number_mentioned c.args.deeds.now c.deeds.deed-index c.deeds.bits _ c.deeds-test.false c.deeds.invariant ∙ all_mentioned c.args.count c.args.deeds.now

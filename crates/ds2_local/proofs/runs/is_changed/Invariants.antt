@@ -1,7 +1,0 @@
-use Rattle.std.proofs.Common.{◌≡◌, drop}
-use Rattle.std.specs.List.{list_any}
-use Rattle.ds2_deeds.specs.NumberedCalls.{changes_number}
-use Rattle.ds2_local.proofs.runs.is_changed.Given as goal
-
-abbrev pub invariant-deeds : goal.invariant-deeds
-invariant-deeds l = list_any (changes_number l.number) (drop l.deed-index l.deeds) ≡ list_any (changes_number l.number) l.deeds
