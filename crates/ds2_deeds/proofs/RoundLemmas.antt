@@ -1,7 +1,11 @@
 -- Rounds that add the methods that methods call, until one adds none.
-use Rattle.std.proofs.Common.{◌≡◌, ◌<◌, ◌≤◌, ℕ, zero, suc, ◌-◌, ◌+◌, Bool, true, false, List, [], ◌∷◌, ◌++◌, length, drop, get_or, refl, sym, ap, ◌∙◌, length-append, arith}
+use Rattle.std.proofs.Common.{◌≡◌, ◌<◌, ◌≤◌, ℕ, zero, suc, ◌-◌, ◌+◌, Bool, true, false, List, [], ◌∷◌, ◌++◌, length, drop, get_or, refl, sym, ap, ◌∙◌, length-append, append_assoc, append-nil, arith}
+use Rattle.std.proofs.lemmas.Bool.Decides.{Decides-eqb}
+use Rattle.std.proofs.lemmas.Grind.{flat_map-append}
 use Rattle.std.proofs.lemmas.List.{get_or_default}
-use Rattle.std.specs.Prelude.{if◌then◌else◌, flat_map}
+use Rattle.std.proofs.lemmas.List.Folds.{list_any-append}
+use Rattle.std.proofs.lemmas.List.Prefix.{front_rest}
+use Rattle.std.specs.Prelude.{◌||◌, ◌==◌, if◌then◌else◌, flat_map}
 use Rattle.ds2_deeds.specs.declared.deed.NumberedDeed.{NumberedDeed}
 use Rattle.ds2_deeds.specs.NumberedCalls.{is_one_of_numbers, with_one_number, with_numbers, calls_by_number, numbers_reached}
 use Rattle.ds2_deeds.proofs.DeedLemmas.{drop_next}
@@ -39,10 +43,61 @@ pub same_numbers : (xs ys : List ℕ) → length (with_numbers xs ys) ≡ length
 same_numbers xs [] e = refl
 same_numbers xs (y ∷ ys) e = same_by xs ys y (is_one_of_numbers xs y) (λ f. same_numbers xs ys f) e
 
+-- ---- what was added is there
+
+grown_by : (numbers : List ℕ) (x y : ℕ) (b : Bool) → is_one_of_numbers numbers x ≡ true → is_one_of_numbers (if b then numbers else numbers ++ y ∷ []) x ≡ true
+grown_by numbers x y true there = there
+grown_by numbers x y false there = list_any-append (λ other. other == x) numbers (y ∷ []) ∙ ap (λ b. b || is_one_of_numbers (y ∷ []) x) there
+
+still_there : (numbers ys : List ℕ) (x : ℕ) → is_one_of_numbers numbers x ≡ true → is_one_of_numbers (with_numbers numbers ys) x ≡ true
+still_there numbers [] x there = there
+still_there numbers (y ∷ ys) x there = still_there (with_one_number numbers y) ys x (grown_by numbers x y (is_one_of_numbers numbers y) there)
+
+there_by : (numbers : List ℕ) (x : ℕ) (b : Bool) → is_one_of_numbers numbers x ≡ b → is_one_of_numbers (if b then numbers else numbers ++ x ∷ []) x ≡ true
+there_by numbers x true e = e
+there_by numbers x false e =
+    list_any-append (λ other. other == x) numbers (x ∷ []) ∙ ap (λ b. b || is_one_of_numbers (x ∷ []) x) e ∙ ap (λ b. b || false) ((Decides-eqb x x).1 refl)
+
+-- numbers that are added once more change nothing
+once_more : (numbers xs : List ℕ) → with_numbers (with_numbers numbers xs) xs ≡ with_numbers numbers xs
+once_more numbers [] = refl
+once_more numbers (x ∷ xs) =
+    let first = with_one_number numbers x in
+    let whole = with_numbers first xs in
+    ap (λ b. with_numbers (if b then whole else whole ++ x ∷ []) xs) (still_there first xs x (there_by numbers x (is_one_of_numbers numbers x) refl)) ∙ once_more first xs
+
+-- what is added stands behind what was there
+
+behind_by : (numbers xs : List ℕ) (x : ℕ) (b : Bool) → ((ns : List ℕ) → (more : List ℕ) × (with_numbers ns xs ≡ ns ++ more))
+    → (more : List ℕ) × (with_numbers (if b then numbers else numbers ++ x ∷ []) xs ≡ numbers ++ more)
+behind_by numbers xs x true later = later numbers
+behind_by numbers xs x false later = let rest = later (numbers ++ x ∷ []) in (x ∷ rest.0, rest.1 ∙ append_assoc numbers (x ∷ []) rest.0)
+
+behind : (numbers xs : List ℕ) → (more : List ℕ) × (with_numbers numbers xs ≡ numbers ++ more)
+behind numbers [] = ([], sym (append-nil numbers))
+behind numbers (x ∷ xs) = behind_by numbers xs x (is_one_of_numbers numbers x) (λ ns. behind ns xs)
+
 module _ (all : List (List NumberedDeed)) where
   -- one round
   abbrev pub past_round : List ℕ → List ℕ
   past_round numbers = with_numbers numbers (flat_map (calls_by_number all) numbers)
+
+  -- what is reached where the calls of the numbers at the front are there
+  abbrev pub past_fresh : ℕ → List ℕ → List ℕ
+  past_fresh walked numbers = with_numbers numbers (flat_map (calls_by_number all) (drop walked numbers))
+
+  -- behind a round the calls of all that it began with are there
+  pub walked_on : (numbers next : List ℕ) (count : ℕ) → next ≡ past_round numbers → count ≡ length numbers → past_fresh count next ≡ past_round next
+  walked_on numbers next count is long =
+      let calls = flat_map (calls_by_number all) in
+      let added = behind numbers (calls numbers) in
+      let parts = is ∙ added.1 in
+      let there = ap (λ l. with_numbers l (calls numbers)) is ∙ once_more numbers (calls numbers) ∙ sym is in
+      ap (λ l. with_numbers next (calls l)) (ap (λ n. drop n next) long ∙ front_rest next numbers added.0 parts) ∙ ap (λ l. with_numbers l (calls added.0)) (sym there) ∙ sym (with_both next (calls numbers) (calls added.0))
+      ∙ ap (λ l. with_numbers next l) (sym (flat_map-append (calls_by_number all) numbers added.0)) ∙ ap (λ l. with_numbers next (calls l)) (sym parts)
+
+  pub no_fewer_reached : (numbers next : List ℕ) (count : ℕ) → next ≡ past_round numbers → count ≡ length numbers → count ≤ length next
+  no_fewer_reached numbers next count is long = omega (arith, long, no_fewer numbers (flat_map (calls_by_number all) numbers), ap (λ l. length l) is)
 
   -- behind a round that adds none, no further one does
   stays : (k : ℕ) (numbers : List ℕ) → past_round numbers ≡ numbers → numbers_reached all k numbers ≡ numbers

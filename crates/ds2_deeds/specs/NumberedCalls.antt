@@ -1,6 +1,6 @@
 -- What deeds may call, by numbers, and what deeds by numbers say of a location.
 use Rattle.std.specs.List.{list_any}
-use Rattle.std.specs.Prelude.{ℕ, zero, suc, ◌==◌, Bool, false, if◌then◌else◌, List, [], ◌∷◌, ◌++◌, flat_map, fold, slice_get, Option, Some, None}
+use Rattle.std.specs.Prelude.{◌≡◌, ◌<◌, ℕ, zero, suc, ◌==◌, Bool, false, if◌then◌else◌, List, [], ◌∷◌, ◌++◌, length, flat_map, fold, slice_get, slice_index_or, Option, Some, None}
 use Rattle.ds2_deeds.specs.declared.deed.NumberedDeed.{NumberedDeed}
 use Rattle.ds2_deeds.specs.declared.deed.NumberedDeed.TheVariants as numbered
 
@@ -20,6 +20,10 @@ is_one_of_numbers numbers n = list_any (λ other. other == n) numbers
 -- one more number, where it is not among these
 abbrev pub with_one_number : List ℕ → ℕ → List ℕ
 with_one_number numbers n = if is_one_of_numbers numbers n then numbers else numbers ++ n ∷ []
+
+-- each mark tells whether the number of its place is among these
+abbrev pub AreMarked : List ℕ → List Bool → Type 0
+AreMarked numbers marks = (n : ℕ) → n < length marks → slice_index_or marks n false ≡ is_one_of_numbers numbers n
 
 -- further numbers, in order
 abbrev pub with_numbers : List ℕ → List ℕ → List ℕ

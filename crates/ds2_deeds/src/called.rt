@@ -1,39 +1,18 @@
 //! Which methods deeds may call, by way of others too.
-ghost use Rattle.std.specs.Prelude.{◌≡◌, IfOk, OnOk, flat_map};
-ghost use Rattle.ds2_deeds.specs.NumberedCalls.{number_called, numbers_called, is_one_of_numbers, with_one_number, with_numbers, deeds_numbered as deeds_of_number, calls_by_number, may_call as reached_by, with_called as deeds_with_called};
+ghost use Rattle.std.specs.Prelude.{◌≡◌, ◌≤◌, IfOk, OnOk, drop, flat_map, length};
+ghost use Rattle.ds2_deeds.specs.NumberedCalls.{number_called, numbers_called, with_numbers, deeds_numbered as deeds_of_number, calls_by_number, may_call as reached_by, with_called as deeds_with_called};
 
 use crate::deed::NumberedDeed;
+use crate::marked_numbers::MarkedNumbers;
 use ds2_base::{List, OutOfMemory};
 use std::alloc::Global;
 
-/// Whether a number is among these.
-pub fn is_among(numbers: &[usize], number: usize) -> bool
-    ensures { result ≡ is_one_of_numbers numbers.now number }
-{
-    'numbers: for other in numbers {
-        if *other == number {
-            return true;
-        }
-    }
-    false
-}
-
-// Adds a number, where it is not there.
-fn add_number(numbers: &mut List<usize>, number: usize) -> Result<(), OutOfMemory>
-    ensures { OnOk result (numbers.new ≡ with_one_number numbers.old number) }
-{
-    if is_among(numbers.as_slice(), number) {
-        return Ok(());
-    }
-    numbers.push(number)
-}
-
 // Adds the method that a deed calls.
-fn add_called(numbers: &mut List<usize>, deed: NumberedDeed) -> Result<(), OutOfMemory>
+fn add_called(numbers: &mut MarkedNumbers, deed: NumberedDeed) -> Result<(), OutOfMemory>
     ensures { OnOk result (numbers.new ≡ with_numbers numbers.old (number_called deed)) }
 {
     match deed {
-        NumberedDeed::Call(number) => add_number(numbers, number),
+        NumberedDeed::Call(number) => numbers.add(number),
         NumberedDeed::Mention(_) => Ok(()),
         NumberedDeed::Change(_) => Ok(()),
         NumberedDeed::Write(_) => Ok(()),
@@ -41,7 +20,7 @@ fn add_called(numbers: &mut List<usize>, deed: NumberedDeed) -> Result<(), OutOf
 }
 
 // Adds the methods that deeds call.
-fn add_all_called(numbers: &mut List<usize>, deeds: &[NumberedDeed]) -> Result<(), OutOfMemory>
+fn add_all_called(numbers: &mut MarkedNumbers, deeds: &[NumberedDeed]) -> Result<(), OutOfMemory>
     ensures { OnOk result (numbers.new ≡ with_numbers numbers.old (numbers_called deeds.now)) }
 {
     'deeds: for deed in deeds {
@@ -60,16 +39,18 @@ fn deeds_numbered(all: &[List<NumberedDeed>], number: usize) -> &[NumberedDeed]
     }
 }
 
-// Adds the methods that these call.
+// Adds the methods that these call, but for those at the front whose methods have been walked.
 fn add_round(
     alloc: Global,
-    numbers: &mut List<usize>,
+    numbers: &mut MarkedNumbers,
     all: &[List<NumberedDeed>],
+    walked: usize,
 ) -> Result<(), OutOfMemory>
-    ensures { OnOk result (numbers.new ≡ with_numbers numbers.old (flat_map (calls_by_number all.now) numbers.old)) }
+    requires { walked ≤ length numbers.old }
+    ensures { OnOk result (numbers.new ≡ with_numbers numbers.old (flat_map (calls_by_number all.now) (drop walked numbers.old))) }
 {
-    let called = numbers.copy(alloc)?;
-    'called: for number in called.as_slice() {
+    let fresh = List::from_slice(alloc, numbers.as_slice().split_at(walked).1)?;
+    'fresh: for number in fresh.as_slice() {
         add_all_called(numbers, deeds_numbered(all, *number))?;
     }
     Ok(())
@@ -84,16 +65,18 @@ pub fn may_call(
 ) -> Result<List<usize>, OutOfMemory>
     ensures { IfOk result (λ numbers. numbers ≡ reached_by all.now rounds deeds.now) }
 {
-    let mut numbers = List::new(alloc);
+    let mut numbers = MarkedNumbers::new(alloc, all.len())?;
     add_all_called(&mut numbers, deeds)?;
+    let mut walked: usize = 0;
     'rounds: for _ in 0..rounds {
         let count = numbers.len();
-        add_round(alloc, &mut numbers, all)?;
+        add_round(alloc, &mut numbers, all, walked)?;
         if numbers.len() == count {
-            return Ok(numbers);
+            return Ok(numbers.into_list());
         }
+        walked = count;
     }
-    Ok(numbers)
+    Ok(numbers.into_list())
 }
 
 /// Deeds, and those of all methods that they may call.

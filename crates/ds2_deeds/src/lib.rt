@@ -2,7 +2,7 @@
 //!
 //! Locations and methods have numbers: `location`, `methods` and `table` give them. `scope` has what a body names. `deed`,
 //! `object_deeds`, `expression_deeds` and `statement_deeds` list what statements mention, change, call and write, `bodies` does so for
-//! whole methods, and `called` tells which methods deeds may call by way of others. [`laws`] says that what is found
+//! whole methods, and `called` tells which methods deeds may call by way of others, as `marked_numbers`. [`laws`] says that what is found
 //! by numbers is what `ds2_locality` says of names.
 #![tactic(auto)]
 
@@ -12,6 +12,7 @@ mod deed;
 mod expression_deeds;
 pub mod laws;
 mod location;
+mod marked_numbers;
 mod methods;
 mod object_deeds;
 mod scope;
@@ -19,11 +20,12 @@ mod statement_deeds;
 mod table;
 
 pub use bodies::{all_method_deeds, init_deeds, run_deeds};
-pub use called::{is_among, may_call, with_called};
+pub use called::{may_call, with_called};
 pub use deed::{NumberedDeed, Numbers};
 pub use location::{
     CodeHome, GlobalName, LocationName, global_location, named_location, number_of,
 };
+pub use marked_numbers::is_among;
 pub use methods::{MethodName, called_home, method_at, methods_in_order, number_of_method};
 pub use scope::{BodyScope, find_hash, find_iterator, find_output, method_scope, system_scope};
 pub use table::locations_in_order;
