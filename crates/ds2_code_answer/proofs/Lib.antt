@@ -1,2 +1,3 @@
 pub mod ScaledLoads
 pub mod FittingReadings
+pub mod Endings

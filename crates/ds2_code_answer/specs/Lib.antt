@@ -2,3 +2,4 @@ pub mod CodeTables
 pub mod CodeLoads
 pub mod CodeAnswer
 pub mod CodeLoadLaws
+pub mod Endings
