@@ -1,3 +1,4 @@
 pub mod CursorSteps
 pub mod OpenCursors
 pub mod GroupLaws
+pub mod EveryGroup

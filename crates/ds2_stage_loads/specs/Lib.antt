@@ -1,3 +1,4 @@
 pub mod Grains
 pub mod StageCursors
 pub mod GroupedLoads
+pub mod EveryGroup
