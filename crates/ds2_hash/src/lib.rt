@@ -5,7 +5,7 @@
 //! object's iterators.
 //!
 //! ```text
-//! let mut customers = HashObject::open(alloc);
+//! let mut customers = HashObject::open(alloc, HashKey::new().with(table_bytes));
 //! let added = customers.add(key, data)?;
 //! let mut at = Hiter { at: None };
 //! while at.next(&customers) { .. }
@@ -14,8 +14,10 @@
 
 mod call_code;
 mod hiter;
+mod key;
 mod object;
 
 pub use call_code::code_of_call;
 pub use hiter::Hiter;
+pub use key::HashKey;
 pub use object::HashObject;

@@ -7,6 +7,7 @@ ghost use Rattle.ds2_value.specs.declared.hash_function.HashFunction.TheVariants
 ghost use Rattle.ds2_value.specs.declared.value.Value.TheVariants.{Int};
 ghost use Rattle.ds2_hash.specs.Calls.{answer_of, shift_of_removal, HasDistinctKeys};
 
+use crate::HashKey;
 use ds2_base::OutOfMemory;
 use ds2_value::{Row, copy_row};
 use indexmap::IndexMap;
@@ -18,7 +19,7 @@ use std::marker::Model;
 /// Keys are equal as values are: 1 and 1.00 are one key, and so are texts that differ in blanks at the end.
 #[derive(Drop)]
 pub struct HashObject {
-    items: IndexMap<Row, Row>,
+    items: IndexMap<Row, Row, HashKey>,
 }
 
 impl Model for HashObject {
@@ -30,12 +31,12 @@ impl Model for HashObject {
 }
 
 impl HashObject {
-    /// An object without items. Takes no memory.
-    pub fn open(alloc: Global) -> Self
+    /// An object without items, which hashes by this key. Takes no memory.
+    pub fn open(alloc: Global, key: HashKey) -> Self
         ensures { result ≡ [] }
     {
         HashObject {
-            items: IndexMap::new(alloc),
+            items: IndexMap::with_hasher(alloc, key),
         }
     }
 
@@ -113,11 +114,12 @@ impl HashObject {
         self.items.get_index(i as usize)
     }
 
-    /// An object with the same items.
+    /// An object with the same items and the same key.
     pub fn copy(&self, alloc: Global) -> Result<HashObject, OutOfMemory>
         ensures { IfOk result (λ copy. copy ≡ self.now) }
     {
-        let mut items = IndexMap::with_capacity(alloc, self.items.len())?;
+        let hasher = *self.items.hasher();
+        let mut items = IndexMap::with_capacity_and_hasher(alloc, self.items.len(), hasher)?;
         'items: for (key, item) in self.items.iter() {
             items.insert(
                 copy_row(alloc, key.as_slice())?,
