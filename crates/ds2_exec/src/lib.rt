@@ -10,6 +10,7 @@
 //! ```
 #![tactic(auto)]
 
+mod key;
 pub mod laws;
 mod object_run;
 mod output_rows;

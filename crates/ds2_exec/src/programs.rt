@@ -20,6 +20,7 @@ ghost use Rattle.ds2_exec.specs.CodeRuns.{AreLinked, rows_counted};
 ghost use Rattle.ds2_exec.specs.OutputSinks.{HaveKept, IsCodeEnd, code_end_then, left_by_run, sinks_then, tables_kept, write_sink_then};
 ghost use Rattle.ds2_exec.specs.StageEnds.{GrainsFit, stages_counted};
 
+use crate::key::key_of_run;
 use crate::output_rows::sinks_of;
 use crate::output_sink::OutputSink;
 use crate::stages::{StageEnd, count_stages, grains_of, stage_ends};
@@ -28,7 +29,7 @@ use ds2_answer::lines::{say_count, say_lines, say_table};
 use ds2_base::{Bytes, List, OutOfMemory, Text};
 use ds2_code::ProgramParts;
 use ds2_outside::Store;
-use ds2_reading::Tables;
+use ds2_reading::{HashKey, Tables};
 use ds2_scope::NameSet;
 use ds2_staged::run_into;
 use ds2_store_steps::{
@@ -54,18 +55,19 @@ pub(crate) struct CodeEnd {
 
 // ---- one program
 
-// The tables that a program's code names, of those that are held.
+// The tables that a program's code names, of those that are held, with this key.
 pub(crate) fn tables_of_code(
     alloc: Global,
     code: &ProgramCode,
     stored: &[KeptTable],
     made: &[List<KeptTable>],
+    key: HashKey,
 ) -> Result<Tables, OutOfMemory>
     ensures held { IfOk result (λ tables. tables ≡ tables_held (record { stored = stored.now; made = made.now }) code.now) }
     ensures whole { IfOk result (λ tables. AllByRecursion IsTable tables) }
 {
     let references = references_of_code(alloc, code)?;
-    tables_referred(alloc, references.as_slice(), stored, made)
+    tables_referred(alloc, references.as_slice(), stored, made, key)
 }
 
 /// What a program's code leaves whose run has ended so, with what its sink has taken.
@@ -218,7 +220,7 @@ fn add_kept(
     let OutputSink { written, kept } = sink;
     match kept {
         None => Ok(()),
-        Some(table) => tables.push(KeptTable::new(alloc, &written.name, table)?),
+        Some(table) => tables.push(KeptTable::new(alloc, &written.name, table, HashKey::new())?),
     }
 }
 
@@ -260,6 +262,7 @@ fn run_program<S: Store>(
     kept: &NameSet,
     stored: &[KeptTable],
     made: &[List<KeptTable>],
+    key: HashKey,
     verdicts: &[ThreadVerdict],
     budget: u64,
     log: &mut Bytes,
@@ -273,7 +276,7 @@ fn run_program<S: Store>(
     ensures read { CausedBy Status.Read result (S.read_faults store.old) (S.read_faults store.new) }
     ensures write { CausedBy Status.Write result (S.write_faults store.old) (S.write_faults store.new) }
 {
-    let tables = tables_of_code(alloc, code, stored, made)?;
+    let tables = tables_of_code(alloc, code, stored, made, key)?;
     let end = run_code(alloc, code, &tables, kept, verdicts, budget)?;
     settle(alloc, end, log, store)
 }
@@ -302,6 +305,7 @@ pub fn run_programs<S: Store>(
 {
     let references = references_of(alloc, codes)?;
     let kept = names_kept(alloc, references.as_slice())?;
+    let key = key_of_run(alloc, codes, stored)?;
     let mut made: List<List<KeptTable>> = List::new(alloc);
     let mut left = codes;
     while let [code, after @ ..] = left {
@@ -312,6 +316,7 @@ pub fn run_programs<S: Store>(
             &kept,
             stored,
             made.as_slice(),
+            key,
             verdicts,
             budget,
             log,

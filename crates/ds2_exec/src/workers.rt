@@ -21,6 +21,7 @@ ghost use Rattle.ds2_exec.specs.OutputSinks.{HaveKept, IsCodeEnd};
 ghost use Rattle.ds2_exec.specs.StageEnds.{GrainsFit};
 ghost use Rattle.ds2_exec.specs.Workers.{threads_of_reading, within_workers, workers_given};
 
+use crate::key::key_of_run;
 use crate::output_rows::sinks_of;
 use crate::programs::{CodeEnd, code_end, settle, tables_of_code};
 use crate::stages::{grains_of, local_grain};
@@ -30,7 +31,7 @@ use ds2_code::{ProgramParts, ReadingPart};
 use ds2_group_job::run_into_with;
 use ds2_machine::UnitSink;
 use ds2_outside::{Gate, Store};
-use ds2_reading::Tables;
+use ds2_reading::{HashKey, Tables};
 use ds2_scope::NameSet;
 use ds2_staged::run_into;
 use ds2_store_steps::{Halt, KeptTable, names_kept, references_of};
@@ -148,6 +149,7 @@ fn run_program_with<S: Store, G: Gate + Sync, W: Threads + Wait + Sync>(
     kept: &NameSet,
     stored: &[KeptTable],
     made: &[List<KeptTable>],
+    key: HashKey,
     verdicts: &[ThreadVerdict],
     threads: Option<u32>,
     gate: &G,
@@ -164,7 +166,7 @@ fn run_program_with<S: Store, G: Gate + Sync, W: Threads + Wait + Sync>(
     ensures read { CausedBy Status.Read result (S.read_faults store.old) (S.read_faults store.new) }
     ensures write { CausedBy Status.Write result (S.write_faults store.old) (S.write_faults store.new) }
 {
-    let tables = tables_of_code(alloc, code, stored, made)?;
+    let tables = tables_of_code(alloc, code, stored, made, key)?;
     let end = run_code_with(
         rt, alloc, code, &tables, kept, verdicts, threads, gate, budget,
     )?;
@@ -198,6 +200,7 @@ pub fn run_programs_with<S: Store, G: Gate + Sync, W: Threads + Wait + Sync>(
 {
     let references = references_of(alloc, codes)?;
     let kept = names_kept(alloc, references.as_slice())?;
+    let key = key_of_run(alloc, codes, stored)?;
     let mut made: List<List<KeptTable>> = List::new(alloc);
     let mut left = codes;
     while let [code, after @ ..] = left {
@@ -209,6 +212,7 @@ pub fn run_programs_with<S: Store, G: Gate + Sync, W: Threads + Wait + Sync>(
             &kept,
             stored,
             made.as_slice(),
+            key,
             verdicts,
             threads,
             gate,

@@ -1,6 +1,6 @@
 //! The tables that hash objects are loaded from.
 
-use ds2_reading::Tables;
+use ds2_reading::{HashKey, Tables};
 use ds2_slots::HashTables;
 use ds2_value::Row;
 
@@ -21,5 +21,9 @@ impl HashTables for TableRows<'_> {
             None => None,
             Some(table) => Some(table.rows().as_slice()),
         }
+    }
+
+    fn key(&self) -> HashKey {
+        self.tables.key()
     }
 }

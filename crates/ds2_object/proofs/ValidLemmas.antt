@@ -215,8 +215,11 @@ links_unnamed earlier (p ∷ programs) h =
     let n = both (has_no_name p) (parts_linked earlier p.program && list_all (parts_linked earlier) p.stages) k.0 in
     and_true (has_no_name p) (list_all has_no_name programs) n.0 (links_unnamed (earlier ++ p ∷ []) programs k.1)
 
+pub behind_unnamed : (programs : List StagedParts) → IsTrue (linked_behind [] programs) → IsTrue (list_all has_no_name programs)
+behind_unnamed = links_unnamed []
+
 pub linked_unnamed : (programs : List StagedParts) → IsTrue (object_linked programs) → IsTrue (list_all has_no_name programs)
-linked_unnamed programs h = links_unnamed [] programs (both (is_short programs) (linked_behind [] programs) h).1
+linked_unnamed programs h = behind_unnamed programs (both (is_short programs) (linked_behind [] programs) h).1
 
 pub linked_fits : (programs : List StagedParts) → IsTrue (object_linked programs) → length programs < 2 ^ 32
 linked_fits programs h = ltb-true (length programs) (2 ^ 32) (both (is_short programs) (linked_behind [] programs) h).0

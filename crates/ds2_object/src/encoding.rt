@@ -1,10 +1,10 @@
 //! Objects as bytes.
-ghost use Rattle.std.specs.Prelude.{◌≡◌, IfOk, OnOk, IsTrue, map};
+ghost use Rattle.std.specs.Prelude.{◌≡◌, [], IfOk, OnOk, IsTrue, map};
 ghost use Rattle.std.specs.List.{list_all};
 ghost use Rattle.ds2_object_words.specs.Parts.{ItemsWritten};
 ghost use Rattle.ds2_object_programs.specs.ProgramRules.{data_spelled};
 ghost use Rattle.ds2_object_programs.specs.ProgramSpelling.{data_program_part, written_data};
-ghost use Rattle.ds2_object.specs.ObjectSpelling.{has_no_name, IsSpellingOf};
+ghost use Rattle.ds2_object.specs.ObjectSpelling.{has_no_name, linked_behind, IsSpellingOf};
 
 use crate::ObjectCode;
 use crate::decoding::{MAGIC, VERSION};
@@ -37,6 +37,17 @@ fn write_programs(programs: &[ProgramCode], out: &mut Bytes) -> Result<(), OutOf
         rest = after;
     }
     Ok(())
+}
+
+/// The spellings of programs, one behind the other. They are programs of an object.
+#[tactic(auto, using(crate::proofs::ValidLemmas::behind_unnamed))]
+pub fn encode_programs(alloc: Global, programs: &[ProgramCode]) -> Result<Bytes, OutOfMemory>
+    requires { IsTrue (linked_behind [] programs.now) }
+    ensures { IfOk result (λ bytes. ItemsWritten data_program_part [] (map written_data programs.now) bytes) }
+{
+    let mut out = List::new(alloc);
+    write_programs(programs, &mut out)?;
+    Ok(out)
 }
 
 /// The one spelling of an object.

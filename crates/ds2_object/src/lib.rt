@@ -20,6 +20,6 @@ mod object;
 mod refusal;
 
 pub use decoding::decode;
-pub use encoding::encode;
+pub use encoding::{encode, encode_programs};
 pub use object::ObjectCode;
 pub use refusal::ObjectRefusal;

@@ -9,6 +9,7 @@ mod load;
 mod reading;
 mod tables;
 
+pub use ds2_hash::HashKey;
 pub use load::Load;
 pub use reading::{ByKey, ReadTable, Reading};
 pub use tables::Tables;

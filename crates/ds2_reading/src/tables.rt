@@ -4,15 +4,17 @@ ghost use Rattle.std.specs.Option.{option_map};
 ghost use Rattle.std.specs.Arc.{arc_value};
 
 use ds2_base::{List, OutOfMemory};
+use ds2_hash::HashKey;
 use ds2_table::Table;
 use std::alloc::Global;
 use std::marker::Model;
 use std::sync::Arc;
 
-/// Tables by number, from 0. A contract sees the list of them, however they are shared.
+/// Tables by number, from 0, and the key of the hash objects beside them. A contract sees the list of tables, however they are shared.
 #[derive(Drop)]
 pub struct Tables {
     tables: List<Arc<Table, Global>>,
+    key: HashKey,
 }
 
 impl Model for Tables {
@@ -26,13 +28,19 @@ impl Model for Tables {
 }
 
 impl Tables {
-    /// No tables. Takes no memory.
-    pub fn new(alloc: Global) -> Tables
+    /// No tables, and this key. Takes no memory.
+    pub fn new(alloc: Global, key: HashKey) -> Tables
         ensures { result ≡ [] }
     {
         Tables {
             tables: List::new(alloc),
+            key,
         }
+    }
+
+    /// The key of hash objects.
+    pub fn key(&self) -> HashKey {
+        self.key
     }
 
     /// Adds a table, whose number is how many there were before. After a refusal the tables are as they were, and this one is let go.

@@ -61,7 +61,7 @@ fn load_object<T: HashTables>(
     requires { AreSlotTypesInBounds slots.now }
     ensures { IfOk result (λ object. object ≡ opening_items slots.now part.now part.now.loaded (drop number (T.tables tables.now))) }
 {
-    let mut object = HashObject::open(alloc);
+    let mut object = HashObject::open(alloc, tables.key());
     let Some(loaded) = &part.loaded else {
         return Ok(object);
     };

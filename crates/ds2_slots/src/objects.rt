@@ -11,7 +11,7 @@ use crate::shift::shift_all;
 use crate::tables::HashTables;
 use ds2_base::{List, OutOfMemory};
 use ds2_code::{HashPart, Slot};
-use ds2_hash::{HashObject, Hiter, code_of_call};
+use ds2_hash::{HashKey, HashObject, Hiter, code_of_call};
 use ds2_value::{HashFunction, IteratorFunction, Value};
 use std::alloc::Global;
 
@@ -82,7 +82,7 @@ impl HashObjects {
         let mut hiter = Hiter {
             at: self.position(number),
         };
-        let empty = HashObject::open(alloc);
+        let empty = HashObject::open(alloc, HashKey::new());
         let object = match self.hashes.get(object) {
             None => &empty,
             Some(object) => object,
@@ -107,9 +107,10 @@ impl HashObjects {
         ensures rest { self.new ≡ record self.old { hashes = slice_set self.old.hashes number [] } }
     {
         if number < self.hashes.len() {
-            self.hashes.replace(number, HashObject::open(alloc))
+            self.hashes
+                .replace(number, HashObject::open(alloc, HashKey::new()))
         } else {
-            HashObject::open(alloc)
+            HashObject::open(alloc, HashKey::new())
         }
     }
 

@@ -49,7 +49,7 @@ pub fn tables_behind(alloc: Global, tables: &Tables, first: usize) -> Result<Tab
     ensures { IfOk result (λ behind. behind ≡ drop first tables.now) }
 {
     let count = tables.len();
-    let mut behind = Tables::new(alloc);
+    let mut behind = Tables::new(alloc, tables.key());
     let mut number = first;
     'tables: while number < count {
         let Some(table) = tables.get(number) else {

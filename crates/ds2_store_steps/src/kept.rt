@@ -4,17 +4,19 @@ ghost use Rattle.std.specs.Arc.{arc_value};
 ghost use Rattle.ds2_answer.specs.HeldTables.{contents_named};
 
 use ds2_base::{List, Name, OutOfMemory};
+use ds2_reading::HashKey;
 use ds2_table::Table;
 use ds2_value::Schema;
 use std::alloc::Global;
 use std::marker::Model;
 use std::sync::Arc;
 
-/// A table under a name. A contract sees its name and what it contains.
+/// A table under a name, and the key of the file that it was read from. A contract sees its name and what it contains.
 #[derive(Drop)]
 pub struct KeptTable {
     name: Name,
     table: Arc<Table, Global>,
+    key: HashKey,
 }
 
 impl Model for KeptTable {
@@ -27,14 +29,20 @@ impl Model for KeptTable {
 }
 
 impl KeptTable {
-    /// A table under this name.
-    pub fn new(alloc: Global, name: &Name, table: Table) -> Result<KeptTable, OutOfMemory>
+    /// A table under this name, from a file of this key.
+    pub fn new(
+        alloc: Global,
+        name: &Name,
+        table: Table,
+        key: HashKey,
+    ) -> Result<KeptTable, OutOfMemory>
         ensures { IfOk result (λ kept. kept ≡ record { name = name.now; contents = table }) }
     {
         let name = name.copy(alloc)?;
         Ok(KeptTable {
             name,
             table: Arc::new(alloc, table)?,
+            key,
         })
     }
 
@@ -50,6 +58,11 @@ impl KeptTable {
         ensures { result.now ≡ self.now.contents.columns }
     {
         self.table.schema()
+    }
+
+    /// The key of its file.
+    pub fn key(&self) -> &HashKey {
+        &self.key
     }
 
     // Whether it has this name.

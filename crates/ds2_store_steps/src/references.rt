@@ -19,7 +19,7 @@ use ds2_base::{List, Name, OutOfMemory};
 use ds2_code::{
     HashPart, HashTable, ProgramParts, ReadPart, ReadingPart, StagedParts, TableReference,
 };
-use ds2_reading::Tables;
+use ds2_reading::{HashKey, Tables};
 use ds2_scope::{NameSet, add_name};
 use ds2_table::Table;
 use ds2_valid_code::ProgramCode;
@@ -306,17 +306,18 @@ fn table_referred(
     }
 }
 
-/// The tables that references name, in their order, of those that are held.
+/// The tables that references name, in their order, of those that are held, with this key.
 pub fn tables_referred(
     alloc: Global,
     references: &[TableReference],
     stored: &[KeptTable],
     made: &[List<KeptTable>],
+    key: HashKey,
 ) -> Result<Tables, OutOfMemory>
     ensures held { IfOk result (λ tables. tables ≡ map (table_held (record { stored = stored.now; made = made.now })) references.now) }
     ensures whole { IfOk result (λ tables. AllByRecursion IsTable tables) }
 {
-    let mut tables = Tables::new(alloc);
+    let mut tables = Tables::new(alloc, key);
     let mut left = references;
     'references: while let [reference, after @ ..] = left {
         let table = table_referred(alloc, stored, made, reference)?;

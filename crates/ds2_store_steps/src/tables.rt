@@ -15,6 +15,7 @@ use ds2_base::{Bytes, List, Name, Stop, Text};
 use ds2_code::TableReference;
 use ds2_csv::read_table;
 use ds2_outside::Store;
+use ds2_reading::HashKey;
 use ds2_table::Table;
 use std::alloc::Global;
 
@@ -25,13 +26,14 @@ fn keep_table(
     name: &Name,
     file: &Text,
     table: Table,
+    key: HashKey,
     log: &mut Bytes,
 ) -> Result<KeptTable, Halt>
     requires file { file.now ≡ table_file name.now }
     ensures { KeepsRead references.now name.now (Ok table) log.old result log.new }
 {
     if are_columns_named(references, name, table.schema().columns().as_slice()) {
-        Ok(KeptTable::new(alloc, name, table)?)
+        Ok(KeptTable::new(alloc, name, table, key)?)
     } else {
         Err(refuse_file(alloc, file, FileKind::OtherSchema, log))
     }
@@ -50,7 +52,10 @@ fn kept_table(
     ensures { KeepsRead references.now name.now (reads bytes.now) log.old result log.new }
 {
     match read_table(alloc, bytes) {
-        Ok(table) => keep_table(alloc, references, name, file, table, log),
+        Ok(table) => {
+            let key = HashKey::new().with(bytes.as_slice());
+            keep_table(alloc, references, name, file, table, key, log)
+        }
         Err(Stop::Refused(refusal)) => {
             Err(refuse_file(alloc, file, FileKind::Table(refusal), log))
         }

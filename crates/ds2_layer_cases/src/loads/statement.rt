@@ -2,7 +2,7 @@
 use crate::loads::lines::{ByLine, by_lines, table_of};
 use crate::loads::mistake::Mistake;
 use ds2_base::{List, Name};
-use ds2_reading::{ByKey, ReadTable, Reading, Tables};
+use ds2_reading::{ByKey, HashKey, ReadTable, Reading, Tables};
 use ds2_table::Table;
 use std::alloc::Global;
 use std::sync::Arc;
@@ -87,7 +87,7 @@ fn push_table(alloc: Global, tables: &mut Tables, table: Table) -> Result<(), Mi
 pub fn statement_of(alloc: Global, block: &str) -> Result<Statement, Mistake> {
     let lines = by_lines(alloc, block)?;
     let mut names = List::new(alloc);
-    let mut tables = Tables::new(alloc);
+    let mut tables = Tables::new(alloc, HashKey::new());
     let mut reads = List::new(alloc);
     for file in block.split("table\n").skip(1) {
         let table = table_of(alloc, file)?;

@@ -20,6 +20,11 @@ returns-in_err-kept-clause-does g c =
     no_memory (plan_of (verdict_named c.args.verdicts.now) c.args.budget c.args.stored.now c.args.codes.now []) (λ (_ : Unit {0}). Stops Done) c.args.log.now c.args.log.now (g.S.Store.files c.args.store.now) (g.S.Store.files c.args.store.now) c.from_residual-in_err-kept.result
     c.from_residual-in_err-kept.ensures.1 refl
 
+pub returns-in_err-key-clause-does : goal.returns-in_err-key-clause-does
+returns-in_err-key-clause-does g c =
+    no_memory (plan_of (verdict_named c.args.verdicts.now) c.args.budget c.args.stored.now c.args.codes.now []) (λ (_ : Unit {0}). Stops Done) c.args.log.now c.args.log.now (g.S.Store.files c.args.store.now) (g.S.Store.files c.args.store.now) c.from_residual-in_err-key.result
+    c.from_residual-in_err-key.ensures.1 refl
+
 pub loop-left-init : goal.loop-left-init
 loop-left-init g c =
     let keeps = contains (pointwise nat_eq) c.in_ok-kept.kept in
