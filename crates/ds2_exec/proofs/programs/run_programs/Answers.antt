@@ -19,6 +19,9 @@ returns-in_err-kept-clause-does g c =
     no_memory (plan_of (verdict_named c.args.verdicts.now) c.args.budget c.args.stored.now c.args.codes.now []) (λ (_ : Unit {0}). Stops Done) c.args.log.now c.args.log.now (g.S.Store.files c.args.store.now) (g.S.Store.files c.args.store.now) c.from_residual-in_err-kept.result
     c.from_residual-in_err-kept.ensures.1 refl
 
+pub key_of_run-requires : goal.key_of_run-requires
+key_of_run-requires g c = c.requires.linked.links
+
 pub returns-in_err-key-clause-does : goal.returns-in_err-key-clause-does
 returns-in_err-key-clause-does g c =
     no_memory (plan_of (verdict_named c.args.verdicts.now) c.args.budget c.args.stored.now c.args.codes.now []) (λ (_ : Unit {0}). Stops Done) c.args.log.now c.args.log.now (g.S.Store.files c.args.store.now) (g.S.Store.files c.args.store.now) c.from_residual-in_err-key.result
