@@ -8,7 +8,7 @@ use Rattle.ds2_deeds.specs.declared.deed.NumberedDeed.{NumberedDeed}
 use Rattle.ds2_deeds.specs.declared.deed.NumberedDeed.TheVariants as numbered
 use Rattle.ds2_deeds.specs.NumberedCalls.{changes_number, mentions_number}
 use Rattle.ds2_recorded_walk.specs.LocationBits.{is_on}
-use Rattle.ds2_local.specs.MarkedLocations.{number_changed, number_mentioned, numbers_mentioned, with_mark}
+use Rattle.ds2_local.specs.MarkedLocations.{number_changed, number_mentioned, numbers_mentioned, with_location_on}
 use Rattle.ds2_local.proofs.RangeLemmas.{drop_next}
 
 -- a number is the one that is named, where one is
@@ -62,7 +62,7 @@ none_range : (from count : ℕ) → replicate count false ≡ map (λ n. false) 
 none_range from zero = refl
 none_range from (suc count) = ap (λ l. false ∷ l) (none_range (from + 1) count)
 
-mark_one : (f : ℕ → Bool) (count : ℕ) (o : Option ℕ) → with_mark (map f (range_with_len 0 count)) o ≡ map (λ n. f n || is_named o n) (range_with_len 0 count)
+mark_one : (f : ℕ → Bool) (count : ℕ) (o : Option ℕ) → with_location_on (map f (range_with_len 0 count)) o ≡ map (λ n. f n || is_named o n) (range_with_len 0 count)
 mark_one f count None = same_values f (λ n. f n || false) (range_with_len 0 count) (λ n. sym (or_none (f n)))
 mark_one f count (Some k) =
     let here : 0 + k ≡ k = omega arith in set_range f 0 count k ∙ ap (λ m. map (λ n. f n || (m == n)) (range_with_len 0 count)) here
@@ -70,10 +70,10 @@ mark_one f count (Some k) =
 module _ (named : NumberedDeed → Option ℕ) where
   -- a set with what deeds name
   abbrev pub with_named : List Bool → List NumberedDeed → List Bool
-  with_named bits deeds = fold (λ b d. with_mark b (named d)) bits deeds
+  with_named bits deeds = fold (λ b d. with_location_on b (named d)) bits deeds
 
   -- the next deed
-  pub named_next : (deeds : List NumberedDeed) (i : ℕ) (deed : NumberedDeed) (bits next whole : List Bool) → i < length deeds → deed ≡ get_or deeds i deed → next ≡ with_mark bits (named deed)
+  pub named_next : (deeds : List NumberedDeed) (i : ℕ) (deed : NumberedDeed) (bits next whole : List Bool) → i < length deeds → deed ≡ get_or deeds i deed → next ≡ with_location_on bits (named deed)
       → with_named bits (drop i deeds) ≡ whole → with_named next (drop (i + 1) deeds) ≡ whole
   named_next deeds i deed bits next whole lt here e before =
       ap (λ b. with_named b (drop (i + 1) deeds)) e ∙ sym (ap (λ l. with_named bits l) (drop_next deeds i deed lt here)) ∙ before

@@ -16,9 +16,9 @@ number_changed (numbered.Change number) = Some number
 number_changed _ = None
 
 -- a set with the location of a number, where there is such a number
-abbrev pub with_mark : List Bool → Option ℕ → List Bool
-with_mark bits None = bits
-with_mark bits (Some number) = slice_set bits number true
+abbrev pub with_location_on : List Bool → Option ℕ → List Bool
+with_location_on bits None = bits
+with_location_on bits (Some number) = slice_set bits number true
 
 -- the numbers of those of so many locations that deeds mention, in order
 abbrev pub numbers_mentioned : (count : ℕ) → List NumberedDeed → List ℕ

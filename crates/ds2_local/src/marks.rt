@@ -3,7 +3,7 @@ ghost use Rattle.std.specs.List.{list_any, filter, range_with_len};
 ghost use Rattle.std.specs.Prelude.{◌≡◌, ◌++◌, ◌∷◌, [], false, if◌then◌else◌, map, replicate, IfOk, OnOk};
 ghost use Rattle.ds2_deeds.specs.NumberedCalls.{changes_number, mentions_number};
 ghost use Rattle.ds2_recorded_walk.specs.LocationBits.{is_on};
-ghost use Rattle.ds2_local.specs.MarkedLocations.{number_changed, number_mentioned, numbers_mentioned, with_mark};
+ghost use Rattle.ds2_local.specs.MarkedLocations.{number_changed, number_mentioned, numbers_mentioned, with_location_on};
 
 use ds2_base::{List, OutOfMemory};
 use ds2_deeds::NumberedDeed;
@@ -47,7 +47,7 @@ fn none_on(alloc: Global, count: usize) -> Result<List<bool>, OutOfMemory>
 
 // Adds the location of a number to a set, where there is such a number.
 fn mark(bits: &mut List<bool>, number: Option<usize>)
-    ensures { bits.new ≡ with_mark bits.old number }
+    ensures { bits.new ≡ with_location_on bits.old number }
 {
     if let Some(number) = number {
         if number < bits.len() {

@@ -1,21 +1,22 @@
 -- Whose code it is: one number for methods with equal signatures, and another one for others.
-use Rattle.std.proofs.Common.{◌≡◌, ℕ, zero, suc, ◌<◌, Bool, true, false, ◌&&◌, List, [], ◌∷◌, length, Option, Some, None, refl, sym, ap, ◌∙◌, subst, arith}
-use Rattle.ds2_value.specs.Types.{same_ty}
-use Rattle.std.specs.Prelude.{◌==◌, slice_get, slice_set, unwrap_or, if◌then◌else◌}
+use Rattle.std.proofs.Common.{◌≡◌, ℕ, zero, suc, ◌+◌, ◌<◌, ◌≤◌, Bool, true, false, ◌&&◌, List, [], ◌∷◌, ◌++◌, length, get_or, take, drop, Option, Some, None, refl, sym, ap, ◌∙◌, subst, arith}
+use Rattle.std.specs.Prelude.{◌==◌, slice_get, slice_set, unwrap_or, Vec, if◌then◌else◌}
 use Rattle.std.specs.Option.{option_map}
 use Rattle.std.proofs.lemmas.Bool.{eq-eqb, eqb-true, eqb-false}
-use Rattle.std.proofs.lemmas.List.{length-set}
-use Rattle.ds2_value.specs.declared.ty.Ty.{Ty}
-use Rattle.ds2_value.specs.declared.ty.Ty.TheVariants.{BigInt, Decimal as DecimalOf, Char, Varchar}
+use Rattle.std.proofs.lemmas.List.{length-set, take_more, drop_more, length-take-le, append_assoc}
+use Rattle.std.specs.declared.alloc.Global.{Global}
+use Rattle.std.specs.BTreeMap.{BTreeMap}
 use Rattle.ds2_code.specs.declared.instr.Instr.{Instr}
 use Rattle.ds2_code.specs.declared.parts.MethodPart.{MethodPart}
-use Rattle.ds2_code.specs.declared.parts.ParameterPart.{ParameterPart}
 use Rattle.ds2_code.specs.declared.parts.ProgramParts.{ProgramParts}
-use Rattle.ds2_code.specs.OperandTypes.{CodeRole, OfUnit, OfMethod, Signature, signature_of}
+use Rattle.ds2_code.specs.OperandTypes.{CodeRole, OfUnit, OfMethod, signature_of}
 use Rattle.ds2_code.specs.ValidCode.{unit_entries, unit_entry_role, method_entry_role, entry_role}
 use Rattle.ds2_valid_code.specs.declared.owner.CodeOwner.{CodeOwner}
 use Rattle.ds2_valid_code.specs.declared.owner.CodeOwner.TheVariants.{Unit as UnitCode, Method as MethodCode}
-use Rattle.ds2_valid_code.specs.CodeScan.{same_types, same_flag, same_parameters, same_result, same_signature, first_where, first_like, role_of_method, owner_role, owner_of, same_owner, no_entries, with_unit_entries, with_method_entries, entry_table, entry_found}
+use Rattle.ds2_valid_code.specs.declared.owner.EntryPoint.{EntryPoint}
+use Rattle.ds2_valid_code.specs.CodeScan.{first_where, first_like, entry_point, method_points, role_of_method, owner_role, owner_of, same_owner, no_entries, with_unit_entries, with_method_entries, entry_table, entry_found}
+use Rattle.ds2_valid_code.specs.SignatureCodes.{signature_code, same_code, number_of_code, found_or}
+use Rattle.ds2_valid_code.proofs.SignatureLemmas.{code_same, code_is, signature_is}
 
 -- ---- tests
 
@@ -34,99 +35,6 @@ split false b h = absurd cc
 pub join : (a b : Bool) → a ≡ true → b ≡ true → (if a then b else false) ≡ true
 join true b g h = h
 join false b g h = absurd cc
-
--- ---- signatures
-
-ty_is : (t u : Ty) → same_ty t u ≡ true → t ≡ u
-ty_is BigInt BigInt h = refl
-ty_is BigInt (DecimalOf q t) h = absurd cc
-ty_is BigInt (Char m) h = absurd cc
-ty_is BigInt (Varchar m) h = absurd cc
-ty_is (DecimalOf p s) BigInt h = absurd cc
-ty_is (DecimalOf p s) (DecimalOf q t) h =
-    let k = both (p == q) (s == t) h in ap (λ z. DecimalOf z s) (eqb-true p q k.0) ∙ ap (λ z. DecimalOf q z) (eqb-true s t k.1)
-ty_is (DecimalOf p s) (Char m) h = absurd cc
-ty_is (DecimalOf p s) (Varchar m) h = absurd cc
-ty_is (Char n) BigInt h = absurd cc
-ty_is (Char n) (DecimalOf q t) h = absurd cc
-ty_is (Char n) (Char m) h = ap (λ z. Char z) (eqb-true n m h)
-ty_is (Char n) (Varchar m) h = absurd cc
-ty_is (Varchar n) BigInt h = absurd cc
-ty_is (Varchar n) (DecimalOf q t) h = absurd cc
-ty_is (Varchar n) (Char m) h = absurd cc
-ty_is (Varchar n) (Varchar m) h = ap (λ z. Varchar z) (eqb-true n m h)
-
-ty_same : (t : Ty) → same_ty t t ≡ true
-ty_same BigInt = refl
-ty_same (DecimalOf p s) = and_so (p == p) (s == s) (eq-eqb p p refl) (eq-eqb s s refl)
-ty_same (Char n) = eq-eqb n n refl
-ty_same (Varchar n) = eq-eqb n n refl
-
-types_are : (ts us : List Ty) → same_types ts us ≡ true → ts ≡ us
-types_are [] [] h = refl
-types_are [] (u ∷ us) h = absurd cc
-types_are (t ∷ ts) [] h = absurd cc
-types_are (t ∷ ts) (u ∷ us) h =
-    let k = split (same_ty t u) (same_types ts us) h in ap (λ z. z ∷ ts) (ty_is t u k.0) ∙ ap (λ z. u ∷ z) (types_are ts us k.1)
-
-types_same : (ts : List Ty) → same_types ts ts ≡ true
-types_same [] = refl
-types_same (t ∷ ts) = join (same_ty t t) (same_types ts ts) (ty_same t) (types_same ts)
-
-flag_is : (a b : Bool) → same_flag a b ≡ true → a ≡ b
-flag_is true b h = sym h
-flag_is false true h = absurd cc
-flag_is false false h = refl
-
-flag_same : (a : Bool) → same_flag a a ≡ true
-flag_same true = refl
-flag_same false = refl
-
-abbrev parameter : Ty → Bool → ParameterPart
-parameter t b = record { ty = t; is_in_out = b }
-
-parameters_are : (ps qs : List ParameterPart) → same_parameters ps qs ≡ true → ps ≡ qs
-parameters_are [] [] h = refl
-parameters_are [] (q ∷ qs) h = absurd cc
-parameters_are (p ∷ ps) [] h = absurd cc
-parameters_are (p ∷ ps) (q ∷ qs) h =
-    let k = split (same_ty p.ty q.ty && same_flag p.is_in_out q.is_in_out) (same_parameters ps qs) h in
-    let l = both (same_ty p.ty q.ty) (same_flag p.is_in_out q.is_in_out) k.0 in
-    ap (λ z. parameter z p.is_in_out ∷ ps) (ty_is p.ty q.ty l.0)
-    ∙ ap (λ z. parameter q.ty z ∷ ps) (flag_is p.is_in_out q.is_in_out l.1)
-    ∙ ap (λ z. q ∷ z) (parameters_are ps qs k.1)
-
-parameters_same : (ps : List ParameterPart) → same_parameters ps ps ≡ true
-parameters_same [] = refl
-parameters_same (p ∷ ps) =
-    join (same_ty p.ty p.ty && same_flag p.is_in_out p.is_in_out) (same_parameters ps ps)
-    (and_so (same_ty p.ty p.ty) (same_flag p.is_in_out p.is_in_out) (ty_same p.ty) (flag_same p.is_in_out)) (parameters_same ps)
-
-result_is : (a b : Option Ty) → same_result a b ≡ true → a ≡ b
-result_is None None h = refl
-result_is None (Some u) h = absurd cc
-result_is (Some t) None h = absurd cc
-result_is (Some t) (Some u) h = ap (λ z. Some z) (ty_is t u h)
-
-result_same : (a : Option Ty) → same_result a a ≡ true
-result_same None = refl
-result_same (Some t) = ty_same t
-
-abbrev signed : List ParameterPart → List Ty → Option Ty → Signature
-signed ps ts r = record { parameters = ps; locals = ts; returns = r }
-
-pub signature_is : (a b : Signature) → same_signature a b ≡ true → a ≡ b
-signature_is a b h =
-    let k = both (same_parameters a.parameters b.parameters) (same_types a.locals b.locals && same_result a.returns b.returns) h in
-    let l = both (same_types a.locals b.locals) (same_result a.returns b.returns) k.1 in
-    ap (λ z. signed z a.locals a.returns) (parameters_are a.parameters b.parameters k.0)
-    ∙ ap (λ z. signed b.parameters z a.returns) (types_are a.locals b.locals l.0)
-    ∙ ap (λ z. signed b.parameters b.locals z) (result_is a.returns b.returns l.1)
-
-pub signature_same : (a : Signature) → same_signature a a ≡ true
-signature_same a =
-    and_so (same_parameters a.parameters a.parameters) (same_types a.locals a.locals && same_result a.returns a.returns) (parameters_same a.parameters)
-    (and_so (same_types a.locals a.locals) (same_result a.returns a.returns) (types_same a.locals) (result_same a.returns))
 
 -- ---- the first method
 
@@ -167,17 +75,83 @@ where_some test (x ∷ ms) (suc k) m g e = first (test x) refl (where_some test 
     first true f r = (0, ap (λ b. picked b (first_where test ms)) f)
     first false f r = (suc r.0, ap (λ b. picked b (first_where test ms)) f ∙ ap (option_map suc) r.1)
 
--- the first that passes a wider test, where it passes the narrower one, is the first that passes this
-pub where_narrower : (p q : MethodPart → Bool) → ((m : MethodPart) → q m ≡ true → p m ≡ true) → (ms : List MethodPart) (k : ℕ) (m : MethodPart)
-    → first_where p ms ≡ Some k → slice_get ms k ≡ Some m → q m ≡ true → first_where q ms ≡ Some k
-where_narrower p q implies [] k m h g e = absurd cc
-where_narrower p q implies (x ∷ ms) zero m h g e = let w : x ≡ m = cc in ap (λ b. picked b (first_where q ms)) (ap q w ∙ e)
-where_narrower p q implies (x ∷ ms) (suc k) m h g e = first (p x) refl h (q x) refl (λ f. where_narrower p q implies ms k m f g e)
+-- what is the first among some is the first among all
+pub where_kept : (test : MethodPart → Bool) (ms : List MethodPart) (n k : ℕ) → first_where test (take n ms) ≡ Some k → first_where test ms ≡ Some k
+where_kept test ms zero k h = absurd cc
+where_kept test [] (suc n) k h = absurd cc
+where_kept test (x ∷ ms) (suc n) k h = by (test x) (first_where test (take n ms)) (where_kept test ms n) h
   where
-    first : (b : Bool) → p x ≡ b → picked b (first_where p ms) ≡ Some (suc k) → (c : Bool) → q x ≡ c → (first_where p ms ≡ Some k → first_where q ms ≡ Some k) → first_where q (x ∷ ms) ≡ Some (suc k)
-    first true f h c i go = absurd (zero_not_suc k h)
-    first false f h true i go = absurd (let z : false ≡ true = sym f ∙ implies x i in cc)
-    first false f h false i go = ap (λ b. picked b (first_where q ms)) i ∙ ap (option_map suc) (go (some_suc (first_where p ms) k h))
+    by : (b : Bool) (o : Option ℕ) → ((j : ℕ) → o ≡ Some j → first_where test ms ≡ Some j) → picked b o ≡ Some k → picked b (first_where test ms) ≡ Some k
+    by true o go h = h
+    by false None go h = absurd cc
+    by false (Some j) go h = ap (option_map suc) (go j refl) ∙ h
+
+map_found_or : (a : Option ℕ) (b : Bool) (n : ℕ) → option_map suc (found_or a (if b then Some n else None)) ≡ found_or (option_map suc a) (if b then Some (suc n) else None)
+map_found_or None true n = refl
+map_found_or None false n = refl
+map_found_or (Some k) b n = refl
+
+where_push : (test : MethodPart → Bool) (ms : List MethodPart) (m : MethodPart) → first_where test (ms ++ m ∷ []) ≡ found_or (first_where test ms) (if test m then Some (length ms) else None)
+where_push test [] m = refl
+where_push test (x ∷ ms) m = first (test x) (where_push test ms m)
+  where
+    first : (b : Bool) → first_where test (ms ++ m ∷ []) ≡ found_or (first_where test ms) (if test m then Some (length ms) else None)
+        → picked b (first_where test (ms ++ m ∷ [])) ≡ found_or (picked b (first_where test ms)) (if test m then Some (suc (length ms)) else None)
+    first true e = refl
+    first false e = ap (option_map suc) e ∙ map_found_or (first_where test ms) (test m) (length ms)
+
+-- one more method is the first where none before it passes
+pub where_more : (test : MethodPart → Bool) (ms : List MethodPart) (i : ℕ) (m : MethodPart) → i < length ms → m ≡ get_or ms i m
+    → first_where test (take (i + 1) ms) ≡ found_or (first_where test (take i ms)) (if test m then Some i else None)
+where_more test ms i m l h =
+    let within : i ≤ length ms = omega (arith, l) in
+    ap (first_where test) (take_more ms i m l ∙ ap (λ z. take i ms ++ z ∷ []) (sym h))
+    ∙ where_push test (take i ms) m
+    ∙ ap (λ n. found_or (first_where test (take i ms)) (if test m then Some n else None)) (length-take-le i ms within)
+
+-- the first method with each signature is known
+abbrev pub FindsFirst : BTreeMap (Vec ℕ Global) ℕ → List MethodPart → Type 0
+FindsFirst numbers ms = (other : Vec ℕ Global) → number_of_code numbers other.items ≡ first_where (λ m. same_code (signature_code (signature_of m)) other.items) ms
+
+or_none : (o : Option ℕ) → o ≡ found_or o None
+or_none None = refl
+or_none (Some n) = refl
+
+-- where a signature has a number, the map stays
+pub number_stays : (numbers : BTreeMap (Vec ℕ Global) ℕ) (code other : List ℕ) (n next : ℕ) → number_of_code numbers code ≡ Some n
+    → number_of_code numbers other ≡ found_or (number_of_code numbers other) (if same_code code other then Some next else None)
+number_stays numbers code other n next f = by (same_code code other) refl
+  where
+    by : (b : Bool) → same_code code other ≡ b → number_of_code numbers other ≡ found_or (number_of_code numbers other) (if b then Some next else None)
+    by true e = let g : number_of_code numbers other ≡ Some n = ap (number_of_code numbers) (sym (code_is code other e)) ∙ f in g ∙ ap (λ o. found_or o (Some next)) (sym g)
+    by false e = or_none (number_of_code numbers other)
+
+-- where it has none, it gets the next one
+pub number_given : (old new : BTreeMap (Vec ℕ Global) ℕ) (code other : List ℕ) (next : ℕ) → number_of_code old code ≡ None
+    → number_of_code new other ≡ (if same_code code other then Some next else number_of_code old other)
+    → number_of_code new other ≡ found_or (number_of_code old other) (if same_code code other then Some next else None)
+number_given old new code other next f g = g ∙ by (same_code code other) refl
+  where
+    by : (b : Bool) → same_code code other ≡ b → (if b then Some next else number_of_code old other) ≡ found_or (number_of_code old other) (if b then Some next else None)
+    by true e = ap (λ o. found_or o (Some next)) (sym (ap (number_of_code old) (sym (code_is code other e)) ∙ f))
+    by false e = or_none (number_of_code old other)
+
+-- the number that is found for a method is that of its owner
+pub owner_found : (ms : List MethodPart) (i n : ℕ) (m : MethodPart) → i < length ms → m ≡ get_or ms i m
+    → Some n ≡ found_or (first_like (take i ms) (signature_of m)) (Some i) → owner_of ms m ≡ MethodCode n
+owner_found ms i n m l h e =
+    let test : MethodPart → Bool = λ x. same_code (signature_code (signature_of x)) (signature_code (signature_of m)) in
+    ap (λ o. MethodCode (unwrap_or o 0))
+    (where_kept test ms (i + 1) n
+    (where_more test ms i m l h ∙ ap (λ b. found_or (first_where test (take i ms)) (if b then Some i else None)) (code_same (signature_code (signature_of m))) ∙ sym e))
+
+-- one more entry of a method
+pub points_grow : (methods ms : List MethodPart) (ps : List EntryPoint) (i : ℕ) (m : MethodPart) (o : CodeOwner) → i < length ms → m ≡ get_or ms i m → owner_of methods m ≡ o
+    → (ps ++ entry_point m.entry o ∷ []) ++ method_points methods (drop (i + 1) ms) ≡ ps ++ method_points methods (drop i ms)
+points_grow methods ms ps i m o l h e =
+    append_assoc ps (entry_point m.entry o ∷ []) (method_points methods (drop (i + 1) ms))
+    ∙ ap (λ z. ps ++ entry_point m.entry z ∷ method_points methods (drop (i + 1) ms)) (sym e)
+    ∙ ap (λ z. ps ++ method_points methods z) (sym (drop_more ms i m l ∙ ap (λ z. z ∷ drop (i + 1) ms) (sym h)))
 
 -- ---- owners
 
@@ -212,10 +186,10 @@ one_owner methods (MethodCode j) (MethodCode k) ka kb h =
 pub owner_known : (methods : List MethodPart) (j : ℕ) (m : MethodPart) → slice_get methods j ≡ Some m
     → IsKnown methods (owner_of methods m) × (owner_role methods (owner_of methods m) ≡ OfMethod (signature_of m))
 owner_known methods j m g =
-    let test : MethodPart → Bool = λ x. same_signature (signature_of x) (signature_of m) in
-    let r = where_some test methods j m g (signature_same (signature_of m)) in
+    let test : MethodPart → Bool = λ x. same_code (signature_code (signature_of x)) (signature_code (signature_of m)) in
+    let r = where_some test methods j m g (code_same (signature_code (signature_of m))) in
     let f = where_passes test methods r.0 r.1 in
-    let s : signature_of f.0 ≡ signature_of m = signature_is (signature_of f.0) (signature_of m) f.2 in
+    let s : signature_of f.0 ≡ signature_of m = signature_is (signature_of f.0) (signature_of m) (code_is (signature_code (signature_of f.0)) (signature_code (signature_of m)) f.2) in
     let e : owner_of methods m ≡ MethodCode r.0 = ap (λ o. MethodCode (unwrap_or o 0)) r.1 in (
       subst (IsKnown methods) (sym e) (f.0, f.1, ap (first_like methods) s ∙ r.1),
       ap (owner_role methods) e ∙ ap role_of_method f.1 ∙ ap (λ z. OfMethod z) s,

@@ -1,11 +1,9 @@
 -- Operand types along the list, as a test that goes along it once. Whose code an instruction is, is known by a number.
 use Rattle.std.specs.Prelude.{ℕ, suc, ◌+◌, ◌==◌, Bool, true, false, ◌&&◌, if◌then◌else◌, List, [], ◌∷◌, slice_get, slice_set, Option, Some, None, unwrap_or}
-use Rattle.ds2_value.specs.Types.{same_ty}
 use Rattle.std.specs.Option.{option_and_then, option_flatten, option_map}
 use Rattle.ds2_value.specs.declared.ty.Ty.{Ty}
 use Rattle.ds2_code.specs.declared.instr.Instr.{Instr}
 use Rattle.ds2_code.specs.declared.parts.MethodPart.{MethodPart}
-use Rattle.ds2_code.specs.declared.parts.ParameterPart.{ParameterPart}
 use Rattle.ds2_code.specs.declared.parts.ProgramParts.{ProgramParts}
 use Rattle.ds2_code.specs.CodeBound.{jump_target, falls_through}
 use Rattle.ds2_code.specs.InstructionTable.{kind_of}
@@ -13,41 +11,12 @@ use Rattle.ds2_code.specs.OperandTypes.{OperandTypes, CodeRole, OfUnit, OfMethod
 use Rattle.ds2_code.specs.ValidCode.{unit_entries}
 use Rattle.ds2_valid_code.specs.declared.owner.CodeOwner.{CodeOwner}
 use Rattle.ds2_valid_code.specs.declared.owner.CodeOwner.TheVariants.{Unit as UnitCode, Method as MethodCode}
+use Rattle.ds2_valid_code.specs.declared.owner.EntryPoint.{EntryPoint}
 use Rattle.ds2_valid_code.specs.declared.scan.CodeMark.{CodeMark}
 use Rattle.ds2_valid_code.specs.OperandStack.{stands_empty}
+use Rattle.ds2_valid_code.specs.SignatureCodes.{signature_code, same_code}
 
 -- ---- signatures
-
--- two lists of types are equal
-abbrev pub same_types : List Ty → List Ty → Bool
-same_types [] [] = true
-same_types [] (u ∷ us) = false
-same_types (t ∷ ts) [] = false
-same_types (t ∷ ts) (u ∷ us) = if same_ty t u then same_types ts us else false
-
--- two flags are equal
-abbrev pub same_flag : Bool → Bool → Bool
-same_flag true b = b
-same_flag false true = false
-same_flag false false = true
-
--- two lists of parameters are equal
-abbrev pub same_parameters : List ParameterPart → List ParameterPart → Bool
-same_parameters [] [] = true
-same_parameters [] (q ∷ qs) = false
-same_parameters (p ∷ ps) [] = false
-same_parameters (p ∷ ps) (q ∷ qs) = if same_ty p.ty q.ty && same_flag p.is_in_out q.is_in_out then same_parameters ps qs else false
-
--- two results are equal
-abbrev pub same_result : Option Ty → Option Ty → Bool
-same_result None None = true
-same_result None (Some u) = false
-same_result (Some t) None = false
-same_result (Some t) (Some u) = same_ty t u
-
--- two methods are the same to their callers and to their own code
-abbrev pub same_signature : Signature → Signature → Bool
-same_signature a b = same_parameters a.parameters b.parameters && (same_types a.locals b.locals && same_result a.returns b.returns)
 
 -- the number of the first method that passes a test
 abbrev pub first_where : (MethodPart → Bool) → List MethodPart → Option ℕ
@@ -56,7 +25,7 @@ first_where test (m ∷ ms) = if test m then Some 0 else option_map suc (first_w
 
 -- the number of the first method with a signature
 abbrev pub first_like : List MethodPart → Signature → Option ℕ
-first_like methods signature = first_where (λ m. same_signature (signature_of m) signature) methods
+first_like methods signature = first_where (λ m. same_code (signature_code (signature_of m)) (signature_code signature)) methods
 
 -- ---- whose code
 
@@ -74,6 +43,20 @@ owner_role methods (MethodCode k) = role_of_method (slice_get methods k)
 abbrev pub owner_of : List MethodPart → MethodPart → CodeOwner
 owner_of methods m = MethodCode (unwrap_or (first_like methods (signature_of m)) 0)
 
+-- where code may be entered
+abbrev pub entry_point : ℕ → CodeOwner → EntryPoint
+entry_point at owner = record { at = at; owner = owner }
+
+-- where units begin
+abbrev pub unit_points : List ℕ → List EntryPoint
+unit_points [] = []
+unit_points (u ∷ us) = entry_point u UnitCode ∷ unit_points us
+
+-- where methods begin
+abbrev pub method_points : List MethodPart → List MethodPart → List EntryPoint
+method_points methods [] = []
+method_points methods (m ∷ ms) = entry_point m.entry (owner_of methods m) ∷ method_points methods ms
+
 -- one number, or both a unit's
 abbrev pub same_owner : CodeOwner → CodeOwner → Bool
 same_owner UnitCode UnitCode = true
@@ -88,15 +71,18 @@ abbrev pub no_entries : List Instr → List (Option CodeOwner)
 no_entries [] = []
 no_entries (i ∷ is) = None ∷ no_entries is
 
--- the entries of units
-abbrev pub with_unit_entries : List (Option CodeOwner) → List ℕ → List (Option CodeOwner)
-with_unit_entries table [] = table
-with_unit_entries table (u ∷ us) = with_unit_entries (slice_set table u (Some UnitCode)) us
+-- with these entries
+abbrev pub with_entries : List (Option CodeOwner) → List EntryPoint → List (Option CodeOwner)
+with_entries table [] = table
+with_entries table (p ∷ ps) = with_entries (slice_set table p.at (Some p.owner)) ps
 
--- the entries of methods
+-- with the entries of units
+abbrev pub with_unit_entries : List (Option CodeOwner) → List ℕ → List (Option CodeOwner)
+with_unit_entries table us = with_entries table (unit_points us)
+
+-- with the entries of methods
 abbrev pub with_method_entries : List MethodPart → List (Option CodeOwner) → List MethodPart → List (Option CodeOwner)
-with_method_entries methods table [] = table
-with_method_entries methods table (m ∷ ms) = with_method_entries methods (slice_set table m.entry (Some (owner_of methods m))) ms
+with_method_entries methods table ms = with_entries table (method_points methods ms)
 
 -- whose entry each instruction is
 abbrev pub entry_table : ProgramParts → List (Option CodeOwner)
@@ -171,15 +157,18 @@ abbrev pub jumps_land : List CodeMark → List Instr → ℕ → Bool
 jumps_land marks [] at = true
 jumps_land marks (i ∷ is) at = if lands_clear marks (slice_get marks at) (jump_target (kind_of i)) then jumps_land marks is (at + 1) else false
 
+-- each entry is at its own code
+abbrev pub points_clear : List CodeMark → List EntryPoint → Bool
+points_clear marks [] = true
+points_clear marks (p ∷ ps) = if is_clear_for (slice_get marks p.at) p.owner then points_clear marks ps else false
+
 -- each unit begins at code of units
 abbrev pub units_clear : List CodeMark → List ℕ → Bool
-units_clear marks [] = true
-units_clear marks (u ∷ us) = if is_clear_for (slice_get marks u) UnitCode then units_clear marks us else false
+units_clear marks us = points_clear marks (unit_points us)
 
 -- each method begins at its own code
 abbrev pub methods_clear : List CodeMark → List MethodPart → List MethodPart → Bool
-methods_clear marks methods [] = true
-methods_clear marks methods (m ∷ ms) = if is_clear_for (slice_get marks m.entry) (owner_of methods m) then methods_clear marks methods ms else false
+methods_clear marks methods ms = points_clear marks (method_points methods ms)
 
 -- jumps and entries are clear
 abbrev pub is_entered_clear : ProgramParts → Option (List CodeMark) → Bool

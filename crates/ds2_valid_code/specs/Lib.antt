@@ -1,5 +1,5 @@
 pub mod BoundedJumps
 pub mod CodeScan
-pub mod Digests
 pub mod OperandStack
 pub mod ProgramTest
+pub mod SignatureCodes

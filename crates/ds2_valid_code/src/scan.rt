@@ -2,16 +2,14 @@
 ghost use Rattle.std.specs.Prelude.{◌≡◌, [], false, Some, None, IfOk, MatchOption, slice_get, slice_set, if◌then◌else◌};
 ghost use Rattle.ds2_code.specs.ValidCode.{stage_parameters, unit_entries};
 ghost use Rattle.ds2_valid_code.specs.declared.owner.CodeOwner.TheVariants.{Unit as UnitCode};
-ghost use Rattle.ds2_valid_code.specs.CodeScan.{arriving, standing, entry_found, types_onward, scan_code, is_clear_for, lands_clear, jumps_land, units_clear, methods_clear, entry_table, is_entered_clear, no_entries, with_unit_entries, with_method_entries, types_suffice};
-ghost use Rattle.ds2_valid_code.specs.Digests.{FindsByDigest};
+ghost use Rattle.ds2_valid_code.specs.CodeScan.{arriving, standing, entry_found, types_onward, scan_code, is_clear_for, lands_clear, jumps_land, entry_point, unit_points, method_points, points_clear, entry_table, is_entered_clear, no_entries, with_entries, types_suffice};
 
-use crate::owner::{CodeOwner, numbers_by_digest, owner_of, same_owner};
+use crate::owner::{CodeOwner, EntryPoint, method_points, same_owner};
 use crate::rows::types_behind;
 use crate::stack::TypeStack;
 use ds2_base::OutOfMemory;
-use ds2_code::{Instr, MethodPart, ProgramParts};
+use ds2_code::{Instr, ProgramParts};
 use std::alloc::Global;
-use std::collections::HashMap;
 
 /// What is kept of an instruction: whose code it is, and whether no operand stands before it.
 #[derive(Clone, Copy, PartialEq, Eq)]
@@ -45,39 +43,46 @@ fn blank_entries(alloc: Global, instrs: &[Instr]) -> Result<Vec<Option<CodeOwner
     Ok(table)
 }
 
-fn write_units(table: &mut Vec<Option<CodeOwner>>, units: &[u32])
-    ensures { table.new.items ≡ with_unit_entries table.old.items units.now }
+fn write_points(table: &mut Vec<Option<CodeOwner>>, points: &[EntryPoint])
+    ensures { table.new.items ≡ with_entries table.old.items points.now }
 {
-    'units: for unit in units {
-        write(table, *unit, CodeOwner::Unit);
+    'points: for point in points {
+        write(table, point.at, point.owner);
     }
 }
 
-fn write_methods(
-    table: &mut Vec<Option<CodeOwner>>,
-    numbers: &HashMap<u64, usize>,
-    methods: &[MethodPart],
-)
-    requires { FindsByDigest numbers.now methods.now }
-    ensures { table.new.items ≡ with_method_entries methods.now table.old.items methods.now }
+fn unit_point(at: u32) -> EntryPoint
+    ensures { result ≡ entry_point at UnitCode }
 {
-    'methods: for method in methods {
-        write(table, method.entry, owner_of(numbers, methods, method));
+    EntryPoint {
+        at,
+        owner: CodeOwner::Unit,
     }
+}
+
+// Where the units begin.
+fn unit_points(code: &ProgramParts) -> [EntryPoint; 3]
+    ensures { result ≡ unit_points (unit_entries code.now) }
+{
+    [
+        unit_point(code.init),
+        unit_point(code.run),
+        unit_point(code.term),
+    ]
 }
 
 // Whose entry each instruction is.
 fn entries(
     alloc: Global,
     code: &ProgramParts,
-    numbers: &HashMap<u64, usize>,
+    methods: &[EntryPoint],
 ) -> Result<Vec<Option<CodeOwner>>, OutOfMemory>
-    requires { FindsByDigest numbers.now code.now.methods }
+    requires { methods.now ≡ method_points code.now.methods code.now.methods }
     ensures { IfOk result (λ table. table.items ≡ entry_table code.now) }
 {
     let mut table = blank_entries(alloc, code.instrs.as_slice())?;
-    write_units(&mut table, &[code.init, code.run, code.term]);
-    write_methods(&mut table, numbers, code.methods.as_slice());
+    write_points(&mut table, &unit_points(code));
+    write_points(&mut table, methods);
     Ok(table)
 }
 
@@ -192,40 +197,24 @@ fn jumps_land(marks: &[CodeMark], instrs: &[Instr]) -> bool
     true
 }
 
-fn units_clear(marks: &[CodeMark], units: &[u32]) -> bool
-    ensures { result ≡ units_clear marks.now units.now }
+fn points_clear(marks: &[CodeMark], points: &[EntryPoint]) -> bool
+    ensures { result ≡ points_clear marks.now points.now }
 {
-    'units: for unit in units {
-        if !is_clear_for(marks, *unit as usize, CodeOwner::Unit) {
+    'points: for point in points {
+        if !is_clear_for(marks, point.at as usize, point.owner) {
             return false;
         }
     }
     true
 }
 
-fn methods_clear(marks: &[CodeMark], numbers: &HashMap<u64, usize>, methods: &[MethodPart]) -> bool
-    requires { FindsByDigest numbers.now methods.now }
-    ensures { result ≡ methods_clear marks.now methods.now methods.now }
-{
-    'methods: for method in methods {
-        if !is_clear_for(
-            marks,
-            method.entry as usize,
-            owner_of(numbers, methods, method),
-        ) {
-            return false;
-        }
-    }
-    true
-}
-
-fn is_entered_clear(marks: &[CodeMark], numbers: &HashMap<u64, usize>, code: &ProgramParts) -> bool
-    requires { FindsByDigest numbers.now code.now.methods }
+fn is_entered_clear(marks: &[CodeMark], methods: &[EntryPoint], code: &ProgramParts) -> bool
+    requires { methods.now ≡ method_points code.now.methods code.now.methods }
     ensures { result ≡ is_entered_clear code.now (Some marks.now) }
 {
     jumps_land(marks, code.instrs.as_slice())
-        && units_clear(marks, &[code.init, code.run, code.term])
-        && methods_clear(marks, numbers, code.methods.as_slice())
+        && points_clear(marks, &unit_points(code))
+        && points_clear(marks, methods)
 }
 
 /// Whether operand types are determined along the list and suffice. The thread program that the program reads from is the first of
@@ -237,10 +226,10 @@ pub(crate) fn types_suffice(
 ) -> Result<bool, OutOfMemory>
     ensures { IfOk result (λ suffice. suffice ≡ types_suffice code.now (stage_parameters (slice_get stages.now 0))) }
 {
-    let numbers = numbers_by_digest(alloc, code.methods.as_slice())?;
-    let table = entries(alloc, code, &numbers)?;
+    let methods = method_points(alloc, code.methods.as_slice())?;
+    let table = entries(alloc, code, &methods)?;
     match scan(alloc, code, stages, &table)? {
         None => Ok(false),
-        Some(marks) => Ok(is_entered_clear(&marks, &numbers, code)),
+        Some(marks) => Ok(is_entered_clear(&marks, &methods, code)),
     }
 }
