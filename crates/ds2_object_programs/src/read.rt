@@ -58,7 +58,8 @@ pub fn push_made<T: Drop>(
     }
 }
 
-// So many instructions; None where one of them is none. What follows such a one is read all the same.
+// So many instructions; None where one of them is none. What follows such a one is read all the same. Each takes a byte or more, so
+// room is made at once for no more of them than bytes are left.
 #[tactic(auto, using(crate::proofs::MadeSteps::none_begun, crate::proofs::MadeSteps::one_taken, crate::proofs::MadeSteps::none_made, crate::proofs::MadeSteps::all_items_made))]
 fn read_instrs_of(
     alloc: Global,
@@ -68,6 +69,7 @@ fn read_instrs_of(
     ensures { ReadsPart result (read_as instrs_of (items_read written_instr_part count bytes.old)) bytes.new }
 {
     let mut instrs = List::new(alloc);
+    instrs.reserve(bytes.left().min(count as usize))?;
     let mut each_is_one = true;
     'instrs: for i in 0..count {
         let made = read_instr(alloc, bytes)?;
