@@ -1,11 +1,14 @@
 -- Whose code it is: one number for methods with equal signatures, and another one for others.
-use Rattle.std.proofs.Common.{◌≡◌, ℕ, zero, suc, ◌+◌, ◌<◌, ◌≤◌, Bool, true, false, ◌&&◌, List, [], ◌∷◌, ◌++◌, length, get_or, take, drop, Option, Some, None, refl, sym, ap, ◌∙◌, subst, arith}
+use Rattle.std.proofs.Common.{◌≡◌, ℕ, zero, suc, ◌+◌, ◌<◌, ◌≤◌, Bool, true, false, ◌&&◌, List, [], ◌∷◌, ◌++◌, length, get_or, take, drop, Option, Some, None, refl, sym, ap, ap₂, ◌∙◌, subst, arith}
 use Rattle.std.specs.Prelude.{◌==◌, slice_get, slice_set, unwrap_or, Vec, if◌then◌else◌}
 use Rattle.std.specs.Option.{option_map}
 use Rattle.std.proofs.lemmas.Bool.{eq-eqb, eqb-true, eqb-false}
 use Rattle.std.proofs.lemmas.List.{length-set, take_more, drop_more, length-take-le, append_assoc}
 use Rattle.std.specs.declared.alloc.Global.{Global}
-use Rattle.std.specs.BTreeMap.{BTreeMap}
+use Rattle.std.specs.Ordering.{is_eq, nat_cmp}
+use Rattle.std.specs.Cmp.{unsigned_ties}
+use Rattle.std.specs.BTreeMap.{BTreeMap, get}
+use Rattle.std.specs.Map.{lookup}
 use Rattle.ds2_code.specs.declared.instr.Instr.{Instr}
 use Rattle.ds2_code.specs.declared.parts.MethodPart.{MethodPart}
 use Rattle.ds2_code.specs.declared.parts.ProgramParts.{ProgramParts}
@@ -14,7 +17,7 @@ use Rattle.ds2_code.specs.ValidCode.{unit_entries, unit_entry_role, method_entry
 use Rattle.ds2_valid_code.specs.declared.owner.CodeOwner.{CodeOwner}
 use Rattle.ds2_valid_code.specs.declared.owner.CodeOwner.TheVariants.{Unit as UnitCode, Method as MethodCode}
 use Rattle.ds2_valid_code.specs.declared.owner.EntryPoint.{EntryPoint}
-use Rattle.ds2_valid_code.specs.CodeScan.{first_where, first_like, entry_point, method_points, role_of_method, owner_role, owner_of, same_owner, no_entries, with_unit_entries, with_method_entries, entry_table, entry_found}
+use Rattle.ds2_valid_code.specs.CodeScan.{first_where, first_like, entry_point, unit_points, method_points, role_of_method, owner_role, owner_of, same_owner, no_entries, with_entries, with_unit_entries, with_method_entries, entry_table, entry_found, HasEntries}
 use Rattle.ds2_valid_code.specs.SignatureCodes.{signature_code, same_code, number_of_code, found_or}
 use Rattle.ds2_valid_code.proofs.SignatureLemmas.{code_same, code_is, signature_is}
 
@@ -217,6 +220,13 @@ set_found t e at o l = by (e == at) refl
     by true f = ap (λ z. entry_found (slice_get (slice_set t z (Some o)) at)) (eqb-true e at f) ∙ ap entry_found (set_same t at (Some o) l)
     by false f = ap entry_found (set_other t e at (Some o) (eqb-false e at f))
 
+-- one more entry
+pub entry_written : (old new : BTreeMap ℕ CodeOwner) (t : List (Option CodeOwner)) (e : ℕ) (o : CodeOwner)
+    → ((at : ℕ) → get nat_cmp new at ≡ (if is_eq (nat_cmp e at) then Some o else get nat_cmp old at)) → HasEntries old t → HasEntries new (slice_set t e (Some o))
+entry_written old new t e o u h at l =
+    let inside : at < length t = subst (λ n. at < n) (length-set t e (Some o)) l in
+    u at ∙ ap₂ (λ b x. if b then Some o else x) (sym (unsigned_ties e at)) (h at inside) ∙ sym (set_found t e at o inside)
+
 if_map : (methods : List MethodPart) (b : Bool) (o : CodeOwner) (x : Option CodeOwner)
     → option_map (owner_role methods) (if b then Some o else x) ≡ (if b then Some (owner_role methods o) else option_map (owner_role methods) x)
 if_map methods true o x = refl
@@ -278,9 +288,12 @@ unit_roles methods (u ∷ us) t at l =
     by true = unit_or us at
     by false = refl
 
+points_length : (ps : List EntryPoint) (t : List (Option CodeOwner)) → length (with_entries t ps) ≡ length t
+points_length [] t = refl
+points_length (p ∷ ps) t = points_length ps (slice_set t p.at (Some p.owner)) ∙ length-set t p.at (Some p.owner)
+
 unit_length : (us : List ℕ) (t : List (Option CodeOwner)) → length (with_unit_entries t us) ≡ length t
-unit_length [] t = refl
-unit_length (u ∷ us) t = unit_length us (slice_set t u (Some UnitCode)) ∙ length-set t u (Some UnitCode)
+unit_length us t = points_length (unit_points us) t
 
 unit_known : (methods : List MethodPart) (us : List ℕ) (t : List (Option CodeOwner)) → AllKnown methods t → AllKnown methods (with_unit_entries t us)
 unit_known methods [] t h = h
@@ -314,6 +327,14 @@ role_or_none : (o : Option CodeRole) → role_or o None ≡ o
 role_or_none None = refl
 role_or_none (Some r) = refl
 
+beyond : (t : List (Option CodeOwner)) (at : ℕ) → length t ≤ at → slice_get t at ≡ None
+beyond [] at l = refl
+beyond (x ∷ t) zero l = absurd (omega (arith, l))
+beyond (x ∷ t) (suc at) l = beyond t at (omega (arith, l))
+
+pub none_written : (m : BTreeMap ℕ CodeOwner) (is : List Instr) → m.entries ≡ [] → HasEntries m (no_entries is)
+none_written m is e at l = ap (lookup (λ k. is_eq (nat_cmp at k))) e ∙ sym (no_entry_found is at)
+
 module _ (code : ProgramParts) where
   -- the table has the role of each entry
   pub entries_agree : (at : ℕ) → at < length code.instrs → option_map (owner_role code.methods) (entry_found (slice_get (entry_table code) at)) ≡ entry_role code at
@@ -326,6 +347,19 @@ module _ (code : ProgramParts) where
       (unit_roles code.methods (unit_entries code) blank at inside
       ∙ ap (λ o. role_or (unit_entry_role (unit_entries code) at) (option_map (owner_role code.methods) o)) (no_entry_found code.instrs at)
       ∙ role_or_none (unit_entry_role (unit_entries code) at))
+
+  table_length : length (entry_table code) ≡ length code.instrs
+  table_length =
+      points_length (method_points code.methods code.methods) (with_unit_entries (no_entries code.instrs) (unit_entries code))
+      ∙ unit_length (unit_entries code) (no_entries code.instrs)
+      ∙ no_entries_length code.instrs
+
+  pub entry_read : (entries : BTreeMap ℕ CodeOwner) (at : ℕ) → HasEntries entries (entry_table code) → at < length code.instrs
+      → get nat_cmp entries at ≡ entry_found (slice_get (entry_table code) at)
+  entry_read entries at h l = h at (subst (λ n. at < n) (sym table_length) l)
+
+  pub entry_beyond : (at : ℕ) → length code.instrs ≤ at → None ≡ entry_found (slice_get (entry_table code) at)
+  entry_beyond at l = sym (ap entry_found (beyond (entry_table code) at (subst (λ n. n ≤ at) (sym table_length) l)))
 
   pub entries_known : AllKnown code.methods (entry_table code)
   entries_known =

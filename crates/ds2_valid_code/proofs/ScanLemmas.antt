@@ -1,5 +1,5 @@
 -- The scan along the list, step by step.
-use Rattle.std.proofs.Common.{◌≡◌, ℕ, zero, suc, ◌+◌, ◌<◌, Bool, List, [], ◌∷◌, ◌++◌, length, drop, Option, Some, None, refl, ap, ◌∙◌, arith}
+use Rattle.std.proofs.Common.{◌≡◌, ℕ, zero, suc, ◌+◌, ◌<◌, Bool, List, [], ◌∷◌, ◌++◌, length, drop, Option, Some, None, ap, arith}
 use Rattle.std.specs.Prelude.{slice_get}
 use Rattle.ds2_value.specs.declared.ty.Ty.{Ty}
 use Rattle.ds2_code.specs.declared.instr.Instr.{Instr}
@@ -9,7 +9,7 @@ use Rattle.ds2_code.specs.InstructionTable.{kind_of}
 use Rattle.ds2_code.specs.OperandTypes.{types_behind}
 use Rattle.ds2_valid_code.specs.declared.owner.CodeOwner.{CodeOwner}
 use Rattle.ds2_valid_code.specs.declared.scan.CodeMark.{CodeMark}
-use Rattle.ds2_valid_code.specs.CodeScan.{owner_role, Standing, standing, arriving, entry_found, types_onward, mark_of, on_standing, on_types, with_mark, scan_code, no_entries}
+use Rattle.ds2_valid_code.specs.CodeScan.{owner_role, Standing, standing, arriving, entry_found, types_onward, mark_of, on_standing, on_types, with_mark, scan_code}
 
 -- marks in front of those that are still to come
 abbrev pub marks_joined : List CodeMark → Option (List CodeMark) → Option (List CodeMark)
@@ -29,13 +29,3 @@ module _ (code : ProgramParts) (parameters : List (Option Ty)) (table : List (Op
   scan_stops_at at came s [] k l e = absurd (omega (arith, l))
   scan_stops_at at came s (i ∷ is) zero l e = scan_stops at came s i is e
   scan_stops_at at came s (i ∷ is) (suc k) l e = scan_stops_at at came s is k (omega (arith, l)) e
-
-pub no_entries_drop : (is : List Instr) (k n : ℕ) → k < length is → n ≡ k + 1 → no_entries (drop k is) ≡ None ∷ no_entries (drop n is)
-no_entries_drop [] k n l e = absurd (omega (arith, l))
-no_entries_drop (i ∷ is) zero n l e = let w : 1 ≡ n = omega (arith, e) in ap (λ z. None ∷ no_entries (drop z (i ∷ is))) w
-no_entries_drop (i ∷ is) (suc k) n l e =
-    let w : suc (k + 1) ≡ n = omega (arith, e) in no_entries_drop is k (k + 1) (omega (arith, l)) refl ∙ ap (λ z. None ∷ no_entries (drop z (i ∷ is))) w
-
-pub entry_added : (xs ys : List (Option CodeOwner)) (o : Option CodeOwner) → (xs ++ o ∷ []) ++ ys ≡ xs ++ o ∷ ys
-entry_added [] ys o = refl
-entry_added (x ∷ xs) ys o = ap (λ z. x ∷ z) (entry_added xs ys o)

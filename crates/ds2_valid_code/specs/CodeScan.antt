@@ -1,5 +1,7 @@
 -- Operand types along the list, as a test that goes along it once. Whose code an instruction is, is known by a number.
-use Rattle.std.specs.Prelude.{ℕ, suc, ◌+◌, ◌==◌, Bool, true, false, ◌&&◌, if◌then◌else◌, List, [], ◌∷◌, slice_get, slice_set, Option, Some, None, unwrap_or}
+use Rattle.std.specs.Prelude.{◌≡◌, ℕ, suc, ◌+◌, ◌<◌, length, ◌==◌, Bool, true, false, ◌&&◌, if◌then◌else◌, List, [], ◌∷◌, slice_get, slice_set, Option, Some, None, unwrap_or}
+use Rattle.std.specs.Ordering.{nat_cmp}
+use Rattle.std.specs.BTreeMap.{BTreeMap, get}
 use Rattle.std.specs.Option.{option_and_then, option_flatten, option_map}
 use Rattle.ds2_value.specs.declared.ty.Ty.{Ty}
 use Rattle.ds2_code.specs.declared.instr.Instr.{Instr}
@@ -91,6 +93,10 @@ entry_table code = with_method_entries code.methods (with_unit_entries (no_entri
 -- the entry that was looked up
 abbrev pub entry_found : Option (Option CodeOwner) → Option CodeOwner
 entry_found entry = option_flatten entry
+
+-- a map has the entries of a table
+abbrev pub HasEntries : BTreeMap ℕ CodeOwner → List (Option CodeOwner) → Type 0
+HasEntries entries table = (at : ℕ) → at < length table → get nat_cmp entries at ≡ entry_found (slice_get table at)
 
 -- ---- along the list
 

@@ -1,8 +1,9 @@
 //! Operand types along the list of instructions.
-ghost use Rattle.std.specs.Prelude.{◌≡◌, [], false, Some, None, IfOk, MatchOption, slice_get, slice_set, if◌then◌else◌};
+ghost use Rattle.std.specs.Prelude.{◌≡◌, [], false, Some, None, List as Items, Option, OnOk, IfOk, MatchOption, slice_get, slice_set, if◌then◌else◌};
 ghost use Rattle.ds2_code.specs.ValidCode.{stage_parameters, unit_entries};
+ghost use Rattle.ds2_valid_code.specs.declared.owner.CodeOwner.{CodeOwner as Owner};
 ghost use Rattle.ds2_valid_code.specs.declared.owner.CodeOwner.TheVariants.{Unit as UnitCode};
-ghost use Rattle.ds2_valid_code.specs.CodeScan.{arriving, standing, entry_found, types_onward, scan_code, is_clear_for, lands_clear, jumps_land, entry_point, unit_points, method_points, points_clear, entry_table, is_entered_clear, no_entries, with_entries, types_suffice};
+ghost use Rattle.ds2_valid_code.specs.CodeScan.{arriving, standing, entry_found, types_onward, scan_code, is_clear_for, lands_clear, jumps_land, entry_point, unit_points, method_points, points_clear, entry_table, is_entered_clear, with_entries, HasEntries, types_suffice};
 
 use crate::owner::{CodeOwner, EntryPoint, method_points, same_owner};
 use crate::rows::types_behind;
@@ -10,6 +11,7 @@ use crate::stack::TypeStack;
 use ds2_base::OutOfMemory;
 use ds2_code::{Instr, ProgramParts};
 use std::alloc::Global;
+use std::collections::BTreeMap;
 
 /// What is kept of an instruction: whose code it is, and whether no operand stands before it.
 #[derive(Clone, Copy, PartialEq, Eq)]
@@ -18,37 +20,23 @@ pub(crate) struct CodeMark {
     pub(crate) is_empty: bool,
 }
 
-fn write(table: &mut Vec<Option<CodeOwner>>, at: u32, owner: CodeOwner)
-    ensures { table.new.items ≡ slice_set table.old.items at (Some owner) }
+fn write(entries: &mut BTreeMap<usize, CodeOwner>, point: EntryPoint) -> Result<(), OutOfMemory>
+    ensures { OnOk result ((table : Items (Option Owner)) → HasEntries entries.old table → HasEntries entries.new (slice_set table point.at (Some point.owner))) }
 {
-    if let Some(entry) = table.get_mut(at as usize) {
-        *entry = Some(owner);
-    }
+    entries.insert(point.at as usize, point.owner)?;
+    Ok(())
 }
 
-fn no_entry(_: Instr) -> Option<CodeOwner>
-    ensures { result ≡ None }
-{
-    None
-}
-
-#[tactic(auto, using(crate::proofs::ScanLemmas::no_entries_drop, crate::proofs::ScanLemmas::entry_added))]
-fn blank_entries(alloc: Global, instrs: &[Instr]) -> Result<Vec<Option<CodeOwner>>, OutOfMemory>
-    ensures { IfOk result (λ table. table.items ≡ no_entries instrs.now) }
-{
-    let mut table: Vec<Option<CodeOwner>> = Vec::new(alloc);
-    'instrs: for instr in instrs {
-        table.push(no_entry(*instr))?;
-    }
-    Ok(table)
-}
-
-fn write_points(table: &mut Vec<Option<CodeOwner>>, points: &[EntryPoint])
-    ensures { table.new.items ≡ with_entries table.old.items points.now }
+fn write_points(
+    entries: &mut BTreeMap<usize, CodeOwner>,
+    points: &[EntryPoint],
+) -> Result<(), OutOfMemory>
+    ensures { OnOk result ((table : Items (Option Owner)) → HasEntries entries.old table → HasEntries entries.new (with_entries table points.now)) }
 {
     'points: for point in points {
-        write(table, point.at, point.owner);
+        write(entries, *point)?;
     }
+    Ok(())
 }
 
 fn unit_point(at: u32) -> EntryPoint
@@ -71,28 +59,33 @@ fn unit_points(code: &ProgramParts) -> [EntryPoint; 3]
     ]
 }
 
-// Whose entry each instruction is.
+// Whose entry each instruction is that is one.
 fn entries(
     alloc: Global,
     code: &ProgramParts,
     methods: &[EntryPoint],
-) -> Result<Vec<Option<CodeOwner>>, OutOfMemory>
+) -> Result<BTreeMap<usize, CodeOwner>, OutOfMemory>
     requires { methods.now ≡ method_points code.now.methods code.now.methods }
-    ensures { IfOk result (λ table. table.items ≡ entry_table code.now) }
+    ensures { IfOk result (λ entries. HasEntries entries (entry_table code.now)) }
 {
-    let mut table = blank_entries(alloc, code.instrs.as_slice())?;
-    write_points(&mut table, &unit_points(code));
-    write_points(&mut table, methods);
-    Ok(table)
+    let mut entries: BTreeMap<usize, CodeOwner> = BTreeMap::new(alloc);
+    write_points(&mut entries, &unit_points(code))?;
+    write_points(&mut entries, methods)?;
+    Ok(entries)
 }
 
-fn entry_at(table: &[Option<CodeOwner>], at: usize) -> Option<CodeOwner>
-    ensures { result ≡ entry_found (slice_get table.now at) }
+fn entry_at(
+    code: &ProgramParts,
+    entries: &BTreeMap<usize, CodeOwner>,
+    at: usize,
+) -> Option<CodeOwner>
+    requires { HasEntries entries.now (entry_table code.now) }
+    ensures { result ≡ entry_found (slice_get (entry_table code.now) at) }
 {
-    match table.get(at) {
-        None => None,
-        Some(entry) => *entry,
+    if at >= code.instrs.len() {
+        return None;
     }
+    entries.get(&at).copied()
 }
 
 // Whether an instruction's entry fits what stands before it; the owner is then the entry's.
@@ -134,9 +127,10 @@ fn scan(
     alloc: Global,
     code: &ProgramParts,
     stages: &[ProgramParts],
-    table: &[Option<CodeOwner>],
+    entries: &BTreeMap<usize, CodeOwner>,
 ) -> Result<Option<Vec<CodeMark>>, OutOfMemory>
-    ensures { IfOk result (λ found. MatchOption found (scan_code code.now (stage_parameters (slice_get stages.now 0)) table.now 0 false (standing UnitCode []) code.now.instrs ≡ None) (λ marks. scan_code code.now (stage_parameters (slice_get stages.now 0)) table.now 0 false (standing UnitCode []) code.now.instrs ≡ Some marks.items)) }
+    requires { HasEntries entries.now (entry_table code.now) }
+    ensures { IfOk result (λ found. MatchOption found (scan_code code.now (stage_parameters (slice_get stages.now 0)) (entry_table code.now) 0 false (standing UnitCode []) code.now.instrs ≡ None) (λ marks. scan_code code.now (stage_parameters (slice_get stages.now 0)) (entry_table code.now) 0 false (standing UnitCode []) code.now.instrs ≡ Some marks.items)) }
 {
     let instrs = code.instrs.as_slice();
     let mut marks: Vec<CodeMark> = Vec::new(alloc);
@@ -145,7 +139,7 @@ fn scan(
     let mut came = false;
     let mut at: usize = 0;
     'scan: for instr in instrs {
-        if !arrives(entry_at(table, at), came, &mut owner, &mut types) {
+        if !arrives(entry_at(code, entries, at), came, &mut owner, &mut types) {
             return Ok(None);
         }
         let is_empty = types.is_empty();
@@ -227,8 +221,8 @@ pub(crate) fn types_suffice(
     ensures { IfOk result (λ suffice. suffice ≡ types_suffice code.now (stage_parameters (slice_get stages.now 0))) }
 {
     let methods = method_points(alloc, code.methods.as_slice())?;
-    let table = entries(alloc, code, &methods)?;
-    match scan(alloc, code, stages, &table)? {
+    let entries = entries(alloc, code, &methods)?;
+    match scan(alloc, code, stages, &entries)? {
         None => Ok(false),
         Some(marks) => Ok(is_entered_clear(&marks, &methods, code)),
     }

@@ -2,7 +2,7 @@ use Rattle.std.proofs.Common.{◌≡◌, ◌<◌, [], false, length, Some, None,
 use Rattle.std.specs.Prelude.{slice_get, if◌then◌else◌}
 use Rattle.ds2_code.specs.ValidCode.{stage_parameters}
 use Rattle.ds2_valid_code.specs.declared.owner.CodeOwner.TheVariants.{Unit as UnitCode}
-use Rattle.ds2_valid_code.specs.CodeScan.{standing, arriving, scan_code}
+use Rattle.ds2_valid_code.specs.CodeScan.{standing, arriving, scan_code, entry_table}
 use Rattle.ds2_valid_code.proofs.ScanLemmas.{marks_joined, scan_stops_at}
 use Rattle.ds2_valid_code.proofs.scan.scan.Goals as goal
 
@@ -10,7 +10,7 @@ pub returns-then-not-arrives : goal.returns-then-not-arrives
 returns-then-not-arrives c =
     let code = c.args.code.now in
     let parameters = stage_parameters (slice_get c.args.stages.now 0) in
-    let table = c.args.table.now in
+    let table = entry_table code in
     let instrs = c.as_slice-instrs.result.now in
     let s = standing c.scan.owner c.scan.types in
     let within : c.scan.instr-index < length instrs = c.scan-test.true in
