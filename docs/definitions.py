@@ -59,13 +59,14 @@ CHAIN = [
     ),
     (
         "The object that is stored",
-        "Where a command stores an object, it is valid code, and each of its programs means the same as the source's program at its place.",
+        "Where a command stores an object, it is valid code, each of its programs means the same as the source's program at its place, and its\n"
+        "bytes are decoded to it, by the definition that stands in the next part.",
         "StoresObject StoresObjectOf IsObjectOf BecomesPrograms HaveCodes MeansSame CodeAnswersAs IsValidObject",
     ),
     (
         "The object that is run",
         "`exec` reads a file, decodes it, and runs its code. Nothing here joins a file that is read to a source.",
-        "ObjectReading IsDecoding DecodesTo DecodesObject DecodesFile EndsBeforeDecoding exec_plan object_plan object_over code_answer",
+        "ObjectReading IsDecoding DecodesTo DecodesObject DecodesFile EndsBeforeDecoding EndsInFileRead exec_plan object_plan object_over code_answer",
     ),
     (
         "A runtime fault",

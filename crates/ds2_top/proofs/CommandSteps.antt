@@ -1,5 +1,5 @@
 -- From a source that was loaded to what its command leaves.
-use Rattle.std.proofs.Common.{◌≡◌, ◌⊎◌, ◌∙◌, IsErrAnd, IsTrue, inl, inr, ℕ, List, [], ◌∷◌, ◌++◌, flat_map, map, Option, Some, None, IfSome, Result, Ok, Err, refl, sym, ap, subst, append_assoc}
+use Rattle.std.proofs.Common.{◌≡◌, ◌⊎◌, ◌∙◌, IsErrAnd, IsTrue, true, false, inl, inr, ℕ, List, [], ◌∷◌, ◌++◌, flat_map, map, Option, Some, None, IfSome, Result, Ok, Err, refl, sym, ap, subst, append_assoc}
 use Rattle.std.proofs.lemmas.List.{append-nil}
 use Rattle.ds2_outside.specs.Files.{Files}
 use Rattle.ds2_object.specs.declared.refusal.ObjectRefusal.TheVariants.{BadMagic}
@@ -22,20 +22,20 @@ use Rattle.ds2_answer.specs.StoredCodes.{CodesDoAsPrograms, HaveCodes}
 use Rattle.ds2_answer.specs.TablePlans.{OutputNamed, Presence, none_made, outputs_then, present_in}
 use Rattle.ds2_store_steps.specs.FileReads.{OverSomeFiles}
 use Rattle.ds2_store_steps.specs.Halts.{Follows, FollowsAll, HaltsPlan, LeadsOn, StopsAs}
-use Rattle.ds2_store_steps.specs.OutputAsks.{OverAnswers}
+use Rattle.ds2_store_steps.specs.OutputAsks.{AsksOutputs, OverAnswers}
 use Rattle.ds2_store_steps.specs.PlanOutcomes.{CameOfPlan, CutShort}
 use Rattle.ds2_store_steps.specs.declared.halt.Halt.{Halt}
 use Rattle.ds2_store_steps.specs.declared.halt.Halt.TheVariants.{Ended, OutOfMemory}
 use Rattle.ds2_store_steps.proofs.FileSteps.{line_ends, over_all}
 use Rattle.ds2_store_steps.proofs.Leading.{at_once, does_on, halts_with, leads_none, leads_say, no_memory}
 use Rattle.ds2_store_steps.proofs.OutputSteps.{answers_all}
-use Rattle.ds2_top.specs.CommandOutcomes.{DecodesUnlessHalted, DoesCommand, DoesSource, HaltsUnstored, StoresUnlessHalted, StoringCommand, checks, compiles, runs_with, verdicts_said}
+use Rattle.ds2_top.specs.CommandOutcomes.{DecodesUnlessHalted, DoesCommand, DoesSource, StoresUnlessHalted, StoringCommand, checks, compiles, runs_with, verdicts_said}
 use Rattle.ds2_top.specs.ObjectRuns.{RunsFile}
-use Rattle.ds2_top.specs.SourceLoads.{LoadsSource, RunsLoaded, StoresNew, WasLoaded, loaded_plan}
+use Rattle.ds2_top.specs.SourceLoads.{HaltsUnstored, LoadsSource, RunsLoaded, StoresNew, StoresReadable, WasLoaded, loaded_plan}
 use Rattle.ds2_top.specs.SourceObjects.{BecomesPrograms, IsBeforeStoring, IsObjectOf}
 use Rattle.ds2_top.specs.declared.loaded.Loaded.{Loaded}
 use Rattle.ds2_top.proofs.FileReads.{leads_reads}
-use Rattle.ds2_top.proofs.PlanStops.{StopsAmong, behind_writes, source_stop}
+use Rattle.ds2_top.proofs.PlanStops.{StopsAmong, behind_writes, outputs_stop, source_stop}
 
 -- ---- a plan that writes nothing
 
@@ -66,6 +66,36 @@ halts_unstored : (plan : Plan) (said : List ℕ) (told : Option Files) (halt : H
     → HaltsUnstored (Err halt) told now
 halts_unstored plan said told (Ended status) log now stops halts = came_before plan said told status log now stops halts
 halts_unstored plan said told OutOfMemory log now stops halts = short_before plan told now stops halts
+
+-- ---- an object that is read back
+
+module _ (object : List StagedParts) where
+  -- there was no memory
+  pub readable_short : (told : Option Files) (result : Result (Unit {0}) Halt) → IsErrAnd result (λ e. e ≡ OutOfMemory) → StoresReadable object result told told
+  readable_short told (Ok value) is = absurd is
+  readable_short told (Err e) is = inr (subst (λ (h : Halt). HaltsUnstored (Err h) told told) (sym is) refl)
+
+  -- the object was not stored
+  pub readable_halts : (told now : Option Files) (halt : Halt) (result : Result (Unit {0}) Halt) → IsErrAnd result (λ e. e ≡ halt) → StoresReadable object (Err halt) told now → StoresReadable object result told now
+  readable_halts told now halt (Ok value) is stores = absurd is
+  readable_halts told now halt (Err e) is stores = subst (λ (h : Halt). StoresReadable object (Err h) told now) (sym is) stores
+
+  -- an output is there, or the question for one has failed
+  pub readable_asked : (outputs : List OutputNamed) (said log : List ℕ) (told now : Option Files) (halt : Halt) (result : Result (Unit {0}) Halt) → IsErrAnd result (λ e. e ≡ halt)
+      → AsksOutputs none_made outputs said told (Err halt) log now → StoresReadable object result told now
+  readable_asked outputs said log told now halt result is (same, asks) =
+      let rest : Plan = Stops ended.Exists in
+      readable_halts told now halt result is
+      (inr (halts_unstored (outputs_then none_made asks.there outputs rest) said told halt log now (outputs_stop IsBeforeStoring Never tt none_made asks.there outputs rest tt) (asks.holds rest)))
+
+  -- the object was stored
+  pub readable_then : (told between now : Option Files) (result : Result (Unit {0}) Halt) → StoresReadable object (Ok tt) told between → StoresReadable object result told now
+  readable_then told between now result (inl read) = inl read
+  readable_then told between now result (inr never) = absurd never
+
+-- `check` stores nothing
+pub never_keeps : {P : Type 0} → IsTrue false → P
+never_keeps keeps = absurd (let k : false ≡ true = keeps in cc)
 
 -- ---- storing and running
 
@@ -137,36 +167,41 @@ module _ (sources : SourcesRead) (source : List ℕ) (does : StoringCommand) whe
         object = [];
         files_told = halts.told_is;
         there_told = answers.told_is;
-        stores = inr (subst (λ (h : Halt). HaltsUnstored (Err h) told now) (sym is)
+        stores = λ keeps. inr (subst (λ (h : Halt). HaltsUnstored (Err h) told now) (sym is)
             (halts_unstored (source_plan sources source halts.files go) said told halt log now (source_stop IsBeforeStoring Never tt tt sources source halts.files go (λ held verdicts programs. tt)) (halts.holds go)));
-        follows = subst (λ (h : Halt). HaltsPlan (source_plan sources source halts.files (does [] answers.there)) said told h log now) (sym is) (halts.holds (does [] answers.there));
+        follows = subst (λ (h : Halt). HaltsPlan (source_plan sources source halts.files (does.plan [] answers.there)) said told h log now) (sym is) (halts.holds (does.plan [] answers.there));
       }
 
   -- the source was loaded, and the rest was done
   pub source_does : (loaded : Loaded) (said text log : List ℕ) (told between now : Option Files) (result : Result (Unit {0}) Halt) → LoadsSource (source_plan sources source) said told (Ok loaded) text between
-      → OverAnswers between (λ there. (programs : List ProgramTree) → HaveCodes programs loaded.object → FollowsAll (does loaded.object there (held_from_store loaded.stored) loaded.verdicts programs) text between result log now)
-      → DoesSource sources source does said told result log now
-  source_does loaded said text log told between now result (was, text_is, between_is) rest = record {
+      → OverAnswers between (λ there. (programs : List ProgramTree) → HaveCodes programs loaded.object → FollowsAll (does.plan loaded.object there (held_from_store loaded.stored) loaded.verdicts programs) text between result log now)
+      → (IsTrue does.keeps → StoresReadable loaded.object result between now) → DoesSource sources source does said told result log now
+  source_does loaded said text log told between now result (was, text_is, between_is) rest readable = record {
     files = was.files;
     there = rest.there;
     object = loaded.object;
     files_told = was.told_is;
     there_told = subst (λ (t : Option Files). IfSome t (λ held. (name : List ℕ) → rest.there name ≡ present_in held name)) between_is rest.told_is;
-    stores = inl (record { stored = loaded.stored; verdicts = loaded.verdicts; programs = was.programs; becomes = was.becomes; codes = was.object.codes; valid = was.object.valid });
+    stores = λ keeps. by (readable keeps);
     follows =
-        let go = does loaded.object rest.there in
+        let go = does.plan loaded.object rest.there in
         let then' = go (held_from_store loaded.stored) loaded.verdicts was.programs in
         subst (λ (p : Plan). FollowsAll p said told result log now) (sym (was.becomes.plan_is go))
         (does_on (each_in_turn ReadsFile was.becomes.names then') then' (λ (_ : Unit {0}). Stops ended.Done) said said told told result log now (leads_reads was.becomes.names then' said told)
         (subst (λ (t : List ℕ). FollowsAll then' t told result log now) text_is
         (subst (λ (f : Option Files). FollowsAll then' text f result log now) between_is (rest.holds was.programs was.object.codes))));
   }
+    where
+      by : StoresReadable loaded.object result between now → IsObjectOf sources source was.files loaded.object ⊎ HaltsUnstored result told now
+      by (inl read) =
+          inl (record { stored = loaded.stored; verdicts = loaded.verdicts; programs = was.programs; becomes = was.becomes; codes = was.object.codes; decoded = (read, was.object.valid) })
+      by (inr halts) = inr (subst (λ (t : Option Files). HaltsUnstored result t now) between_is halts)
 
   -- the same where the rest is one plan, whatever is there
-  pub source_does_one : (loaded : Loaded) (rest : Plan) → ((there : Presence) (programs : List ProgramTree) → does loaded.object there (held_from_store loaded.stored) loaded.verdicts programs ≡ rest)
+  pub source_does_one : (loaded : Loaded) (rest : Plan) → ((there : Presence) (programs : List ProgramTree) → does.plan loaded.object there (held_from_store loaded.stored) loaded.verdicts programs ≡ rest)
       → (said text log : List ℕ) (told between now : Option Files) (result : Result (Unit {0}) Halt) → LoadsSource (source_plan sources source) said told (Ok loaded) text between
-      → FollowsAll rest text between result log now → DoesSource sources source does said told result log now
-  source_does_one loaded rest same said text log told between now result loads runs =
+      → FollowsAll rest text between result log now → (IsTrue does.keeps → StoresReadable loaded.object result between now) → DoesSource sources source does said told result log now
+  source_does_one loaded rest same said text log told between now result loads runs readable =
       let answers = answers_all between (λ (there : Presence). Unit {0}) (λ there. tt) in
       source_does loaded said text log told between now result loads
       (record {
@@ -174,6 +209,7 @@ module _ (sources : SourcesRead) (source : List ℕ) (does : StoringCommand) whe
         told_is = answers.told_is;
         holds = λ programs codes. subst (λ (p : Plan). FollowsAll p text between result log now) (sym (same answers.there programs)) runs;
       })
+      readable
 
 -- ---- any command
 
@@ -191,7 +227,7 @@ module _ (sources : SourcesRead) (said log : List ℕ) (told now : Option Files)
     object = d.object;
     files_told = d.files_told;
     there_told = d.there_told;
-    stores = d.stores;
+    stores = d.stores refl;
     decodes = tt;
     follows = d.follows;
   }
@@ -204,7 +240,7 @@ module _ (sources : SourcesRead) (said log : List ℕ) (told now : Option Files)
     object = d.object;
     files_told = d.files_told;
     there_told = d.there_told;
-    stores = d.stores;
+    stores = d.stores refl;
     decodes = tt;
     follows = d.follows;
   }
@@ -287,7 +323,7 @@ module _ (sources : SourcesRead) where
       stores_none (Some (Exec name budget)) = tt
       stores_none (Some (Check source)) = tt
 
-      decodes_none : (l : Option CommandLine) → DecodesUnlessHalted no_objects l (OverSomeFiles.files (over_all told (λ (files : Files). Unit {0}) (λ files. tt))) (Err OutOfMemory) told told
+      decodes_none : (l : Option CommandLine) → DecodesUnlessHalted no_objects l (OverSomeFiles.files (over_all told (λ (files : Files). Unit {0}) (λ files. tt))) said told (Err OutOfMemory) log told
       decodes_none None = tt
       decodes_none (Some (Run source threads budget)) = tt
       decodes_none (Some (Compile source)) = tt

@@ -36,7 +36,7 @@ use Rattle.ds2_top.proofs.FileReads.{HoldsFile, file_found, holds_file, same_ove
 
 module _ (bytes : Bytes) (budget : ℕ) where
   -- the bytes were decoded, whatever the files are
-  over_any : (object_for : ObjectReading) (said log : List ℕ) (told now : Option Files) (result : Result (Unit {0}) Halt) → IsDecoding object_for bytes ⊎ HaltsUndecoded result told now
+  over_any : (object_for : ObjectReading) (said log : List ℕ) (told now : Option Files) (result : Result (Unit {0}) Halt) → IsDecoding object_for bytes ⊎ ((result ≡ Err OutOfMemory) × (now ≡ told))
       → ((files : Files) (there : Presence) → FollowsAll (on_object (object_for bytes) budget files there) said told result log now) → RunsBytes bytes budget said told result log now
   over_any object_for said log told now result decodes follows =
       let some = over_all told (λ (files : Files). Unit {0}) (λ files. tt) in
@@ -60,7 +60,7 @@ module _ (bytes : Bytes) (budget : ℕ) where
 
   -- there was no memory to decode them
   pub bytes_short : (said : List ℕ) (told : Option Files) → RunsBytes bytes budget said told (Err OutOfMemory) said told
-  bytes_short said told = over_any (λ _. Err BadMagic) said said told told (Err OutOfMemory) (inr refl) (λ files there. at_once (on_object (Err BadMagic) budget files there) told)
+  bytes_short said told = over_any (λ _. Err BadMagic) said said told told (Err OutOfMemory) (inr (refl, refl)) (λ files there. at_once (on_object (Err BadMagic) budget files there) told)
 
   -- the object was run
   pub object_ran : (object : List StagedParts) (said log : List ℕ) (told now : Option Files) (result : Result (Unit {0}) Halt) → DecodesTo (Ok object) bytes
@@ -89,21 +89,21 @@ decoded_bytes : (bytes other : Bytes) (read : Result Bytes FileKind) → read �
 decoded_bytes bytes other read e f = cc
 
 failed_at : (name : List ℕ) (read : Result (List ℕ) FileKind) (said : List ℕ) (told : Option Files) (status : Status) (log : List ℕ) (now : Option Files) → CameOfPlan (ReadsFile name (Stops ended.Read)) said told status log now
-    → ((bytes : Bytes) → read ≡ Ok bytes → ⊥) ⊎ HaltsUndecoded (Err (Ended status)) told now
-failed_at name read said told status log now (inl failed) = inr (failed.status_is, failed.files)
+    → ((bytes : Bytes) → read ≡ Ok bytes → ⊥) ⊎ HaltsUndecoded name said told (Err (Ended status)) log now
+failed_at name read said told status log now (inl failed) = inr failed
 failed_at name read said told status log now (inr came) = absurd came.1
 
-short_at : (name : List ℕ) (read : Result (List ℕ) FileKind) (told now : Option Files) → CutShort (ReadsFile name (Stops ended.Read)) told now
-    → ((bytes : Bytes) → read ≡ Ok bytes → ⊥) ⊎ HaltsUndecoded (Err OutOfMemory) told now
-short_at name read told now (inl same) = inr same
-short_at name read told now (inr same) = inr same
+short_at : (name : List ℕ) (read : Result (List ℕ) FileKind) (said : List ℕ) (told : Option Files) (log : List ℕ) (now : Option Files) → CutShort (ReadsFile name (Stops ended.Read)) told now
+    → ((bytes : Bytes) → read ≡ Ok bytes → ⊥) ⊎ HaltsUndecoded name said told (Err OutOfMemory) log now
+short_at name read said told log now (inl same) = inr same
+short_at name read said told log now (inr same) = inr same
 
 -- how the reading of a file may have ended a command
 undecoded : (name : List ℕ) (read : Result (List ℕ) FileKind) (said : List ℕ) (told : Option Files) (halt : Halt) (log : List ℕ) (now : Option Files)
-    → ((go : List ℕ → Plan) → HaltsPlan (ReadsFile name (with_bytes name read go)) said told halt log now) → ((bytes : Bytes) → read ≡ Ok bytes → ⊥) ⊎ HaltsUndecoded (Err halt) told now
+    → ((go : List ℕ → Plan) → HaltsPlan (ReadsFile name (with_bytes name read go)) said told halt log now) → ((bytes : Bytes) → read ≡ Ok bytes → ⊥) ⊎ HaltsUndecoded name said told (Err halt) log now
 undecoded name (Err kind) said told halt log now halts = inl (λ bytes e. absurd (cc e))
 undecoded name (Ok bytes) said told (Ended status) log now halts = failed_at name (Ok bytes) said told status log now (halts (λ _. Stops ended.Read))
-undecoded name (Ok bytes) said told OutOfMemory log now halts = short_at name (Ok bytes) told now (halts (λ _. Stops ended.Read))
+undecoded name (Ok bytes) said told OutOfMemory log now halts = short_at name (Ok bytes) said told log now (halts (λ _. Stops ended.Read))
 
 module _ (name : List ℕ) (budget : ℕ) where
   -- the file was refused, or not read
@@ -124,8 +124,8 @@ module _ (name : List ℕ) (budget : ℕ) where
         follows = reads.holds (λ bytes. on_object (no_object bytes) budget reads.files answers.there);
       })
     where
-      by : (files : Files) → ((bytes : Bytes) → within_limit OBJECT_LIMIT (file files name) ≡ Ok bytes → ⊥) ⊎ HaltsUndecoded (Err halt) told now
-          → DecodesFile (λ _. Err BadMagic) name files ⊎ HaltsUndecoded (Err halt) told now
+      by : (files : Files) → ((bytes : Bytes) → within_limit OBJECT_LIMIT (file files name) ≡ Ok bytes → ⊥) ⊎ HaltsUndecoded name said told (Err halt) log now
+          → DecodesFile (λ _. Err BadMagic) name files ⊎ HaltsUndecoded name said told (Err halt) log now
       by files (inl never) = inl (λ bytes e. absurd (never bytes e))
       by files (inr halts) = inr halts
 
@@ -141,7 +141,7 @@ module _ (name : List ℕ) (budget : ℕ) where
         there = r.there;
         files_told = held.told_is;
         there_told = subst (λ (t : Option Files). IfSome t (λ f. (n : List ℕ) → r.there n ≡ present_in f n)) between_is r.there_told;
-        decodes = by held.files held.found (subst (λ (t : Option Files). IsDecoding r.object_for bytes ⊎ HaltsUndecoded result t now) between_is r.decodes);
+        decodes = by held.files held.found (subst (λ (t : Option Files). IsDecoding r.object_for bytes ⊎ ((result ≡ Err OutOfMemory) × (now ≡ t))) between_is r.decodes);
         follows =
             subst (λ (p : Plan). FollowsAll p said told result log now)
             (sym (file_found OBJECT_LIMIT name held.files bytes (λ b. on_object (r.object_for b) budget held.files r.there) held.found
@@ -151,6 +151,7 @@ module _ (name : List ℕ) (budget : ℕ) where
             (subst (λ (t : List ℕ). FollowsAll rest t told result log now) text_is (subst (λ (f : Option Files). FollowsAll rest text f result log now) between_is r.follows)));
       }
     where
-      by : (files : Files) → within_limit OBJECT_LIMIT (file files name) ≡ Ok bytes → IsDecoding r.object_for bytes ⊎ HaltsUndecoded result told now → DecodesFile r.object_for name files ⊎ HaltsUndecoded result told now
+      by : (files : Files) → within_limit OBJECT_LIMIT (file files name) ≡ Ok bytes → IsDecoding r.object_for bytes ⊎ ((result ≡ Err OutOfMemory) × (now ≡ told))
+          → DecodesFile r.object_for name files ⊎ HaltsUndecoded name said told result log now
       by files found (inl decoded) = inl (λ other e. subst (λ (b : Bytes). IsDecoding r.object_for b) (decoded_bytes bytes other (within_limit OBJECT_LIMIT (file files name)) found e) decoded)
-      by files found (inr halts) = inr halts
+      by files found (inr (short, same)) = inr (subst (λ (r : Result (Unit {0}) Halt). HaltsUndecoded name said told r log now) (sym short) same)

@@ -1,5 +1,5 @@
 -- The promises of the top call, each from what a command leaves.
-use Rattle.std.proofs.Common.{◌≡◌, ◌⊎◌, ◌∙◌, ◌++◌, inl, inr, ℕ, List, [], length, refl, sym, ap, subst, arith, ◌≤◌, Option, Some, None, IfSome, IsSome, Result, Ok, Err}
+use Rattle.std.proofs.Common.{◌≡◌, ◌⊎◌, ◌∙◌, ◌++◌, inl, inr, ℕ, List, [], codes, length, refl, sym, ap, subst, arith, ◌≤◌, Option, Some, None, IfSome, IsSome, Result, Ok, Err}
 use Rattle.std.proofs.lemmas.List.{take_all}
 use Rattle.ds2_outside.specs.Files.{Files}
 use Rattle.ds2_compile.specs.AnswersOfTexts.{SourcesRead}
@@ -10,24 +10,25 @@ use Rattle.ds2_answer.specs.declared.status.Status.{Status}
 use Rattle.ds2_answer.specs.declared.status.Status.TheVariants as ended
 use Rattle.ds2_answer.specs.CommandLines.{command_line_of}
 use Rattle.ds2_answer.specs.CommandPlans.{plan_of_command}
-use Rattle.ds2_answer.specs.Lines.{memory_line}
+use Rattle.ds2_answer.specs.Lines.{fault_line, memory_line}
 use Rattle.ds2_answer.specs.ObjectPlans.{ObjectReading}
 use Rattle.ds2_answer.specs.Plan.{Plan}
 use Rattle.ds2_answer.specs.PlanSteps.{status_at_end, steps_of, text_logged}
 use Rattle.ds2_answer.specs.Status.{IsRefusal, log_failed}
 use Rattle.ds2_answer.specs.TablePlans.{Presence, present_in}
 use Rattle.ds2_store_steps.specs.Halts.{CausedBy, FollowsAll}
-use Rattle.ds2_store_steps.specs.PlanOutcomes.{CameOfPlan, CutShort}
+use Rattle.ds2_store_steps.specs.PlanOutcomes.{CameOfPlan, CutShort, StoppedAs}
 use Rattle.ds2_store_steps.specs.declared.halt.Halt.{Halt}
 use Rattle.ds2_store_steps.specs.declared.halt.Halt.TheVariants.{Ended, OutOfMemory}
-use Rattle.ds2_top.specs.CommandOutcomes.{DecodesUnlessHalted, DoesCommand, HaltsUnstored, StoresUnlessHalted}
-use Rattle.ds2_top.specs.DecodedFiles.{DecodesObject, EndsBeforeDecoding}
+use Rattle.ds2_top.specs.CommandOutcomes.{DecodesUnlessHalted, DoesCommand, StoresUnlessHalted}
+use Rattle.ds2_top.specs.DecodedFiles.{DecodesObject, EndsBeforeDecoding, EndsInFileRead}
 use Rattle.ds2_top.specs.Headline.{Headline, IsAnswered, LeavesRefusal}
 use Rattle.ds2_top.specs.Leaves.{Did, Leaves}
 use Rattle.ds2_top.specs.ObjectRuns.{HaltsUndecoded}
-use Rattle.ds2_top.specs.Outside.{Outside, Gained, HoldsFiles, LogGains, LogRose, ReadsRose, WritesRose}
+use Rattle.ds2_top.specs.Outside.{Outside, Gained, HoldsFiles, LogGains, LogGainsPart, LogRose, ReadsRose, WritesRose}
 use Rattle.ds2_top.specs.Reported.{EndReported, Reported, TakesLine, TakesSome}
 use Rattle.ds2_top.specs.RuntimeFaults.{FaultLeft}
+use Rattle.ds2_top.specs.SourceLoads.{HaltsUnstored}
 use Rattle.ds2_top.specs.SourceObjects.{IsBeforeStoring, StoresObject}
 use Rattle.ds2_top.proofs.CommandStops.{check_faults_never, compile_faults_never, refusal_writes_nothing, usage_only}
 use Rattle.ds2_top.proofs.FaultSteps.{fault_left}
@@ -133,14 +134,14 @@ module _ (sources : SourcesRead) (object_for : ObjectReading) (object : List Sta
   stores_at (Some (Exec name budget)) f stores = tt
   stores_at (Some (Check source)) f stores = tt
 
-  decodes_at : (line : Option CommandLine) → (HaltsUndecoded ran before.files now.files → EndsBeforeDecoding files before now status)
-      → DecodesUnlessHalted object_for line files ran before.files now.files → DecodesObject object_for line files before now status
-  decodes_at None f decodes = tt
-  decodes_at (Some (Run source threads budget)) f decodes = tt
-  decodes_at (Some (Compile source)) f decodes = tt
-  decodes_at (Some (Exec name budget)) f (inl decoded) = inl decoded
-  decodes_at (Some (Exec name budget)) f (inr halts) = inr (f halts)
-  decodes_at (Some (Check source)) f decodes = tt
+  decodes_at : (said x : List ℕ) (line : Option CommandLine) → ((name : List ℕ) → HaltsUndecoded name said before.files ran x now.files → EndsBeforeDecoding name files before now status)
+      → DecodesUnlessHalted object_for line files said before.files ran x now.files → DecodesObject object_for line files before now status
+  decodes_at said x None f decodes = tt
+  decodes_at said x (Some (Run source threads budget)) f decodes = tt
+  decodes_at said x (Some (Compile source)) f decodes = tt
+  decodes_at said x (Some (Exec name budget)) f (inl decoded) = inl decoded
+  decodes_at said x (Some (Exec name budget)) f (inr halts) = inr (f name halts)
+  decodes_at said x (Some (Check source)) f decodes = tt
 
 -- ---- what was reported
 
@@ -162,10 +163,15 @@ reported_before s x rose result before logged (inl (r, l)) b = subst IsBeforeSto
 reported_before s x rose result before logged (inr (inl (r, c, p))) b = subst IsBeforeStoring (sym r) (before_failed s b)
 reported_before s x rose result before logged (inr (inr (r, p))) b = subst IsBeforeStoring (sym r) tt
 
-reported_read : (s : Status) (x : List ℕ) (rose : Type 0) (result : Status) (before logged : Option (List ℕ)) → Reported s x rose result before logged → s ≡ ended.Read → (result ≡ ended.Read) ⊎ (result ≡ ended.Memory)
-reported_read s x rose result before logged (inl (r, l)) is = inl (r ∙ is)
-reported_read s x rose result before logged (inr (inl (r, c, p))) is = inl (r ∙ ap log_failed is)
-reported_read s x rose result before logged (inr (inr (r, p))) is = inr r
+-- the read of a file has failed
+file_read_reported : (name x : List ℕ) (s result : Status) (before now : Outside) → (s ≡ ended.Read → ReadsRose before now) → StoppedAs ended.Read (fault_line (codes "Read") name) before.files s x now.files
+    → Reported s x (LogRose before now) result before.log now.log → EndsInFileRead name before now result
+file_read_reported name x s result before now rose stopped (inl (r, l)) =
+    subst (EndsInFileRead name before now) (sym (r ∙ stopped.status_is)) (rose stopped.status_is, inl (subst (λ (y : List ℕ). LogGains y before now) stopped.log_is l))
+file_read_reported name x s result before now rose stopped (inr (inl (r, c, p))) =
+    subst (EndsInFileRead name before now) (sym (r ∙ ap log_failed stopped.status_is)) (rose stopped.status_is, inr (c, subst (λ (y : List ℕ). LogGainsPart y before now) stopped.log_is p))
+file_read_reported name x s result before now rose stopped (inr (inr (r, p))) =
+    subst (EndsInFileRead name before now) (sym r) (rose stopped.status_is, subst (λ (y : List ℕ). LogGainsPart y before now) stopped.log_is p)
 
 usage_reported : (s : Status) (x : List ℕ) (rose : Type 0) (result : Status) (before logged : Option (List ℕ)) → Reported s x rose result before logged → s ≡ ended.Usage → (result ≡ ended.Usage) ⊎ (result ≡ ended.Memory)
 usage_reported s x rose result before logged (inl (r, l)) is = inl (r ∙ is)
@@ -193,14 +199,14 @@ module _ (sources : SourcesRead) (words : List (List ℕ)) (before now : Outside
       → (status ≡ ended.Read → ReadsRose before now) → (status ≡ ended.Write → WritesRose before now)
       → CameOfPlan (plan_of_command sources d.object_for d.object (command_line_of words) d.files d.there) [] before.files status x now.files
       → (HaltsUnstored ran before.files now.files → IsBeforeStoring result × HoldsFiles d.files before now)
-      → (HaltsUndecoded ran before.files now.files → EndsBeforeDecoding d.files before now result)
+      → ((name : List ℕ) → HaltsUndecoded name [] before.files ran x now.files → EndsBeforeDecoding name d.files before now result)
       → Reported status x (LogRose before now) result before.log now.log → Headline words before now result
   ended_headline status result x ran d read write came unstored undecoded r =
       let line = command_line_of words in
       promises sources d.object_for d.object d.files d.there before now words result d.files_told d.there_told
       (ended_leaves before now (plan_of_command sources d.object_for d.object line d.files d.there) d.files status x result (linked before.files d.files d.files_told) read write came r)
       (stores_at sources d.object_for d.object d.files before now ran result line unstored d.stores)
-      (decodes_at sources d.object_for d.object d.files before now ran result line undecoded d.decodes)
+      (decodes_at sources d.object_for d.object d.files before now ran result [] x line undecoded d.decodes)
       (λ none. usage_reported status x (LogRose before now) result before.log now.log r
       (usage_came sources d.object_for d.object d.files d.there words before.files now.files status x none came))
 
@@ -211,7 +217,7 @@ module _ (sources : SourcesRead) (words : List (List ℕ)) (before now : Outside
   halted_at status result x d reads writes r =
       ended_headline status result x (Err (Ended status)) d reads.rose writes.rose d.follows
       (λ halts. (reported_before status x (LogRose before now) result before.log now.log r halts.0, files_kept d.files before now d.files_told halts.1))
-      (λ halts. (reported_read status x (LogRose before now) result before.log now.log r halts.0, files_kept d.files before now d.files_told halts.1)) r
+      (λ name halts. (files_kept d.files before now d.files_told halts.files, inl (file_read_reported name x status result before now reads.rose halts r))) r
 
   halted_headline : (status result : Status) (said x : List ℕ) (ran : Result (Unit {0}) Halt) (halt : Halt) → ran ≡ Err halt → halt ≡ Ended status → said ≡ []
       → CausedBy ended.Read ran before.read_faults now.read_faults → CausedBy ended.Write ran before.write_faults now.write_faults
@@ -237,7 +243,7 @@ module _ (sources : SourcesRead) (words : List (List ℕ)) (before now : Outside
   done_headline result said x empty given r =
       let d = subst (λ (s : List ℕ). DoesCommand sources (command_line_of words) s before.files (Ok tt) x now.files) empty given in
       ended_headline ended.Done result x (Ok tt) d done_no_read done_no_write
-      (d.follows.ends ended.Done x now.files (record { status_is = refl; log_is = refl; files = refl }, tt)) (λ never. absurd never) (λ never. absurd never) r
+      (d.follows.ends ended.Done x now.files (record { status_is = refl; log_is = refl; files = refl }, tt)) (λ never. absurd never) (λ name never. absurd never) r
 
   part_of_taken : (line : List ℕ) (before logged : Option (List ℕ)) → TakesLine line before logged → TakesSome line before logged
   part_of_taken line None logged taken = tt
@@ -253,7 +259,8 @@ module _ (sources : SourcesRead) (words : List (List ℕ)) (before now : Outside
       promises sources d.object_for d.object d.files d.there before now words ended.Memory d.files_told d.there_told
       (memory_leaves before now (plan_of_command sources d.object_for d.object line d.files d.there) d.files (linked before.files d.files d.files_told) d.follows (part_of_taken memory_line before.log now.log taken))
       (stores_at sources d.object_for d.object d.files before now (Err OutOfMemory) ended.Memory line (λ same. (tt, files_kept d.files before now d.files_told same)) d.stores)
-      (decodes_at sources d.object_for d.object d.files before now (Err OutOfMemory) ended.Memory line (λ same. (inr refl, files_kept d.files before now d.files_told same)) d.decodes)
+      (decodes_at sources d.object_for d.object d.files before now (Err OutOfMemory) ended.Memory said x line
+      (λ name same. (files_kept d.files before now d.files_told same, inr (refl, part_of_taken memory_line before.log now.log taken))) d.decodes)
       (λ none. inr refl)
 
   -- a command that has found no memory

@@ -1,7 +1,9 @@
 -- From the object of a source to its file.
-use Rattle.std.proofs.Common.{◌≡◌, ◌∙◌, IsErrAnd, ℕ, List, [], ◌∷◌, ◌++◌, flat_map, length, map, Option, Some, None, Result, Ok, Err, refl, sym, ap, subst}
+use Rattle.std.proofs.Common.{◌≡◌, ◌∙◌, IsErrAnd, IfOk, OnOk, ℕ, List, [], ◌∷◌, ◌++◌, flat_map, length, map, Option, Some, None, Result, Ok, Err, refl, sym, ap, subst}
 use Rattle.std.specs.List.{AllByRecursion}
 use Rattle.ds2_outside.specs.Files.{Files}
+use Rattle.ds2_base.specs.Bytes.{Bytes}
+use Rattle.ds2_object.specs.ObjectSpelling.{IsSpellingOf, ReadsWhatIsSpelled, written_object}
 use Rattle.ds2_compile.specs.AnswersOfTexts.{SourcesRead}
 use Rattle.ds2_compile.specs.StagedParts.{StagedParts}
 use Rattle.ds2_answer.specs.declared.status.Status.TheVariants.{Done}
@@ -22,7 +24,7 @@ use Rattle.ds2_store_steps.specs.Halts.{Follows, FollowsAll, HaltsPlan, LeadsOn}
 use Rattle.ds2_store_steps.specs.declared.halt.Halt.{Halt}
 use Rattle.ds2_store_steps.specs.declared.halt.Halt.TheVariants.{OutOfMemory}
 use Rattle.ds2_store_steps.proofs.Leading.{does_on, halts_with, leads_none, leads_say, no_memory}
-use Rattle.ds2_top.specs.SourceLoads.{IsRunnableObject, LoadsSource, StoresNew, loaded_plan}
+use Rattle.ds2_top.specs.SourceLoads.{IsReadBack, IsRunnableObject, LoadsSource, StoresNew, loaded_plan}
 use Rattle.ds2_top.specs.declared.loaded.Loaded.{Loaded}
 
 -- what holds of an object holds of its codes
@@ -54,6 +56,11 @@ ran_loaded budget loaded codes' stored verdicts same stored_is verdicts_are said
 pub loaded_runs : (plan : Files → SourceCommand → Plan) (said : List ℕ) (told : Option Files) (loaded : Loaded) (log : List ℕ) (now : Option Files) → LoadsSource plan said told (Ok loaded) log now
     → IsRunnableObject loaded
 loaded_runs plan said told loaded log now loads = loads.0.object.runs
+
+-- bytes that were encoded are read as the programs whose spelling they are
+pub encoded_readable : {E : Type 0} → ReadsWhatIsSpelled → (object : List StagedParts) (result : Result Bytes E) → IfOk result (λ bytes. IsSpellingOf bytes object) → OnOk result (IsReadBack object)
+encoded_readable law object (Ok bytes) spells = law (written_object object) spells.allowed
+encoded_readable law object (Err e) spells = tt
 
 -- ---- the file of an object
 

@@ -45,9 +45,9 @@ pub record Headline (words : List (List ℕ)) (before now : Outside) (status : S
   pub object : List StagedParts
   -- files and log are those of the answer, or of the answer up to a call that failed
   pub leaves : Leaves (plan_of_command sources object_for object (command_line_of words) files there) files before now status
-  -- the stored object is valid code that means the same as the source
+  -- the stored object is valid code that means the same as the source, and its file is decoded to it
   pub stores : StoresObject sources (command_line_of words) files object before now status
-  -- the object that is run is what its file is decoded to
+  -- the object that is run is what its file is decoded to, or the command has ended before
   pub decodes : DecodesObject object_for (command_line_of words) files before now status
   -- a runtime fault is the first of the one-thread meaning, and its program has written nothing
   pub fault : status ≡ ended.Fault → FaultLeft sources object (command_line_of words) (plan_of_command sources object_for object (command_line_of words) files there) files before now

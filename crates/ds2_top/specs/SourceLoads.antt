@@ -1,8 +1,8 @@
 -- What calls leave that load a source: its tables are read and its programs compiled, or a halt has ended the command.
-use Rattle.std.specs.Prelude.{◌≡◌, ℕ, List, flat_map, map, Option, IfSome, Result, Ok, Err}
+use Rattle.std.specs.Prelude.{◌≡◌, ◌⊎◌, ℕ, List, flat_map, map, Option, IfSome, Result, Ok, Err}
 use Rattle.std.specs.List.{AllByRecursion}
 use Rattle.ds2_outside.specs.Files.{Files}
-use Rattle.ds2_object.specs.ObjectSpelling.{IsValidObject}
+use Rattle.ds2_object.specs.ObjectSpelling.{IsValidObject, object_read, written_object}
 use Rattle.ds2_compile.specs.InputTables.{names_or_refusal, source_inputs}
 use Rattle.ds2_compile.specs.NamedSchema.{NamedSchema}
 use Rattle.ds2_compile.specs.ProgramTree.{ProgramTree}
@@ -12,7 +12,7 @@ use Rattle.ds2_answer.specs.HeldTables.{NamedTable, held_from_store}
 use Rattle.ds2_answer.specs.ObjectPlans.{outputs_of_code, run_of_code}
 use Rattle.ds2_answer.specs.Plan.{Plan, ReadsFile, each_in_turn}
 use Rattle.ds2_answer.specs.ProgramPlans.{programs_plan}
-use Rattle.ds2_answer.specs.SourcePlans.{SourceCommand, run_programs_of, store_object, with_inputs, with_tables}
+use Rattle.ds2_answer.specs.SourcePlans.{SourceCommand, object_bytes, run_programs_of, store_object, with_inputs, with_tables}
 use Rattle.ds2_answer.specs.StoredCodes.{HaveCodes}
 use Rattle.ds2_answer.specs.TablePlans.{none_made, outputs_then}
 use Rattle.ds2_exec.specs.CodeRuns.{AreLinked}
@@ -23,7 +23,8 @@ use Rattle.ds2_store_steps.specs.FileReads.{OverSomeFiles}
 use Rattle.ds2_store_steps.specs.Halts.{Follows, FollowsAll, HaltsPlan}
 use Rattle.ds2_store_steps.specs.OutputAsks.{OverAnswers}
 use Rattle.ds2_store_steps.specs.declared.halt.Halt.{Halt}
-use Rattle.ds2_top.specs.SourceObjects.{BecomesPrograms}
+use Rattle.ds2_store_steps.specs.declared.halt.Halt.TheVariants.{Ended, OutOfMemory}
+use Rattle.ds2_top.specs.SourceObjects.{BecomesPrograms, IsBeforeStoring}
 use Rattle.ds2_top.specs.declared.loaded.Loaded.{Loaded}
 
 -- the name and the columns of a table that is held
@@ -72,6 +73,20 @@ abbrev pub ReadsInputs : List SourcePart → List ℕ → Option Files → Resul
 ReadsInputs parts said told (Ok read) log now = AreInputsRead parts told read × (log ≡ said) × (now ≡ told)
 ReadsInputs parts said told (Err halt) log now =
     OverSomeFiles told (λ files. (go : SourceCommand) → HaltsPlan (with_inputs (names_or_refusal (source_inputs parts)) parts files go) said told halt log now)
+
+-- a command has ended before it stored an object, and no file has changed
+abbrev pub HaltsUnstored : Result (Unit {0}) Halt → Option Files → Option Files → Type 0
+HaltsUnstored (Ok value) told now = ⊥
+HaltsUnstored (Err (Ended status)) told now = IsBeforeStoring status × (now ≡ told)
+HaltsUnstored (Err OutOfMemory) told now = now ≡ told
+
+-- the bytes of an object are read as its programs
+abbrev pub IsReadBack : List StagedParts → Type 0
+IsReadBack object = object_read (object_bytes object) ≡ Ok (written_object object)
+
+-- an object is read back from its bytes, unless the command has ended before it stored them
+abbrev pub StoresReadable : List StagedParts → Result (Unit {0}) Halt → Option Files → Option Files → Type 0
+StoresReadable object result told now = IsReadBack object ⊎ HaltsUnstored result told now
 
 -- what a call leaves that stores the object of a source, unless an output is there: each output was asked for, and the object written, for what
 -- comes next, or a halt

@@ -1,9 +1,9 @@
 -- The object that a command stores for a source.
-use Rattle.std.specs.Prelude.{◌≡◌, ◌⊎◌, ℕ, List, Option, Some, None}
+use Rattle.std.specs.Prelude.{◌≡◌, ◌⊎◌, ℕ, List, Option, Some, None, Ok}
 use Rattle.ds2_compile.specs.AnswersOfTexts.{SourcesRead}
 use Rattle.ds2_compile.specs.ProgramTree.{ProgramTree}
 use Rattle.ds2_outside.specs.Files.{Files}
-use Rattle.ds2_object.specs.ObjectSpelling.{IsValidObject}
+use Rattle.ds2_object.specs.ObjectSpelling.{DecodesTo}
 use Rattle.ds2_compile.specs.StagedParts.{StagedParts}
 use Rattle.ds2_answer.specs.declared.command_line.CommandLine.{CommandLine}
 use Rattle.ds2_answer.specs.declared.command_line.CommandLine.TheVariants.{Run, Compile, Exec, Check}
@@ -11,7 +11,7 @@ use Rattle.ds2_answer.specs.declared.status.Status.{Status}
 use Rattle.ds2_answer.specs.declared.status.Status.TheVariants as ended
 use Rattle.ds2_answer.specs.HeldTables.{NamedTable, held_from_store}
 use Rattle.ds2_answer.specs.Plan.{Plan, ReadsFile, each_in_turn}
-use Rattle.ds2_answer.specs.SourcePlans.{SourceCommand, source_plan}
+use Rattle.ds2_answer.specs.SourcePlans.{SourceCommand, object_bytes, source_plan}
 use Rattle.ds2_answer.specs.StoredCodes.{HaveCodes}
 use Rattle.ds2_verdicts.specs.declared.verdicts.ThreadVerdict.{ThreadVerdict}
 use Rattle.ds2_top.specs.Outside.{Outside, HoldsFiles}
@@ -21,14 +21,15 @@ pub record BecomesPrograms (plan : SourceCommand → Plan) (stored : List NamedT
   pub names : List (List ℕ)
   pub plan_is : (go : SourceCommand) → plan go ≡ each_in_turn ReadsFile names (go (held_from_store stored) verdicts programs)
 
--- an object is that of a source: it is valid code, and each of its programs means the same as the source's program at its place
+-- an object is that of a source: each of its programs means the same as the source's program at its place, and the bytes that are stored are
+-- decoded to just these programs, which are valid code
 pub record IsObjectOf (sources : SourcesRead) (source : List ℕ) (files : Files) (object : List StagedParts) : Type 0 where
   pub stored : List NamedTable
   pub verdicts : List ThreadVerdict
   pub programs : List ProgramTree
   pub becomes : BecomesPrograms (source_plan sources source files) stored verdicts programs
   pub codes : HaveCodes programs object
-  pub valid : IsValidObject object
+  pub decoded : DecodesTo (Ok object) (object_bytes object)
 
 -- a status with which a command may end before it stores an object
 abbrev pub IsBeforeStoring : Status → Type 0

@@ -1,11 +1,11 @@
 //! What is done with the object of a source: it is stored, and its programs run.
-ghost use Rattle.std.specs.Prelude.{◌≡◌, ◌≤◌, IfOk, IsTrue};
+ghost use Rattle.std.specs.Prelude.{◌≡◌, ◌≤◌, IfOk, IsTrue, OnOk};
 ghost use Rattle.ds2_answer.specs.Plan.{Plan};
 ghost use Rattle.ds2_answer.specs.SourcePlans.{compile_programs_of, object_bytes, object_file, store_object};
 ghost use Rattle.ds2_answer.specs.Words.{is_source};
 ghost use Rattle.ds2_answer.specs.declared.words.TheConstants.{MOST_BUDGET};
 ghost use Rattle.ds2_store_steps.specs.Halts.{CausedBy, Follows, FollowsAll};
-ghost use Rattle.ds2_top.specs.SourceLoads.{IsRunnableObject, RunsLoaded, StoresNew, loaded_plan};
+ghost use Rattle.ds2_top.specs.SourceLoads.{IsReadBack, IsRunnableObject, RunsLoaded, StoresNew, StoresReadable, loaded_plan};
 
 use crate::loaded::Loaded;
 use ds2_answer::Status;
@@ -13,6 +13,7 @@ use ds2_answer::laws::codes_do_as_programs;
 use ds2_answer::lines::say_object;
 use ds2_base::{Bytes, OutOfMemory, Text};
 use ds2_exec::run_programs;
+use ds2_object::laws::spelling_is_read;
 use ds2_object::{ObjectCode, encode};
 use ds2_outside::Store;
 use ds2_store_steps::{Halt, ask_outputs, write_file};
@@ -29,10 +30,12 @@ fn object_name(alloc: Global, source: &Text) -> Result<Text, OutOfMemory>
     }
 }
 
-// The bytes of an object.
+// The bytes of an object, which are read as its programs.
 fn object_bytes(alloc: Global, object: &ObjectCode) -> Result<Bytes, OutOfMemory>
-    ensures { IfOk result (λ bytes. bytes ≡ object_bytes object.now) }
+    ensures bytes { IfOk result (λ bytes. bytes ≡ object_bytes object.now) }
+    ensures readable { OnOk result (IsReadBack object.now) }
 {
+    spelling_is_read();
     encode(alloc, object)
 }
 
@@ -46,6 +49,7 @@ fn store_object<S: Store>(
 ) -> Result<(), Halt>
     requires { IsTrue (is_source source.now) }
     ensures does { (rest : Plan) → Follows (store_object source.now object.now rest) (λ _. rest) log.old (S.files store.old) result log.new (S.files store.new) }
+    ensures readable { StoresReadable object.now result (S.files store.old) (S.files store.new) }
     ensures read { CausedBy Status.Read result (S.read_faults store.old) (S.read_faults store.new) }
     ensures write { CausedBy Status.Write result (S.write_faults store.old) (S.write_faults store.new) }
 {
@@ -64,6 +68,7 @@ pub(crate) fn store_new<S: Store>(
 ) -> Result<(), Halt>
     requires named { IsTrue (is_source source.now) }
     ensures does { StoresNew source.now object.now log.old (S.files store.old) result log.new (S.files store.new) }
+    ensures readable { StoresReadable object.now result (S.files store.old) (S.files store.new) }
     ensures read { CausedBy Status.Read result (S.read_faults store.old) (S.read_faults store.new) }
     ensures write { CausedBy Status.Write result (S.write_faults store.old) (S.write_faults store.new) }
 {
@@ -105,6 +110,7 @@ pub(crate) fn run_loaded<S: Store>(
     requires runs { IsRunnableObject loaded.now }
     requires budget { budget ≤ MOST_BUDGET }
     ensures does { RunsLoaded source.now budget loaded.now log.old (S.files store.old) result log.new (S.files store.new) }
+    ensures readable { StoresReadable loaded.now.object result (S.files store.old) (S.files store.new) }
     ensures read { CausedBy Status.Read result (S.read_faults store.old) (S.read_faults store.new) }
     ensures write { CausedBy Status.Write result (S.write_faults store.old) (S.write_faults store.new) }
 {
@@ -123,6 +129,7 @@ pub(crate) fn store_loaded<S: Store>(
 ) -> Result<(), Halt>
     requires { IsTrue (is_source source.now) }
     ensures does { FollowsAll (compile_programs_of source.now object.now) log.old (S.files store.old) result log.new (S.files store.new) }
+    ensures readable { StoresReadable object.now result (S.files store.old) (S.files store.new) }
     ensures read { CausedBy Status.Read result (S.read_faults store.old) (S.read_faults store.new) }
     ensures write { CausedBy Status.Write result (S.write_faults store.old) (S.write_faults store.new) }
 {

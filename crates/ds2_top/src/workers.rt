@@ -6,7 +6,7 @@ ghost use Rattle.ds2_answer.specs.Words.{is_source};
 ghost use Rattle.ds2_answer.specs.declared.words.TheConstants.{MOST_BUDGET};
 ghost use Rattle.ds2_store_steps.specs.Halts.{CausedBy, FollowsAll};
 ghost use Rattle.ds2_top.specs.CommandOutcomes.{DoesCommand, DoesSource, NamesFile, runs_with};
-ghost use Rattle.ds2_top.specs.SourceLoads.{IsRunnableObject, RunsLoaded, loaded_plan};
+ghost use Rattle.ds2_top.specs.SourceLoads.{IsRunnableObject, RunsLoaded, StoresReadable, loaded_plan};
 
 use crate::commands::do_command;
 use crate::loaded::Loaded;
@@ -65,6 +65,7 @@ fn run_loaded_with<S: Store, G: Gate + Sync, W: Threads + Wait + Sync>(
     requires runs { IsRunnableObject loaded.now }
     requires budget { budget ≤ MOST_BUDGET }
     ensures does { RunsLoaded source.now budget loaded.now log.old (S.files store.old) result log.new (S.files store.new) }
+    ensures readable { StoresReadable loaded.now.object result (S.files store.old) (S.files store.new) }
     ensures read { CausedBy Status.Read result (S.read_faults store.old) (S.read_faults store.new) }
     ensures write { CausedBy Status.Write result (S.write_faults store.old) (S.write_faults store.new) }
 {

@@ -12,4 +12,4 @@ returns-in_err-loaded-clause-does g c sources =
 pub returns-clause-does : goal.returns-clause-does
 returns-clause-does g c sources =
     source_does_one sources c.args.source.now (compiles c.args.source.now) c.in_ok-loaded.loaded (compile_programs_of c.args.source.now c.in_ok-loaded.loaded.object) (λ there programs. refl)
-    c.args.log.now c.load_source.new.log c.store_loaded.new.log (g.S.Store.files c.args.store.now) (g.S.Store.files c.load_source.new.store) (g.S.Store.files c.store_loaded.new.store) c.store_loaded.result (c.in_ok-loaded.ensures.loads sources) c.store_loaded.ensures.does
+    c.args.log.now c.load_source.new.log c.store_loaded.new.log (g.S.Store.files c.args.store.now) (g.S.Store.files c.load_source.new.store) (g.S.Store.files c.store_loaded.new.store) c.store_loaded.result (c.in_ok-loaded.ensures.loads sources) c.store_loaded.ensures.does (λ keeps. c.store_loaded.ensures.readable)

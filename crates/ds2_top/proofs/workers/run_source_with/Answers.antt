@@ -17,4 +17,4 @@ returns-in_err-loaded-clause-does g c sources =
 pub returns-clause-does : goal.returns-clause-does
 returns-clause-does g c sources =
     source_does sources c.args.source.now (runs_with c.args.source.now c.args.budget) c.in_ok-loaded.loaded c.args.log.now c.load_source.new.log c.run_loaded_with.new.log (g.S.Store.files c.args.store.now) (g.S.Store.files c.load_source.new.store)
-    (g.S.Store.files c.run_loaded_with.new.store) c.run_loaded_with.result (c.in_ok-loaded.ensures.loads sources) c.run_loaded_with.ensures.does
+    (g.S.Store.files c.run_loaded_with.new.store) c.run_loaded_with.result (c.in_ok-loaded.ensures.loads sources) c.run_loaded_with.ensures.does (λ keeps. c.run_loaded_with.ensures.readable)
