@@ -1,3 +1,4 @@
 pub mod Numbers
 pub mod StoredPlans
 pub mod OptionSteps
+pub mod ProgramEndings

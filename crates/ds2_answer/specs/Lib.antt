@@ -15,5 +15,6 @@ pub mod ObjectPlans
 pub mod SourcePlans
 pub mod CommandPlans
 pub mod StoredCodes
+pub mod ProgramEndings
 pub use Rattle.ds2_csv.specs.Reads
 pub use Rattle.ds2_csv.specs.declared.refusal.CsvRefusal
