@@ -51,7 +51,8 @@ abbrev pub count_stage_then : StageLeft → Plan → Plan
 count_stage_then stage rest = Logs (thread_line stage.name stage.verdict stage.groups) (Logs (count_line stage.instructions) rest)
 
 -- a program that has ended without fault writes its tables in their order; then the log counts what its thread programs did, its instructions
--- and the rows of each table, and the rest follows. One that has ended in a fault writes nothing, and the command stops
+-- and the rows of each table, and the rest follows. One that has ended in a fault writes nothing, and the command stops; none is without an
+-- ending (`ProgramEndings.antt`)
 abbrev pub end_then : Option Ending → List StageLeft → ℕ → List NamedTable → Plan → Plan
 end_then (Some Normal) stages instructions tables rest =
     each_in_turn write_then tables (each_in_turn count_stage_then stages (Logs (count_line instructions) (each_in_turn count_rows_then tables rest)))
