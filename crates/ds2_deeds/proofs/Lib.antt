@@ -5,6 +5,7 @@ pub mod MethodLemmas
 pub mod ElseLemmas
 pub mod BodyLemmas
 pub mod TableLemmas
+pub mod LocationTableLemmas
 pub mod RoundLemmas
 pub mod DistinctLemmas
 pub mod MethodsThere

@@ -1,5 +1,5 @@
 -- Locations that are told once.
-use Rattle.std.proofs.Common.{◌≡◌, ℕ, if◌then◌else◌, List, [], ◌∷◌, ◌++◌, Option, Some, None, refl, sym, ap, ◌∙◌}
+use Rattle.std.proofs.Common.{◌≡◌, ℕ, Bool, if◌then◌else◌, List, [], ◌∷◌, ◌++◌, Option, Some, None, refl, sym, ap, ◌∙◌}
 use Rattle.std.specs.Prelude.{is_some}
 use Rattle.ds2_meaning.specs.HashObjects.{object_at}
 use Rattle.ds2_meaning.specs.Location.{Location, is_same_location}
@@ -20,15 +20,9 @@ told_as of x y before grown is e = e ∙ ap (λ z. with_locations before (of z))
 pub then_told : (ls xs ys first both : List Location) → first ≡ with_locations ls xs → both ≡ with_locations first ys → both ≡ with_locations ls (xs ++ ys)
 then_told ls xs ys first both e f = f ∙ ap (λ l. with_locations l ys) e ∙ sym (both_told ls xs ys)
 
-told_by : (ls : List Location) (at : Location) (o : Option ℕ) → o ≡ number_of_location ls at → with_location ls at ≡ (if is_some o then ls else ls ++ at ∷ [])
-told_by ls at o e = ap (λ b. if b then ls else ls ++ at ∷ []) (any_numbered (is_same_location at) ls ∙ ap (λ (x : Option ℕ). is_some x) (sym e))
-
 -- one location more is told, where it has no number yet
-pub new_told : (ls : List Location) (at : Location) (o : Option ℕ) → o ≡ number_of_location ls at → o ≡ None → ls ++ at ∷ [] ≡ with_location ls at
-new_told ls at o e f = ap (λ (x : Option ℕ). if is_some x then ls else ls ++ at ∷ []) (sym f) ∙ sym (told_by ls at o e)
-
-pub old_told : (ls : List Location) (at : Location) (o : Option ℕ) (n : ℕ) → o ≡ number_of_location ls at → o ≡ Some n → ls ≡ with_location ls at
-old_told ls at o n e f = ap (λ (x : Option ℕ). if is_some x then ls else ls ++ at ∷ []) (sym f) ∙ sym (told_by ls at o e)
+pub told_by : (ls : List Location) (at : Location) (b : Bool) → is_some (number_of_location ls at) ≡ b → with_location ls at ≡ (if b then ls else ls ++ at ∷ [])
+told_by ls at b e = ap (λ x. if x then ls else ls ++ at ∷ []) (any_numbered (is_same_location at) ls ∙ e)
 
 -- where there is no own hash object or iterator of a name, none is told
 pub none_told : {A : Type 0} (before : List Location) (name : List ℕ) (o : Option A) → o ≡ None → before ≡ with_locations before (own_object_at name o)

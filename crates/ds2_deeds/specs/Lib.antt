@@ -1,4 +1,6 @@
 pub mod NamedLocations
+pub mod LocationOrder
+pub mod LocationNumbers
 pub mod NamedMethods
 pub mod CodeTrees
 pub mod NumberedDeeds

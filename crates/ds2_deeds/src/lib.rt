@@ -1,9 +1,10 @@
 //! What the statements of a program do, by numbers: which locations they mention and change, which methods they call, where they write.
 //!
-//! Locations and methods have numbers: `location`, `methods` and `table` give them. `scope` has what a body names. `deed`,
+//! Locations and methods have numbers: `location`, `methods` and `table` give them, `table` by way of `location_table`, which finds what is
+//! there by the order of `location_order`. `scope` has what a body names. `deed`,
 //! `object_deeds`, `expression_deeds` and `statement_deeds` list what statements mention, change, call and write, `bodies` does so for
-//! whole methods, and `called` tells which methods deeds may call by way of others, as `marked_numbers`. [`laws`] says that what is found
-//! by numbers is what `ds2_locality` says of names.
+//! whole methods, and `called` tells which methods deeds may call by way of others, kept in `marked_numbers`. [`laws`] says that what is
+//! found by numbers is what `ds2_locality` says of names.
 #![tactic(auto)]
 
 mod bodies;
@@ -12,6 +13,8 @@ mod deed;
 mod expression_deeds;
 pub mod laws;
 mod location;
+mod location_order;
+mod location_table;
 mod marked_numbers;
 mod methods;
 mod object_deeds;

@@ -6,63 +6,46 @@ ghost use Rattle.ds2_meaning.specs.HashObjects.{hash_named, iterator_named};
 ghost use Rattle.ds2_meaning.specs.ProgramTree.{InstanceTree};
 ghost use Rattle.ds2_meaning.specs.View.{instance_tree, objects_tree};
 ghost use Rattle.ds2_deeds.specs.CodeTrees.{nameless_tree};
-ghost use Rattle.ds2_deeds.specs.NamedLocations.{code_home, location_named, locations_named, with_location, with_locations, told_once};
+ghost use Rattle.ds2_deeds.specs.NamedLocations.{code_home, locations_named, with_locations, told_once};
 
-use crate::location::{
-    CodeHome, LocationName, global_location, home_of, named_location, number_of,
-};
+use crate::location::{CodeHome, LocationName, global_location, home_of, named_location};
+use crate::location_table::LocationTable;
 use crate::scope::{find_hash, find_iterator, method_scope};
 use ds2_base::{List, Name, OutOfMemory};
 use ds2_layout::LayoutSlot;
 use ds2_meaning::{DeclaredHash, DeclaredIterator, Instance, Program};
 use std::alloc::Global;
 
-// Adds a location, where it is not there.
-fn add_location<'p>(
-    locations: &mut List<LocationName<'p>>,
-    at: LocationName<'p>,
-) -> Result<(), OutOfMemory>
-    ensures { OnOk result (locations_named locations.new ≡ with_location (locations_named locations.old) (location_named at.entry)) }
-{
-    match number_of(locations.as_slice(), at) {
-        None => locations.push(at),
-        Some(_) => Ok(()),
-    }
-}
-
 // Adds the locations of slots.
 fn add_slots<'p>(
-    locations: &mut List<LocationName<'p>>,
+    locations: &mut LocationTable<'p>,
     slots: &'p [LayoutSlot],
 ) -> Result<(), OutOfMemory>
     ensures { OnOk result (locations_named locations.new ≡ with_locations (locations_named locations.old) (map location_of_slot slots.now)) }
 {
     'slots: for slot in slots {
-        add_location(
-            locations,
-            global_location(home_of(&slot.instance), &slot.global),
-        )?;
+        locations.add(global_location(home_of(&slot.instance), &slot.global))?;
     }
     Ok(())
 }
 
 // Adds the hash objects of a home.
 fn add_hashes<'p>(
-    locations: &mut List<LocationName<'p>>,
+    locations: &mut LocationTable<'p>,
     home: CodeHome<'p>,
     hashes: &'p [DeclaredHash],
 ) -> Result<(), OutOfMemory>
     ensures { OnOk result (locations_named locations.new ≡ with_locations (locations_named locations.old) (hashes_kept_at (code_home home.entry) (objects_tree hashes.now []))) }
 {
     'hashes: for hash in hashes {
-        add_location(locations, named_location(home, &hash.name))?;
+        locations.add(named_location(home, &hash.name))?;
     }
     Ok(())
 }
 
 // Adds the hash objects of instances.
 fn add_instance_hashes<'p>(
-    locations: &mut List<LocationName<'p>>,
+    locations: &mut LocationTable<'p>,
     instances: &'p [Instance],
 ) -> Result<(), OutOfMemory>
     ensures { OnOk result (locations_named locations.new ≡ with_locations (locations_named locations.old) (flat_map (λ (i : InstanceTree). hashes_kept_at (Some i.name) i.objects) (map instance_tree instances.now))) }
@@ -76,21 +59,21 @@ fn add_instance_hashes<'p>(
 
 // Adds the iterators of a home.
 fn add_iterators<'p>(
-    locations: &mut List<LocationName<'p>>,
+    locations: &mut LocationTable<'p>,
     home: CodeHome<'p>,
     iterators: &'p [DeclaredIterator],
 ) -> Result<(), OutOfMemory>
     ensures { OnOk result (locations_named locations.new ≡ with_locations (locations_named locations.old) (iterators_kept_at (code_home home.entry) (objects_tree [] iterators.now))) }
 {
     'iterators: for iterator in iterators {
-        add_location(locations, named_location(home, &iterator.name))?;
+        locations.add(named_location(home, &iterator.name))?;
     }
     Ok(())
 }
 
 // Adds the iterators of instances.
 fn add_instance_iterators<'p>(
-    locations: &mut List<LocationName<'p>>,
+    locations: &mut LocationTable<'p>,
     instances: &'p [Instance],
 ) -> Result<(), OutOfMemory>
     ensures { OnOk result (locations_named locations.new ≡ with_locations (locations_named locations.old) (flat_map (λ (i : InstanceTree). iterators_kept_at (Some i.name) i.objects) (map instance_tree instances.now))) }
@@ -104,7 +87,7 @@ fn add_instance_iterators<'p>(
 
 // Adds the own hash objects and iterators, and those of instances, the own ones first.
 fn add_objects<'p>(
-    locations: &mut List<LocationName<'p>>,
+    locations: &mut LocationTable<'p>,
     program: &'p Program,
 ) -> Result<(), OutOfMemory>
     ensures { OnOk result (locations_named locations.new ≡ with_locations (locations_named locations.old) (own_objects_first (nameless_tree program.now))) }
@@ -119,7 +102,7 @@ fn add_objects<'p>(
 
 // Adds the own hash object of a name, where there is one.
 fn add_own_hash<'p>(
-    locations: &mut List<LocationName<'p>>,
+    locations: &mut LocationTable<'p>,
     hashes: &'p [DeclaredHash],
     name: &'p Name,
 ) -> Result<(), OutOfMemory>
@@ -127,13 +110,13 @@ fn add_own_hash<'p>(
 {
     match find_hash(hashes, name) {
         None => Ok(()),
-        Some(_) => add_location(locations, named_location(CodeHome::Program, name)),
+        Some(_) => locations.add(named_location(CodeHome::Program, name)),
     }
 }
 
 // Adds the own iterator of a name, where there is one.
 fn add_own_iterator<'p>(
-    locations: &mut List<LocationName<'p>>,
+    locations: &mut LocationTable<'p>,
     iterators: &'p [DeclaredIterator],
     name: &'p Name,
 ) -> Result<(), OutOfMemory>
@@ -141,13 +124,13 @@ fn add_own_iterator<'p>(
 {
     match find_iterator(iterators, name) {
         None => Ok(()),
-        Some(_) => add_location(locations, named_location(CodeHome::Program, name)),
+        Some(_) => locations.add(named_location(CodeHome::Program, name)),
     }
 }
 
 // Adds the hash objects that the declaration of a name brings.
 fn add_declared_hashes<'p>(
-    locations: &mut List<LocationName<'p>>,
+    locations: &mut LocationTable<'p>,
     program: &'p Program,
     name: &'p Name,
 ) -> Result<(), OutOfMemory>
@@ -161,7 +144,7 @@ fn add_declared_hashes<'p>(
 
 // Adds the iterators that the declaration of a name brings.
 fn add_declared_iterators<'p>(
-    locations: &mut List<LocationName<'p>>,
+    locations: &mut LocationTable<'p>,
     program: &'p Program,
     name: &'p Name,
 ) -> Result<(), OutOfMemory>
@@ -175,7 +158,7 @@ fn add_declared_iterators<'p>(
 
 // Adds the hash objects that declarations bring.
 fn add_all_declared_hashes<'p>(
-    locations: &mut List<LocationName<'p>>,
+    locations: &mut LocationTable<'p>,
     program: &'p Program,
     names: &'p [Name],
 ) -> Result<(), OutOfMemory>
@@ -189,7 +172,7 @@ fn add_all_declared_hashes<'p>(
 
 // Adds the iterators that declarations bring.
 fn add_all_declared_iterators<'p>(
-    locations: &mut List<LocationName<'p>>,
+    locations: &mut LocationTable<'p>,
     program: &'p Program,
     names: &'p [Name],
 ) -> Result<(), OutOfMemory>
@@ -211,10 +194,10 @@ pub fn locations_in_order<'p>(
 ) -> Result<List<LocationName<'p>>, OutOfMemory>
     ensures { IfOk result (λ locations. locations_named locations ≡ told_once (map location_of_slot slots.now ++ objects_in_order names.now (nameless_tree program.now))) }
 {
-    let mut locations = List::new(alloc);
+    let mut locations = LocationTable::new(alloc);
     add_slots(&mut locations, slots)?;
     add_all_declared_hashes(&mut locations, program, names)?;
     add_all_declared_iterators(&mut locations, program, names)?;
     add_objects(&mut locations, program)?;
-    Ok(locations)
+    Ok(locations.into_list())
 }

@@ -11,5 +11,5 @@ returns-in-None c = none_told (locations_named c.args.locations.now) c.args.name
 
 pub returns-in-Some : goal.returns-in-Some
 returns-in-Some c =
-    on_ok_weaker c.add_location.result
-    (own_told (locations_named c.args.locations.now) c.args.name.now (iterator_named c.args.iterators.now c.args.name.now) _ (sym c.find_iterator.ensures ∙ ap (λ o. option_copied o) c.in-Some.is) _ _ c.named_location.ensures) c.add_location.ensures
+    on_ok_weaker c.add.result
+    (own_told (locations_named c.args.locations.now) c.args.name.now (iterator_named c.args.iterators.now c.args.name.now) _ (sym c.find_iterator.ensures ∙ ap (λ o. option_copied o) c.in-Some.is) _ _ c.named_location.ensures) c.add.ensures

@@ -21,4 +21,4 @@ returns c =
     let iterators = flat_map (iterators_brought p) names in
     let declared = then_told first hashes iterators second third c.in_ok-add_all_declared_hashes.ensures c.in_ok-add_all_declared_iterators.ensures in
     let objects = then_told first (hashes ++ iterators) (own_objects_first p) third last declared c.in_ok-add_objects.ensures in
-    then_told [] (map location_of_slot c.args.slots.now) (objects_in_order names p) first last slots objects
+    ap (λ (l : List LocationName). locations_named l) c.into_list.ensures ∙ then_told [] (map location_of_slot c.args.slots.now) (objects_in_order names p) first last slots objects
