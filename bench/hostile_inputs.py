@@ -88,9 +88,14 @@ def body(size, piece, declared="", opening="", closing=""):
     return filled(size, f"{DATA} {declared} method run(); if a = 1 then do; {opening}\n", piece, closing + DATA_END)
 
 
-def thread(size, piece, declared="", opening="", closing=""):
-    """A thread program with pieces in `run`, which are not carried out."""
-    return filled(size, f"{THREAD} {declared} method run(); if x = 1 then do; {opening}\n", piece, closing + THREAD_END)
+def thread(size, piece, declared="", opening="", closing="", reading=""):
+    """A thread program with pieces in `run`, which are not carried out. It is not local at any grain."""
+    return filled(size, f"{THREAD} {declared} method run(); {reading} if x = 1 then do; {opening}\n", piece, closing + THREAD_END)
+
+
+def thread_by(*parts, **more):
+    """The same with 16 BY variables, so that it has 16 grains."""
+    return thread(*parts, **more, reading=READ_BYS)
 
 
 def over_names(of, size, piece, declared="dcl bigint {};", **parts):
@@ -119,43 +124,59 @@ def each_called(size, head, piece, call, tail):
 
 # ---- thread programs
 
-BEGUN = "method run(); if x = 2 then m0(); end;" + READER
 
-source("thread: methods that each call the next one", lambda size: chain(size, THREAD, "m{0}();", "x = 1;", BEGUN))
-source("thread: methods that each call the one before", lambda size: filled(
-    size, f"{THREAD} method m(); x = 1; end; method m0(); m(); end;\n", lambda n: f"method m{n + 1}(); m{n}(); end;\n", lambda n: f"method run(); if x = 2 then m{n}(); end;" + READER))
-source("thread: methods in a cycle", lambda size: chain(size, THREAD, "m{0}();", "x = 1; m0();", BEGUN))
-source("thread: methods that call the next two", lambda size: chain(size, THREAD, "m{0}(); m{1}();", "x = 1;", BEGUN))
-source("thread: methods that call the next one and the first", lambda size: chain(size, THREAD, "m{0}(); m0();", "x = 1;", BEGUN))
-source("thread: methods that call the next one in a loop", lambda size: chain(size, THREAD, "do while (x = 1); m{0}(); end;", "x = 1;", BEGUN))
-source("thread: methods, each of which is called", lambda size: each_called(size, THREAD, lambda n: f"method m{n}(); x = {n}; end;\n", lambda n: f"if x = 2 then m{n}();", " end;" + READER))
-source("thread: assignments over many names", lambda size: over_names(thread, size, "v{0} = v{1};\n"))
-source("thread: assignments over many retained names", lambda size: over_names(thread, size, "v{0} = v{1};\n", "dcl bigint {0}; retain {0};"))
-source("thread: branches over many retained names", lambda size: over_names(thread, size, "if v{1} = 1 then v{0} = 2; else v{1} = 3;\n", "dcl bigint {0}; retain {0};"))
-source("thread: one selection over many retained names", lambda size: over_names(
-    thread, size, "when ({2}) v{0} = v{1};\n", "dcl bigint {0}; retain {0};", opening="select (x);", closing=" otherwise; end;"))
-source("thread: loops 60 deep", lambda size: deep(thread, size, "do while (x = 1); ", "x = x + 1;", " end;"))
-source("thread: conditions 60 deep", lambda size: deep(thread, size, "if x = 1 then do; ", "x = x + 1; ", "end; else x = 2; ", depth=30))
-source("thread: calls of a method that mentions many names", lambda size: thread(
-    size, "f();", f"dcl bigint {names('v', MOST)}; method f(); {each_of('v', MOST, '{0} = {0} + 1;')} end;"))
-source("thread: calls with many in_out arguments", lambda size: thread(
-    size, f"f({handed('', 'v', MOST)});\n", f"dcl bigint {names('v', MOST)}; method f({handed('in_out bigint', 'p', MOST)}); end;"))
+def threaded(name, make):
+    """Adds a source with a thread program, beside a table of 16 BY variables."""
+    source(f"thread: {name}", make, {"b.csv": header("b", 16)})
 
-HASH_OF_128 = f"dcl bigint {names('k', 64)} {names('d', 64)}; dcl package hash h([{names('k', 64)}], [{names('d', 64)}]); dcl package hiter i('h');"
-BYS = {"b.csv": header("b", 16)}
+
+def begun(reading=""):
+    return f"method run(); {reading} if x = 2 then m0(); end;{READER}"
+
+
 READ_BYS = f"set b; by {names('b', 16)};"
+RETAINED = "dcl bigint {0}; retain {0};"
+HASH_OF_128 = f"dcl bigint {names('k', 64)} {names('d', 64)}; dcl package hash h([{names('k', 64)}], [{names('d', 64)}]); dcl package hiter i('h');"
+OF_60 = each_of("q", 60, "dcl package p {};")
+LARGE_PACKAGE = f"package p; dcl bigint {names('v', MOST)};"
 
-source("thread: calls of a hash object with 128 variables", lambda size: thread(size, "h.find();h.add();i.next();", HASH_OF_128))
-source("thread: calls of the methods of 60 instances", lambda size: filled(
-    size, f"package p; dcl bigint n; method f(); n = n + 1; end; method g(); f(); end; endpackage; {THREAD} {each_of('q', 60, 'dcl package p {};')} method run(); if x = 1 then do; ",
-    lambda n: f"q{n % 60}.g();", THREAD_END))
-source("thread: flags of 16 BY variables", lambda size: filled(
-    size, f"{THREAD} method run(); {READ_BYS} ", lambda n: f"if first.b{n % 16} then x = {n}; x = x + 1;\n", " end;" + READER), BYS)
-source("thread: flags of 16 BY variables in methods that each call the next one", lambda size: chain(
-    size, THREAD, "if first.b9 then x = 0; m{0}();", "x = 1;", f"method run(); {READ_BYS} if x = 2 then m0(); end;" + READER), BYS)
-source("thread: lines that are put", lambda size: thread(size, "put x;"))
+threaded("methods that each call the next one", lambda size: chain(size, THREAD, "m{0}();", "x = 1;", begun()))
+threaded("methods that each call the one before", lambda size: filled(
+    size, f"{THREAD} method m(); x = 1; end; method m0(); m(); end;\n", lambda n: f"method m{n + 1}(); m{n}(); end;\n", lambda n: f"method run(); if x = 2 then m{n}(); end;" + READER))
+threaded("methods in a cycle", lambda size: chain(size, THREAD, "m{0}();", "x = 1; m0();", begun()))
+threaded("methods that call the next two", lambda size: chain(size, THREAD, "m{0}(); m{1}();", "x = 1;", begun()))
+threaded("methods that call the next one and the first", lambda size: chain(size, THREAD, "m{0}(); m0();", "x = 1;", begun()))
+threaded("methods that call the next one in a loop", lambda size: chain(size, THREAD, "do while (x = 1); m{0}(); end;", "x = 1;", begun()))
+threaded("methods that each call the next one, by 16 BY variables", lambda size: chain(size, THREAD, "if first.b9 then x = 0; m{0}();", "x = 1;", begun(READ_BYS)))
+threaded("methods over many names that each call the next one, by 16 BY variables", lambda size: chain(
+    size, f"{THREAD} dcl bigint {names('v', MOST)}; retain {names('v', MOST)};", "m{0}(); v0 = v1;", each_of("v", MOST, "{0} = {0};"), begun(READ_BYS)))
+threaded("methods, each of which is called", lambda size: each_called(size, THREAD, lambda n: f"method m{n}(); x = {n}; end;\n", lambda n: f"if x = 2 then m{n}();", " end;" + READER))
+threaded("assignments over many names", lambda size: over_names(thread, size, "v{0} = v{1};\n"))
+threaded("assignments over many retained names", lambda size: over_names(thread, size, "v{0} = v{1};\n", RETAINED))
+threaded("branches over many retained names, by 16 BY variables", lambda size: over_names(thread_by, size, "if v{1} = 1 then v{0} = 2; else v{1} = 3;\n", RETAINED))
+threaded("one selection over many retained names, by 16 BY variables", lambda size: over_names(
+    thread_by, size, "when ({2}) v{0} = v{1};\n", RETAINED, opening="select (x);", closing=" otherwise; end;"))
+threaded("loops 60 deep, by 16 BY variables", lambda size: deep(thread_by, size, "do while (x = 1); ", "x = x + 1;", " end;"))
+threaded("conditions 60 deep, by 16 BY variables", lambda size: deep(thread_by, size, "if x = 1 then do; ", "x = x + 1; ", "end; else x = 2; ", depth=30))
+threaded("flags of 16 BY variables", lambda size: thread_by(size, lambda n: f"if first.b{n % 16} then x = {n}; x = x + 1;\n"))
+threaded("calls of a method that mentions many names, by 16 BY variables", lambda size: thread_by(
+    size, "f();", f"dcl bigint {names('v', MOST)}; method f(); {each_of('v', MOST, '{0} = {0} + 1;')} end;"))
+threaded("calls with many in_out arguments, by 16 BY variables", lambda size: thread_by(
+    size, f"f({handed('', 'v', MOST)});\n", f"dcl bigint {names('v', MOST)}; method f({handed('in_out bigint', 'p', MOST)}); end;"))
+threaded("calls of a hash object with 128 of many variables, by 16 BY variables", lambda size: thread_by(size, "h.find();h.add();i.next();", f"dcl bigint {names('v', 800)}; {HASH_OF_128}"))
+threaded("calls of the methods of 60 instances, by 16 BY variables", lambda size: filled(
+    size, f"package p; dcl bigint n; method f(); n = n + 1; end; method g(); f(); end; endpackage; {THREAD} {OF_60} method run(); {READ_BYS} if x = 1 then do; ", lambda n: f"q{n % 60}.g();", THREAD_END))
+threaded("60 instances of a package of many variables", lambda size: (
+    f"package p; dcl bigint {names('v', max(2, MOST * size // SOURCE_LIMIT))}; method m(); v0 = v1; end; endpackage; {THREAD} {OF_60} method run(); if x = 1 then q0.m(); end;{READER}"))
+threaded("60 instances of a package of many variables and methods", lambda size: filled(
+    size, f"{LARGE_PACKAGE} method m(); v0 = 1; end;", lambda n: f"method m{n}(); v0 = v{n % MOST}; end;", f"endpackage; {THREAD} {OF_60} method run(); if x = 1 then q0.m(); end;{READER}", 1 / 6))
+threaded("calls of the methods of 60 instances of many variables", lambda size: filled(
+    size, f"{LARGE_PACKAGE} method m(); v989 = v988; end; endpackage; {THREAD} {OF_60} method run(); if x = 1 then do; ", lambda n: f"if x = 2 then q{n % 60}.m();", THREAD_END))
+threaded("lines that are put, by 16 BY variables", lambda size: thread_by(size, "put x;"))
 source("64 thread programs of methods that each call the next one", lambda size: "".join(
     chain(size, f"thread t{n or ''}; dcl bigint x;\n", "m{0}();", "x = 1;", "method run(); if x = 1 then m0(); end; endthread;", 1 / 65) for n in range(64)) + READER.removeprefix(" endthread;"))
+source("a thread program of 60 instances from which 64 programs read", lambda size: filled(
+    size, "package p; dcl bigint a; method m(); ", ";", f" end; endpackage; {THREAD} {OF_60} method run(); if x = 1 then q0.m(); end;{READER}" + READER.removeprefix(" endthread;") * 63, 1 / 12))
 source("a thread program from which 64 programs read", lambda size: filled(size, f"{THREAD} method run(); if x = 1 then do; ", "x=x+1;", THREAD_END + READER.removeprefix(" endthread;") * 63))
 
 # ---- statements and expressions of data programs
@@ -283,7 +304,7 @@ TABLES = {f"t{n}.csv": header(f"c{n}_", 60) for n in range(16)}
 LONG = "column_" * 8
 ALIKE = {f"t{n}.csv": header(f"{LONG}{n}_", 49).strip() + "," + header(LONG, 206) for n in range(16)}
 SIXTEEN = names("t", 16)
-INSTANCES = f"data _null_; dcl bigint x; {each_of('q', 60, 'dcl package p {};')} method run(); if x = 1 then q0.m(); end; enddata;\n"
+INSTANCES = f"data _null_; dcl bigint x; {OF_60} method run(); if x = 1 then q0.m(); end; enddata;\n"
 
 source("lists of one name again and again", listed_names)
 source("outputs of many columns, each renamed", lambda size: outputs(size, lambda n, count: f"rename=({' '.join(f'v{c}=r{n}_{c}' for c in range(count))})"))
@@ -300,6 +321,8 @@ source("calls of hash objects and iterators", lambda size: body(
     size, lambda n: f"h{n % 30}.add();i{n % 30}.next();", "".join(f"dcl package hash h{n}([a],[b]); dcl package hiter i{n}('h{n}');" for n in range(30))))
 source("a package of 60 instances", lambda size: filled(size, "package p; dcl bigint a; method m(); ", "a=a+1;", f" end; endpackage; {INSTANCES}", 1 / 15))
 source("a package of 60 instances in each program", lambda size: filled(size, "package p; dcl bigint a; method m(); " + "a=a+1;" * 40 + " end; endpackage;", INSTANCES, share=0.28))
+source("60 instances of a package of many variables in each program", lambda size: filled(
+    size, f"package p; dcl bigint {names('v', 240)}; method m(); v0 = 1; end; endpackage;", INSTANCES, share=0.28))
 source("packages of many methods", lambda size: "".join(
     filled(size, f"package p{n}; dcl bigint a;", lambda m: f"method m{m}();end;", "endpackage;", 1 / 64) for n in range(62)) + "data _null_; dcl package p0 q; dcl bigint x; method run(); if x = 1 then q.m0(); end; enddata;")
 source("one comment", lambda size: filled(size, "data _null_; dcl bigint a; /*", "*", "*/ enddata;"))
@@ -419,7 +442,7 @@ job("rows for 16 outputs", 20_000, lambda count: f"data {' '.join(f'o{n} (overwr
 
 NONE = (0, b"")
 BIGINT, NO_RESULT = u8(0), u8(0)
-END, RET, NOWHEN, DROP, NULL, CALL = u8(57), u8(48), u8(50), u8(6), u8(1) + BIGINT, u8(47) + u32(0)
+END, RET, NOWHEN, DROP, NULL, CALL, OUTPUT = u8(57), u8(48), u8(50), u8(6), u8(1) + BIGINT, u8(47) + u32(0), u8(51) + u32(0)
 KEPT, READ = text("k") + BIGINT + u8(1), text("k") + BIGINT + u8(2)
 
 
@@ -436,10 +459,10 @@ def counted(count, piece):
     return count, b"".join(map(piece, range(count)))
 
 
-def program(slots=NONE, constants=NONE, hashes=NONE, iterators=NONE, methods=NONE, reading=u8(0), outputs=NONE, code=(1, END), name=u8(0)):
-    """A program whose units begin with its code."""
+def program(slots=NONE, constants=NONE, hashes=NONE, iterators=NONE, methods=NONE, reading=u8(0), outputs=NONE, code=(1, END), name=u8(0), run=0):
+    """A program whose units begin with its code, and `run` perhaps later."""
     lists = [slots, constants, hashes, iterators, NONE, methods]
-    return name + b"".join(map(listed, lists)) + reading + listed(outputs) + u32(0) * 3 + listed(code)
+    return name + b"".join(map(listed, lists)) + reading + listed(outputs) + u32(0) + u32(run) + u32(0) + listed(code)
 
 
 def object_of(*parts):
@@ -489,13 +512,26 @@ def stopped(outputs):
     return object_of(program(slots=(1, KEPT), outputs=outputs, code=(2, NOWHEN + END)))
 
 
-def behind_a_table(count, each):
-    """A program that makes a table, and others."""
-    return object_of(program(slots=(1, KEPT), outputs=(1, output("t", (1, text("k") + u32(0))))), *[each] * count)
+def maker(rows):
+    """A program that makes so many rows of the table t."""
+    return program(slots=(1, KEPT), outputs=(1, output("t", (1, text("k") + u32(0)))), code=(rows + 2, END + OUTPUT * rows + END), run=1)
+
+
+def hash_calls(size):
+    """A hash object of many keys, and calls of it."""
+    count = size // 11
+    return object_of(program(slots=(1, KEPT), hashes=(1, listed(times(count, u32(0))) + u32(0) + u8(0)), code=(2 * count + 1, (u8(54) + u32(0) + u8(1) + DROP) * count + END)))
+
+
+def output_rows(size):
+    """A table of many columns and rows."""
+    columns = counted(size // 24, lambda n: text(f"c{n:05}") + u32(0))
+    return object_of(program(slots=(1, KEPT), outputs=(1, output("t", columns)), code=(size // 24 + 2, END + OUTPUT * (size // 24) + END), run=1))
 
 
 ONE_NUMBER = u32(1) + u32(0)
 MADE = text("t") + u32(1) + u32(1) + text("k") + BIGINT
+LOADED = ONE_NUMBER * 2 + u8(1) + MADE + ONE_NUMBER * 2
 STAGE = program(name=u8(1) + text("t"), slots=(1, KEPT), outputs=(1, output("t", (1, text("k") + u32(0)))))
 READS_STAGE = program(slots=(1, READ), reading=u8(5) + u8(64) + STAGE + ONE_NUMBER)
 READS_TABLE = program(slots=(1, READ), reading=u8(2) + u32(1) + MADE + u8(0) + ONE_NUMBER + u32(0))
@@ -513,13 +549,15 @@ stored("constants", 1_048_576, lambda size: object_of(program(constants=times(si
 stored("constants that are long texts", 4_194_304, lambda size: object_of(program(constants=times(size // 1031, u8(3) + u16(1024) + text("a" * 1024)))))
 stored("hash objects and iterators", 1_048_576, lambda size: object_of(
     program(slots=(1, KEPT), hashes=times(size // 21, ONE_NUMBER * 2 + u8(0)), iterators=counted(size // 21, u32))))
-stored("hash objects of one table", 1_048_576, lambda size: behind_a_table(
-    1, program(slots=(1, KEPT), hashes=times(size // 52, ONE_NUMBER * 2 + u8(1) + MADE + ONE_NUMBER * 2))))
+stored("hash objects of one table", 1_048_576, lambda size: object_of(maker(1), program(slots=(1, KEPT), hashes=times(size // 52, LOADED))))
+stored("hash objects of one table of many rows", 131_072, lambda size: object_of(maker(size // 10), program(slots=(1, KEPT), hashes=times(size // 104, LOADED))))
+stored("calls of a hash object of many keys", 131_072, hash_calls)
+stored("rows of many columns", 65_536, output_rows)
 stored("columns of an output", 1_048_576, lambda size: stopped((1, output("t", counted(size // 17, lambda n: text(f"c{n:08}") + u32(0))))), 6)
 stored("columns of an output whose names have one hash", 1_048_576, lambda size: stopped((1, output("t", counted(size // 40, lambda n: text(name_of_one_hash(n)) + u32(0))))), 6)
 stored("outputs whose names have one hash", 1_048_576, lambda size: stopped(counted(size // 41, lambda n: output(name_of_one_hash(n), NONE))), 6)
 stored("programs", 1_048_576, lambda size: object_of(*[program()] * (size // len(program()))))
 stored("programs that read from thread programs", 1_048_576, lambda size: object_of(*[READS_STAGE] * (size // len(READS_STAGE))))
-stored("programs that read the table of the first", 1_048_576, lambda size: behind_a_table(size // len(READS_TABLE), READS_TABLE))
+stored("programs that read the table of the first", 1_048_576, lambda size: object_of(maker(1), *[READS_TABLE] * (size // len(READS_TABLE))))
 stored("all bytes but the last", 1_048_576, lambda size: object_of(program(code=times(size, END)))[:-1], 10)
 stored("code that is not valid in its last instruction", 1_048_576, lambda size: object_of(program(code=(size, END * (size - 1) + DROP))), 10)
