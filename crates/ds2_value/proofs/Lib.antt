@@ -2,6 +2,7 @@ pub mod ByteLemmas
 pub mod ChoiceLemmas
 pub mod CutLemmas
 pub mod DecimalLemmas
+pub mod HashLemmas
 pub mod IntegerLemmas
 pub mod JoinLemmas
 pub mod KeepLemmas

@@ -76,8 +76,4 @@ digits-dec d h =
 pub digits-int : (i : ℤ) → digits_of (value (record { units = i; scale = 0 })) ≡ (is_negative i, unsigned_abs i, 0)
 digits-int i = digits-dec (record { units = i; scale = 0 }) (omega arith) ∙ rw (lowest-zero (unsigned_abs i)) refl
 
-pub digits-none : digits_of (pos 0) ≡ (false, 0, 0)
-unfolding lowest
-digits-none = refl
-
-pub ruleset digit_forms = (digits-int, digits-dec, digits-none)
+pub ruleset digit_forms = (digits-int, digits-dec)

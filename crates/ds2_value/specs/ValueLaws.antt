@@ -1,16 +1,19 @@
 -- The laws of the order, the equality and the hash of values.
 use Rattle.std.proofs.Common.{◌≡◌, refl, ap}
-use Rattle.std.specs.Prelude.{IsTrue, true}
+use Rattle.std.specs.Prelude.{ℕ, zero, suc, ℤ, IsTrue, true}
+use Rattle.std.specs.Hash as fed
 use Rattle.std.specs.Cmp.{IsTotalOrder, IsEquivalence, IsPartialEquivalence, IsPartialOrder, on_total, then_total, nat_cmp_total, int_cmp_total, eq_by_cmp_equiv, partial_equiv_from_equiv, partial_order_from_total}
 use Rattle.std.specs.Ordering.{nat_cmp, int_cmp, ordering_then, is_eq, as_partial_cmp}
 use Rattle.std.specs.declared.cmp.Ordering.{Ordering}
 use Rattle.std.specs.declared.cmp.Ordering.TheVariants.{Less, Equal, Greater}
 use Rattle.std.specs.Str.{chars, encode_utf8_all}
 use Rattle.std.proofs.lemmas.Map.Lookups.{exact_unsigned, exact_signed}
-use Rattle.ds2_value.specs.Hashing.{value_writes}
+use Rattle.ds2_base.specs.Bytes.{Bytes}
+use Rattle.ds2_value.specs.Hashing.{digits_of, digit_writes, text_writes, value_writes}
 use Rattle.ds2_value.specs.Order.{rank, exact, bytes_of, key_order, value_eq}
 use Rattle.ds2_value.specs.Texts.{text_cmp, trimmed}
 use Rattle.ds2_value.specs.declared.value.Value.{Value}
+use Rattle.ds2_value.specs.declared.value.Value.TheVariants.{Null, Int, Dec, Txt}
 use Rattle.ds2_value.specs.TextLaws.{text_cmp_total, padded_cmp-Equal}
 
 -- the order of values is total
@@ -38,13 +41,27 @@ both-Equal Equal Equal h = (refl, refl)
 both-Equal Equal Greater h = cc
 both-Equal Greater o h = cc
 
+-- what is fed of a rank, a number and a text
+abbrev fed_of : ℕ → ℤ → Bytes → fed.HashWrites
+fed_of zero number text = fed.u64 253
+fed_of (suc zero) number text = digit_writes (digits_of number)
+fed_of (suc (suc n)) number text = text_writes text
+
+-- what is fed of a value is so of what the order compares
+fed_by_rank : (v : Value) → value_writes v ≡ fed_of (rank v) (exact v) (trimmed (bytes_of v))
+unfolding value_writes
+fed_by_rank Null = refl
+fed_by_rank (Int i) = refl
+fed_by_rank (Dec d) = refl
+fed_by_rank (Txt t) = refl
+
 -- equal values are hashed alike
 pub value_alike : (a b : Value) → IsTrue (value_eq a b) → value_writes a ≡ value_writes b
-unfolding key_order value_writes
+unfolding key_order
 value_alike a b h =
     let outer = both-Equal (nat_cmp (rank a) (rank b)) (ordering_then (int_cmp (exact a) (exact b)) (text_cmp (bytes_of a) (bytes_of b))) h in
     let inner = both-Equal (int_cmp (exact a) (exact b)) (text_cmp (bytes_of a) (bytes_of b)) (ap is_eq outer.1) in
     let kind = exact_unsigned (rank a) (rank b) outer.0 in
     let number = exact_signed (exact a) (exact b) inner.0 in
     let text : trimmed (bytes_of a) ≡ trimmed (bytes_of b) = ap encode_utf8_all (padded_cmp-Equal (chars (bytes_of a)) (chars (bytes_of b)) inner.1) in
-    rw (kind, number, text) refl
+    rw (fed_by_rank a, fed_by_rank b, kind, number, text) refl

@@ -1,6 +1,6 @@
 use Rattle.std.proofs.Common.{◌∙◌, sym}
 use Rattle.ds2_value.proofs.LowestLemmas.{lowest-less, lowest-stop, lowest-none}
-use Rattle.ds2_value.proofs.hashing.lowest_terms.Goals as goal
+use Rattle.ds2_value.proofs.hashing.lowest_in_word.Goals as goal
 
 pub zeros-preserved : goal.zeros-preserved
 zeros-preserved c = lowest-less c.zeros.m c.zeros.s c.zeros-test.true c.if-m-eq0.true ∙ c.zeros.invariant

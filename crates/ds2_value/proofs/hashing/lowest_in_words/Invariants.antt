@@ -1,6 +1,6 @@
 use Rattle.std.proofs.Common.{◌≡◌}
 use Rattle.ds2_value.specs.Hashing.{lowest}
-use Rattle.ds2_value.proofs.hashing.lowest_terms.Given as goal
+use Rattle.ds2_value.proofs.hashing.lowest_in_words.Given as goal
 
 abbrev pub invariant-zeros : goal.invariant-zeros
 invariant-zeros l = lowest l.m l.s ≡ lowest l.magnitude l.scale
