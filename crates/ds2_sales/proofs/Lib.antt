@@ -1,0 +1,3 @@
+pub mod Amounts
+pub mod Draws
+pub mod Fitting
