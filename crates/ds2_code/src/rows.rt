@@ -11,83 +11,85 @@ pub struct Rows<const N: usize> {
     pub codes: [u8; N],
 }
 
-// Hands all rows on to a macro, with what else that one takes: the name of each row and its number.
-macro_rules! rows {
+/// Hands all rows on to a macro, with what else that one takes: the name of each row, which fields stand behind its operation code in an
+/// object file, and its number.
+#[macro_export]
+macro_rules! with_rows {
     ($then:ident $($more:tt)*) => {
         $then! {
             [$($more)*]
-            Const = 0,
-            Null = 1,
-            GLoad = 2,
-            GStore = 3,
-            LLoad = 4,
-            LStore = 5,
-            DropTop = 6,
-            IToD = 7,
-            Rescale = 8,
-            Pad = 9,
-            Cut = 10,
-            IAdd = 11,
-            ISub = 12,
-            IMul = 13,
-            INeg = 14,
-            IAbs = 15,
-            IMod = 16,
-            DAdd = 17,
-            DSub = 18,
-            DMul = 19,
-            DDiv = 20,
-            DNeg = 21,
-            DAbs = 22,
-            DMod = 23,
-            DFloor = 24,
-            DCeil = 25,
-            ICmp = 26,
-            DCmp = 27,
-            TCmp = 28,
-            And = 29,
-            Or = 30,
-            Not = 31,
-            ITruth = 32,
-            DTruth = 33,
-            IsNull = 34,
-            Choose = 35,
-            Least = 36,
-            Greatest = 37,
-            Cat = 38,
-            Len = 39,
-            Substr = 40,
-            SubFrom = 41,
-            Trim = 42,
-            Tick = 43,
-            Jump = 44,
-            JFalse = 45,
-            JTrue = 46,
-            Call = 47,
-            Ret = 48,
-            RetV = 49,
-            NoWhen = 50,
-            Output = 51,
-            Show = 52,
-            Put = 53,
-            HCall = 54,
-            ICall = 55,
-            SetParm = 56,
-            End = 57,
+            Const(number) = 0,
+            Null(ty) = 1,
+            GLoad(number) = 2,
+            GStore(number) = 3,
+            LLoad(number) = 4,
+            LStore(number) = 5,
+            DropTop(bare) = 6,
+            IToD(bare) = 7,
+            Rescale(digits) = 8,
+            Pad(length) = 9,
+            Cut(length) = 10,
+            IAdd(bare) = 11,
+            ISub(bare) = 12,
+            IMul(bare) = 13,
+            INeg(bare) = 14,
+            IAbs(bare) = 15,
+            IMod(bare) = 16,
+            DAdd(bare) = 17,
+            DSub(bare) = 18,
+            DMul(bare) = 19,
+            DDiv(bare) = 20,
+            DNeg(bare) = 21,
+            DAbs(bare) = 22,
+            DMod(bare) = 23,
+            DFloor(bare) = 24,
+            DCeil(bare) = 25,
+            ICmp(test) = 26,
+            DCmp(test) = 27,
+            TCmp(test) = 28,
+            And(bare) = 29,
+            Or(bare) = 30,
+            Not(bare) = 31,
+            ITruth(bare) = 32,
+            DTruth(bare) = 33,
+            IsNull(bare) = 34,
+            Choose(number) = 35,
+            Least(number) = 36,
+            Greatest(number) = 37,
+            Cat(bare) = 38,
+            Len(bare) = 39,
+            Substr(bare) = 40,
+            SubFrom(bare) = 41,
+            Trim(bare) = 42,
+            Tick(place) = 43,
+            Jump(number) = 44,
+            JFalse(number) = 45,
+            JTrue(number) = 46,
+            Call(number) = 47,
+            Ret(bare) = 48,
+            RetV(bare) = 49,
+            NoWhen(bare) = 50,
+            Output(number) = 51,
+            Show(bare) = 52,
+            Put(number) = 53,
+            HCall(hash_call) = 54,
+            ICall(iterator_call) = 55,
+            SetParm(number) = 56,
+            End(bare) = 57,
         }
     };
 }
 
 // A list of the numbers.
 macro_rules! codes {
-    ([] $($name:ident = $code:literal,)*) => {
+    ([] $($name:ident($fields:ident) = $code:literal,)*) => {
         [$($code),*]
     };
 }
 
 // The number of an instruction's row.
 macro_rules! code_of {
-    ([$instr:expr] $($name:ident = $code:literal,)*) => {
+    ([$instr:expr] $($name:ident($fields:ident) = $code:literal,)*) => {
         match $instr {
             $(Instr::$name { .. } => $code,)*
         }
@@ -96,7 +98,7 @@ macro_rules! code_of {
 
 /// The rows of the machine's table.
 pub const ROWS: Rows<58> = Rows {
-    codes: rows!(codes),
+    codes: with_rows!(codes),
 };
 
 const _: () = prove!(ROWS.codes.len() == 58);
@@ -106,7 +108,7 @@ impl Instr {
     pub fn code(&self) -> u8
         ensures { result ≡ operation_code self.now }
     {
-        rows!(code_of * self)
+        with_rows!(code_of * self)
     }
 }
 

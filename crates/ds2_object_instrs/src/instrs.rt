@@ -5,7 +5,7 @@ ghost use Rattle.ds2_object_words.specs.Parts.{ReadsPart, Writes, and_read};
 ghost use Rattle.ds2_object_instrs.specs.InstrSpelling.{comparison_values, comparison_number, hash_function_values, hash_function_number, iterator_function_values, iterator_function_number, field_number, field_type, field_digits, field_length, field_test, field_place, field_call, is_no_field, shape_part, shape_of_fields, fields_spelled, written_place, function_call, bare_row, instr_row_of, row_instrs, fields_of, written_instr_part, written_instr_of, instr_of};
 
 use ds2_base::{Bytes, OutOfMemory, Place, Stop};
-use ds2_code::Instr;
+use ds2_code::{Instr, with_rows};
 use ds2_object_words::{Flaw, Spelled, Unread, bad};
 use ds2_value::{Comparison, HashFunction, IteratorFunction, Ty};
 use std::alloc::Global;
@@ -54,67 +54,28 @@ pub struct WrittenInstr {
 // The place in the row of a step of the budget.
 const START: Place = Place { line: 1, column: 1 };
 
+// An instruction of a row, by its name and its fields.
+macro_rules! row_instr {
+    (bare $name:ident) => { Instr::$name };
+    (number $name:ident) => { Instr::$name(0) };
+    (ty $name:ident) => { Instr::$name(Ty::BigInt) };
+    (digits $name:ident) => { Instr::$name(0, 0) };
+    (length $name:ident) => { Instr::$name(0) };
+    (test $name:ident) => { Instr::$name(Comparison::Equal) };
+    (place $name:ident) => { Instr::$name(START) };
+    (hash_call $name:ident) => { Instr::$name(0, HashFunction::Find) };
+    (iterator_call $name:ident) => { Instr::$name(0, IteratorFunction::First) };
+}
+
+// A list of an instruction of each row.
+macro_rules! row_instrs {
+    ([] $($name:ident($fields:ident) = $code:literal,)*) => {
+        [$(row_instr!($fields $name)),*]
+    };
+}
+
 // An instruction of each row, in the order of the operation codes.
-const ROW_INSTRS: [Instr; 58] = [
-    Instr::Const(0),
-    Instr::Null(Ty::BigInt),
-    Instr::GLoad(0),
-    Instr::GStore(0),
-    Instr::LLoad(0),
-    Instr::LStore(0),
-    Instr::DropTop,
-    Instr::IToD,
-    Instr::Rescale(0, 0),
-    Instr::Pad(0),
-    Instr::Cut(0),
-    Instr::IAdd,
-    Instr::ISub,
-    Instr::IMul,
-    Instr::INeg,
-    Instr::IAbs,
-    Instr::IMod,
-    Instr::DAdd,
-    Instr::DSub,
-    Instr::DMul,
-    Instr::DDiv,
-    Instr::DNeg,
-    Instr::DAbs,
-    Instr::DMod,
-    Instr::DFloor,
-    Instr::DCeil,
-    Instr::ICmp(Comparison::Equal),
-    Instr::DCmp(Comparison::Equal),
-    Instr::TCmp(Comparison::Equal),
-    Instr::And,
-    Instr::Or,
-    Instr::Not,
-    Instr::ITruth,
-    Instr::DTruth,
-    Instr::IsNull,
-    Instr::Choose(0),
-    Instr::Least(0),
-    Instr::Greatest(0),
-    Instr::Cat,
-    Instr::Len,
-    Instr::Substr,
-    Instr::SubFrom,
-    Instr::Trim,
-    Instr::Tick(START),
-    Instr::Jump(0),
-    Instr::JFalse(0),
-    Instr::JTrue(0),
-    Instr::Call(0),
-    Instr::Ret,
-    Instr::RetV,
-    Instr::NoWhen,
-    Instr::Output(0),
-    Instr::Show,
-    Instr::Put(0),
-    Instr::HCall(0, HashFunction::Find),
-    Instr::ICall(0, IteratorFunction::First),
-    Instr::SetParm(0),
-    Instr::End,
-];
+const ROW_INSTRS: [Instr; 58] = with_rows!(row_instrs);
 
 const COMPARISONS: [Comparison; 6] = [
     Comparison::Equal,
@@ -180,66 +141,33 @@ fn iterator_function_number(function: IteratorFunction) -> u8
     }
 }
 
+// The shape of fields.
+macro_rules! shape {
+    (bare) => { Shape::NoField };
+    (number) => { Shape::NumberField };
+    (ty) => { Shape::TypeField };
+    (digits) => { Shape::DigitsFields };
+    (length) => { Shape::LengthField };
+    (test) => { Shape::TestField };
+    (place) => { Shape::PlaceFields };
+    (hash_call) => { Shape::CallFields };
+    (iterator_call) => { Shape::CallFields };
+}
+
+// The shape of the fields of an instruction's row.
+macro_rules! shape_of_row {
+    ([$row:expr] $($name:ident($fields:ident) = $code:literal,)*) => {
+        match $row {
+            $(Instr::$name { .. } => shape!($fields),)*
+        }
+    };
+}
+
 // What stands behind the operation code of an instruction's row.
 fn shape_of(row: Instr) -> Shape
     ensures { result ≡ (instr_row_of row).shape }
 {
-    match row {
-        Instr::DropTop
-        | Instr::IToD
-        | Instr::IAdd
-        | Instr::ISub
-        | Instr::IMul
-        | Instr::INeg
-        | Instr::IAbs
-        | Instr::IMod
-        | Instr::DAdd
-        | Instr::DSub
-        | Instr::DMul
-        | Instr::DDiv
-        | Instr::DNeg
-        | Instr::DAbs
-        | Instr::DMod
-        | Instr::DFloor
-        | Instr::DCeil
-        | Instr::And
-        | Instr::Or
-        | Instr::Not
-        | Instr::ITruth
-        | Instr::DTruth
-        | Instr::IsNull
-        | Instr::Cat
-        | Instr::Len
-        | Instr::Substr
-        | Instr::SubFrom
-        | Instr::Trim
-        | Instr::Ret
-        | Instr::RetV
-        | Instr::NoWhen
-        | Instr::Show
-        | Instr::End => Shape::NoField,
-        Instr::Const(_)
-        | Instr::GLoad(_)
-        | Instr::GStore(_)
-        | Instr::LLoad(_)
-        | Instr::LStore(_)
-        | Instr::Choose(_)
-        | Instr::Least(_)
-        | Instr::Greatest(_)
-        | Instr::Jump(_)
-        | Instr::JFalse(_)
-        | Instr::JTrue(_)
-        | Instr::Call(_)
-        | Instr::Output(_)
-        | Instr::Put(_)
-        | Instr::SetParm(_) => Shape::NumberField,
-        Instr::Null(_) => Shape::TypeField,
-        Instr::Rescale(_, _) => Shape::DigitsFields,
-        Instr::Pad(_) | Instr::Cut(_) => Shape::LengthField,
-        Instr::ICmp(_) | Instr::DCmp(_) | Instr::TCmp(_) => Shape::TestField,
-        Instr::Tick(_) => Shape::PlaceFields,
-        Instr::HCall(_, _) | Instr::ICall(_, _) => Shape::CallFields,
-    }
+    with_rows!(shape_of_row row)
 }
 
 // The fields of a shape.
@@ -370,146 +298,84 @@ fn bare_instr(row: Instr, fields: Fields) -> Option<Instr>
     }
 }
 
+// The instruction of a name with these fields, where there is one.
+macro_rules! made {
+    (bare $name:ident $given:ident) => { bare_instr(Instr::$name, $given) };
+    (number $name:ident $given:ident) => { Some(Instr::$name($given.number()?)) };
+    (ty $name:ident $given:ident) => { Some(Instr::$name($given.ty()?)) };
+    (digits $name:ident $given:ident) => {{
+        let (p, s) = $given.digits()?;
+        Some(Instr::$name(p, s))
+    }};
+    (length $name:ident $given:ident) => { Some(Instr::$name($given.length()?)) };
+    (test $name:ident $given:ident) => { Some(Instr::$name($given.comparison()?)) };
+    (place $name:ident $given:ident) => { Some(Instr::$name($given.place()?)) };
+    (hash_call $name:ident $given:ident) => {{
+        let (hash, function) = $given.hash_call()?;
+        Some(Instr::$name(hash, function))
+    }};
+    (iterator_call $name:ident $given:ident) => {{
+        let (iterator, function) = $given.iterator_call()?;
+        Some(Instr::$name(iterator, function))
+    }};
+}
+
+// The instruction of an instruction's row with these fields, where there is one.
+macro_rules! made_in_row {
+    ([$row:ident $given:ident] $($name:ident($fields:ident) = $code:literal,)*) => {
+        match $row {
+            $(Instr::$name { .. } => made!($fields $name $given),)*
+        }
+    };
+}
+
 // The instruction of a row with these fields, where there is one.
 fn instr_with(row: Instr, fields: Fields) -> Option<Instr>
     ensures { result ≡ (instr_row_of row).make fields }
 {
-    match row {
-        Instr::DropTop
-        | Instr::IToD
-        | Instr::IAdd
-        | Instr::ISub
-        | Instr::IMul
-        | Instr::INeg
-        | Instr::IAbs
-        | Instr::IMod
-        | Instr::DAdd
-        | Instr::DSub
-        | Instr::DMul
-        | Instr::DDiv
-        | Instr::DNeg
-        | Instr::DAbs
-        | Instr::DMod
-        | Instr::DFloor
-        | Instr::DCeil
-        | Instr::And
-        | Instr::Or
-        | Instr::Not
-        | Instr::ITruth
-        | Instr::DTruth
-        | Instr::IsNull
-        | Instr::Cat
-        | Instr::Len
-        | Instr::Substr
-        | Instr::SubFrom
-        | Instr::Trim
-        | Instr::Ret
-        | Instr::RetV
-        | Instr::NoWhen
-        | Instr::Show
-        | Instr::End => bare_instr(row, fields),
-        Instr::Const(_) => Some(Instr::Const(fields.number()?)),
-        Instr::GLoad(_) => Some(Instr::GLoad(fields.number()?)),
-        Instr::GStore(_) => Some(Instr::GStore(fields.number()?)),
-        Instr::LLoad(_) => Some(Instr::LLoad(fields.number()?)),
-        Instr::LStore(_) => Some(Instr::LStore(fields.number()?)),
-        Instr::Choose(_) => Some(Instr::Choose(fields.number()?)),
-        Instr::Least(_) => Some(Instr::Least(fields.number()?)),
-        Instr::Greatest(_) => Some(Instr::Greatest(fields.number()?)),
-        Instr::Jump(_) => Some(Instr::Jump(fields.number()?)),
-        Instr::JFalse(_) => Some(Instr::JFalse(fields.number()?)),
-        Instr::JTrue(_) => Some(Instr::JTrue(fields.number()?)),
-        Instr::Call(_) => Some(Instr::Call(fields.number()?)),
-        Instr::Output(_) => Some(Instr::Output(fields.number()?)),
-        Instr::Put(_) => Some(Instr::Put(fields.number()?)),
-        Instr::SetParm(_) => Some(Instr::SetParm(fields.number()?)),
-        Instr::Null(_) => Some(Instr::Null(fields.ty()?)),
-        Instr::Rescale(_, _) => {
-            let (p, s) = fields.digits()?;
-            Some(Instr::Rescale(p, s))
-        },
-        Instr::Pad(_) => Some(Instr::Pad(fields.length()?)),
-        Instr::Cut(_) => Some(Instr::Cut(fields.length()?)),
-        Instr::ICmp(_) => Some(Instr::ICmp(fields.comparison()?)),
-        Instr::DCmp(_) => Some(Instr::DCmp(fields.comparison()?)),
-        Instr::TCmp(_) => Some(Instr::TCmp(fields.comparison()?)),
-        Instr::Tick(_) => Some(Instr::Tick(fields.place()?)),
-        Instr::HCall(_, _) => {
-            let (hash, function) = fields.hash_call()?;
-            Some(Instr::HCall(hash, function))
-        },
-        Instr::ICall(_, _) => {
-            let (iterator, function) = fields.iterator_call()?;
-            Some(Instr::ICall(iterator, function))
-        },
-    }
+    with_rows!(made_in_row row fields)
+}
+
+// The instruction of a name, as a pattern, with its fields, of which there are two at the most.
+macro_rules! taken_apart {
+    (bare $name:ident $a:ident $b:ident) => { Instr::$name };
+    (number $name:ident $a:ident $b:ident) => { Instr::$name($a) };
+    (ty $name:ident $a:ident $b:ident) => { Instr::$name($a) };
+    (digits $name:ident $a:ident $b:ident) => { Instr::$name($a, $b) };
+    (length $name:ident $a:ident $b:ident) => { Instr::$name($a) };
+    (test $name:ident $a:ident $b:ident) => { Instr::$name($a) };
+    (place $name:ident $a:ident $b:ident) => { Instr::$name($a) };
+    (hash_call $name:ident $a:ident $b:ident) => { Instr::$name($a, $b) };
+    (iterator_call $name:ident $a:ident $b:ident) => { Instr::$name($a, $b) };
+}
+
+// These fields as they are written.
+macro_rules! written {
+    (bare $a:ident $b:ident) => { Fields::NoField };
+    (number $a:ident $b:ident) => { Fields::NumberField($a) };
+    (ty $a:ident $b:ident) => { Fields::TypeField($a) };
+    (digits $a:ident $b:ident) => { Fields::DigitsFields($a, $b) };
+    (length $a:ident $b:ident) => { Fields::LengthField($a) };
+    (test $a:ident $b:ident) => { Fields::TestField(comparison_number($a)) };
+    (place $a:ident $b:ident) => { Fields::PlaceFields($a.line, $a.column) };
+    (hash_call $a:ident $b:ident) => { Fields::CallFields($a, hash_function_number($b)) };
+    (iterator_call $a:ident $b:ident) => { Fields::CallFields($a, iterator_function_number($b)) };
+}
+
+// The fields of an instruction as they are written.
+macro_rules! written_fields {
+    ([$instr:expr] $($name:ident($fields:ident) = $code:literal,)*) => {
+        match $instr {
+            $(taken_apart!($fields $name a b) => written!($fields a b),)*
+        }
+    };
 }
 
 // The fields of an instruction.
 fn fields_of(instr: Instr) -> Fields
     ensures { result ≡ fields_of instr }
 {
-    match instr {
-        Instr::DropTop
-        | Instr::IToD
-        | Instr::IAdd
-        | Instr::ISub
-        | Instr::IMul
-        | Instr::INeg
-        | Instr::IAbs
-        | Instr::IMod
-        | Instr::DAdd
-        | Instr::DSub
-        | Instr::DMul
-        | Instr::DDiv
-        | Instr::DNeg
-        | Instr::DAbs
-        | Instr::DMod
-        | Instr::DFloor
-        | Instr::DCeil
-        | Instr::And
-        | Instr::Or
-        | Instr::Not
-        | Instr::ITruth
-        | Instr::DTruth
-        | Instr::IsNull
-        | Instr::Cat
-        | Instr::Len
-        | Instr::Substr
-        | Instr::SubFrom
-        | Instr::Trim
-        | Instr::Ret
-        | Instr::RetV
-        | Instr::NoWhen
-        | Instr::Show
-        | Instr::End => Fields::NoField,
-        Instr::Const(n)
-        | Instr::GLoad(n)
-        | Instr::GStore(n)
-        | Instr::LLoad(n)
-        | Instr::LStore(n)
-        | Instr::Choose(n)
-        | Instr::Least(n)
-        | Instr::Greatest(n)
-        | Instr::Jump(n)
-        | Instr::JFalse(n)
-        | Instr::JTrue(n)
-        | Instr::Call(n)
-        | Instr::Output(n)
-        | Instr::Put(n)
-        | Instr::SetParm(n) => Fields::NumberField(n),
-        Instr::Null(ty) => Fields::TypeField(ty),
-        Instr::Rescale(p, s) => Fields::DigitsFields(p, s),
-        Instr::Pad(n) | Instr::Cut(n) => Fields::LengthField(n),
-        Instr::ICmp(comparison) | Instr::DCmp(comparison) | Instr::TCmp(comparison) => {
-            Fields::TestField(comparison_number(comparison))
-        }
-        Instr::Tick(place) => Fields::PlaceFields(place.line, place.column),
-        Instr::HCall(hash, function) => { Fields::CallFields(hash, hash_function_number(function)) }
-        Instr::ICall(iterator, function) => {
-            Fields::CallFields(iterator, iterator_function_number(function))
-        }
-    }
+    with_rows!(written_fields instr)
 }
 
 // The instruction with this number.
