@@ -120,14 +120,16 @@ pub any_schedule : (C K W N V : Type 0) → GroupsDivideLoads → AnySchedule C 
 any_schedule C K W N V divide s is_state fixed early descending workers xs is history =
     let u = told_units s.units in
     let gs = groups_of_stage s in
-    let all = every_stage C K W N V StageTold u (λ (t : StageTold). length t.rows) is_state fixed early s.budget gs workers s.first xs (told_joins s.units) is.free is.state history.legal history.carried history.complete in
+    let all = every_stage C K W N V StageTold u (λ (t : StageTold). length t.rows) is_state fixed early s.budget gs workers s.first xs (told_joins s.units) is.free is.state history in
     let init = told_of_unit s.init s.executed (Some Normal) in
-    let loads = sets_in_turn N V s.set (groups s.grain s.loads) ∙ ap (load_sets s.set) (divide descending s.grain s.loads is.ordered) in (
-      all.0,
-      ap (λ (o : Given StageTold). told_in_turn init o.gave) all.1
+    let loads = sets_in_turn N V s.set (groups s.grain s.loads) ∙ ap (load_sets s.set) (divide descending s.grain s.loads is.ordered) in
+    record {
+      by_group = all.by_group;
+      told =
+          ap (λ (o : Given StageTold). told_in_turn init o.gave) all.together
           ∙ ap (λ (ls : List (List (N × V))). told_in_turn init (given_by (stage_run u s.budget ls s.first)).gave) loads
-          ∙ told_all s.units s.budget (load_sets s.set s.loads) (length (groups s.grain s.loads)) s.opening s.first s.init s.executed is.begun,
-    )
+          ∙ told_all s.units s.budget (load_sets s.set s.loads) (length (groups s.grain s.loads)) s.opening s.first s.init s.executed is.begun;
+    }
 
 pub any_schedule_of_code : (K W : Type 0) → GroupsDivideLoads → AnyScheduleOfCode K W
 any_schedule_of_code K W divide code set loads grain budget opening first init executed is_state fixed early descending workers xs is history =

@@ -6,9 +6,9 @@ use Rattle.ds2_value.specs.declared.value.Value.{Value}
 use Rattle.ds2_table.specs.LoadLaws.{AreInByOrder}
 use Rattle.ds2_table.specs.Loads.{Load, KeyedLoad, groups}
 use Rattle.ds2_table.specs.OneThread.{Units, Reads, alone_answer}
-use Rattle.ds2_dealer.specs.Stage.{StageStep, is_legal, is_complete}
-use Rattle.ds2_schedule.specs.Groups.{Given, given_by, IsGroupIndependent, IsAmongGroups, stage_program, put_together}
-use Rattle.ds2_schedule.specs.Schedule.{GroupProgram, FixedPart, AgreeAsStates, IsCarried, results, in_order, one_thread}
+use Rattle.ds2_dealer.specs.Stage.{StageStep}
+use Rattle.ds2_schedule.specs.Groups.{Given, given_by, IsGroupIndependent, IsAmongGroups, stage_program, put_together, IsWholeHistory, results_by_group}
+use Rattle.ds2_schedule.specs.Schedule.{GroupProgram, FixedPart, AgreeAsStates, one_thread}
 use Rattle.ds2_code.specs.declared.parts.ProgramParts.{ProgramParts}
 use Rattle.ds2_code.specs.CodeUnit.{code_init, code_run, code_term}
 use Rattle.ds2_code.specs.Desk.{ProgramData}
@@ -61,22 +61,37 @@ pub record IsIndependentStage {C K W N V : Type 0} (s : StageSetting C N V) (is_
   pub begun : (s.units s.budget).init s.opening ≡ Completed s.first s.init s.executed
   pub state : is_state s.first ≡ true
 
--- A history over the stage's groups is legal and complete, and each of its parties carries a state, the first one at the beginning.
-pub record IsStageHistory {C N V : Type 0} (s : StageSetting C N V) (workers : ℕ) (xs : List StageStep) : Type 0 where
-  pub legal : is_legal (length (groups_of_stage s)) workers xs ≡ true
-  pub carried : IsCarried (results_of_stage s) workers s.first xs
-  pub complete : is_complete (length (groups_of_stage s)) workers xs ≡ true
+-- A whole history of the stage's groups.
+abbrev pub IsStageHistory : {C N V : Type 0} → StageSetting C N V → (workers : ℕ) → List StageStep → Type 0
+IsStageHistory s workers xs = IsWholeHistory (results_of_stage s) (length (groups_of_stage s)) workers s.first xs
 
 -- The results that were handed in, in order of group, up to and with the least fault.
 abbrev pub results_in_turn : {C N V : Type 0} → StageSetting C N V → ℕ → List StageStep → List (Given StageTold)
-results_in_turn s workers xs = in_order (results_of_stage s).faults (results (results_of_stage s) workers s.first xs) 0 (length (groups_of_stage s))
+results_in_turn s workers xs = results_by_group (results_of_stage s) (length (groups_of_stage s)) workers s.first xs
 
--- For every number of workers and every such history the results in order of group are those of one thread, each group from the state that the one before it left; and with those of `init` and of `term` they tell what the one-thread answer tells.
+-- What its `init` tells, which ended normally.
+abbrev pub told_by_init : {C N V : Type 0} → StageSetting C N V → StageTold
+told_by_init s = told_of_unit s.init s.executed (Some Normal)
+
+-- What its `term` gives from the first state.
+abbrev pub given_by_term : {C N V : Type 0} → StageSetting C N V → Given StageTold
+given_by_term s = given_by ((told_units s.units).term s.budget s.first)
+
+-- What many workers tell: what `init` tells, then their results in order of group, then what `term` tells from the first state.
+abbrev pub told_by_workers : {C N V : Type 0} → StageSetting C N V → ℕ → List StageStep → StageTold
+told_by_workers s workers xs = told_of_stage s.units (told_by_init s) (results_in_turn s workers xs) (given_by_term s)
+
+-- Many workers answer as one thread does.
+pub record AnswersAsOneThread {C N V : Type 0} (s : StageSetting C N V) (workers : ℕ) (xs : List StageStep) : Type 0 where
+  -- group by group, where one thread runs each group from the state that the one before it left
+  pub by_group : results_in_turn s workers xs ≡ one_thread (results_of_stage s) s.first 0 (length (groups_of_stage s))
+  -- in all that the stage tells
+  pub told : told_by_workers s workers xs ≡ answer_of_stage s
+
+-- Many workers answer as one thread does, in every stage whose groups are independent and by every whole history of them. C are the states of the stage, K the locations and W what they hold, N and V what a load sets.
 abbrev pub AnySchedule : Type 0 → Type 0 → Type 0 → Type 0 → Type 0 → Type 0
 AnySchedule C K W N V = (s : StageSetting C N V) (is_state : C → Bool) (fixed : FixedPart C K W) (early : N → Bool) (descending : List Bool) (workers : ℕ) (xs : List StageStep)
-    → IsIndependentStage s is_state fixed early descending → IsStageHistory s workers xs
-    → (results_in_turn s workers xs ≡ one_thread (results_of_stage s) s.first 0 (length (groups_of_stage s)))
-    × (told_of_stage s.units (told_of_unit s.init s.executed (Some Normal)) (results_in_turn s workers xs) (given_by ((told_units s.units).term s.budget s.first)) ≡ answer_of_stage s)
+    → IsIndependentStage s is_state fixed early descending → IsStageHistory s workers xs → AnswersAsOneThread s workers xs
 
 -- The units of a program's code, each with this budget.
 abbrev pub units_of_code : ProgramParts → ℕ → Units (List (ℕ × Value)) ProgramData
@@ -87,12 +102,10 @@ abbrev pub stage_of_code : ProgramParts → (Load → List (ℕ × Value)) → L
 stage_of_code code set loads grain budget opening first init executed =
     record { units = units_of_code code; set = set; loads = loads; grain = grain; budget = budget; opening = opening; first = first; init = init; executed = executed }
 
--- For every stage of code the results in order are those of one thread, and tell its one-thread answer: rows, lines, ending, and how many instructions were executed.
+-- So it is with every stage of code: rows, lines, ending, and how many instructions were executed.
 abbrev pub AnyScheduleOfCode : Type 0 → Type 0 → Type 0
 AnyScheduleOfCode K W =
     (code : ProgramParts) (set : Load → List (ℕ × Value)) (loads : List KeyedLoad) (grain budget : ℕ) (opening first : ProgramData) (init : Progress) (executed : ℕ)
     (is_state : ProgramData → Bool) (fixed : FixedPart ProgramData K W) (early : ℕ → Bool) (descending : List Bool) (workers : ℕ) (xs : List StageStep)
     → let s = stage_of_code code set loads grain budget opening first init executed in
-    IsIndependentStage s is_state fixed early descending → IsStageHistory s workers xs
-    → (results_in_turn s workers xs ≡ one_thread (results_of_stage s) first 0 (length (groups_of_stage s)))
-    × (told_of_stage s.units (told_of_unit init executed (Some Normal)) (results_in_turn s workers xs) (given_by ((told_units s.units).term budget first)) ≡ answer_of_stage s)
+    IsIndependentStage s is_state fixed early descending → IsStageHistory s workers xs → AnswersAsOneThread s workers xs

@@ -112,14 +112,16 @@ module _ {S K C N V O : Type 0} (u : StageUnits S (List (N × V)) O) (rows : O �
       ∙ ap given_by (sym (ap (λ (y : UnitRun S O). then_from u y (u.term budget)) (run_append u joins budget loads (flat_map (λ g. g) rest) s) ∙ then_then u joins x (run_loads u budget (flat_map (λ g. g) rest)) (u.term budget)))
 
 pub every_stage : (S K C N V O : Type 0) → EveryStage S K C N V O
-every_stage S K C N V O u rows is_state fixed early budget groups workers first xs joins free state legal carried_so complete =
+every_stage S K C N V O u rows is_state fixed early budget groups workers first xs joins free state history =
     let p = stage_program u rows budget groups in
     let m = length groups in
-    let same = every_schedule_is S K C (Given O) p is_state fixed m workers first xs (independent u rows is_state fixed early budget groups joins free) state legal carried_so complete in (
-      same,
-      ap (λ (os : List (Given O)). put_together u os (given_by (u.term budget first))) same
-          ∙ in_turn u rows is_state fixed early budget groups joins free first first groups 0 (λ k. ap (slice_get groups) (omega arith)) (itself is_state fixed first state),
-    )
+    let same = every_schedule_is S K C (Given O) p is_state fixed m workers first xs (independent u rows is_state fixed early budget groups joins free) state history.legal history.carried history.complete in
+    record {
+      by_group = same;
+      together =
+          ap (λ (os : List (Given O)). put_together u os (given_by (u.term budget first))) same
+          ∙ in_turn u rows is_state fixed early budget groups joins free first first groups 0 (λ k. ap (slice_get groups) (omega arith)) (itself is_state fixed first state);
+    }
 
 as_states : {S K C O : Type 0} (fixed : FixedPart S K C) (s t : S) (x y : UnitRun S O) → IsSameRun (Agree fixed) s t x y → IsSameRun (AgreeAsStates (λ z. true) fixed) s t x y
 as_states fixed s t (Normally u o) (Normally v q) h = (h.0, (refl, refl, h.1), (refl, refl, h.2))

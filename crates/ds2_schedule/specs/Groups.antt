@@ -123,11 +123,29 @@ abbrev pub AllAreStates : Type 0 → Type 0 → Type 0 → Type 0 → Type 0 →
 AllAreStates S K C N V O = (u : StageUnits S (List (N × V)) O) (fixed : FixedPart S K C) (early : N → Bool) (groups : List (List (List (N × V))))
     → IsGroupIndependent u (IsAmongGroups groups) early (Agree fixed) → IsGroupIndependent u (IsAmongGroups groups) early (AgreeAsStates (λ s. true) fixed)
 
--- Many workers give what one thread gives: for every number of workers and every legal and complete history in which each party begins with the first state, the results in order of group, up to and with the least fault, are those of one thread; put together, with `term` from the first state behind them, they are the stage's own.
+-- A history of the groups of a stage is whole: it is legal and complete, and each party carries a state, the first one at the beginning.
+pub record IsWholeHistory {S O : Type 0} (p : GroupProgram S O) (groups workers : ℕ) (first : S) (xs : List StageStep) : Type 0 where
+  pub legal : is_legal groups workers xs ≡ true
+  pub carried : IsCarried p workers first xs
+  pub complete : is_complete groups workers xs ≡ true
+
+-- What is handed in by a history of the groups of a stage, in order of group, up to and with the least fault.
+abbrev pub results_by_group : {S O : Type 0} → GroupProgram S O → (groups workers : ℕ) → S → List StageStep → List O
+results_by_group p groups workers first xs = in_order p.faults (results p workers first xs) 0 groups
+
+-- The loads of all groups, one group behind the other.
+abbrev pub loads_in_turn : {L : Type 0} → List (List L) → List L
+loads_in_turn groups = flat_map (λ g. g) groups
+
+-- Many workers give what one thread gives.
+pub record GivesAsOneThread {S N V O : Type 0} (u : StageUnits S (List (N × V)) O) (rows : O → ℕ) (budget : ℕ) (groups : List (List (List (N × V)))) (workers : ℕ) (first : S) (xs : List StageStep) : Type 0 where
+  -- group by group, where one thread runs each group from the state that the one before it left
+  pub by_group : results_by_group (stage_program u rows budget groups) (length groups) workers first xs ≡ one_thread (stage_program u rows budget groups) first 0 (length groups)
+  -- put together, with `term` from the first state behind them
+  pub together : put_together u (results_by_group (stage_program u rows budget groups) (length groups) workers first xs) (given_by (u.term budget first)) ≡ given_by (stage_run u budget (loads_in_turn groups) first)
+
+-- Every stage whose groups are independent gives on many workers what it gives on one thread, from a first state of the program, whatever whole history they have. S are its states, K the locations and C what they hold, N and V what a load sets, and O what units give.
 abbrev pub EveryStage : Type 0 → Type 0 → Type 0 → Type 0 → Type 0 → Type 0 → Type 0
 EveryStage S K C N V O = (u : StageUnits S (List (N × V)) O) (rows : O → ℕ) (is_state : S → Bool) (fixed : FixedPart S K C) (early : N → Bool) (budget : ℕ) (groups : List (List (List (N × V)))) (workers : ℕ) (first : S) (xs : List StageStep)
     → IsJoining u → IsGroupIndependent u (IsAmongGroups groups) early (AgreeAsStates is_state fixed) → is_state first ≡ true
-    → is_legal (length groups) workers xs ≡ true → IsCarried (stage_program u rows budget groups) workers first xs → is_complete (length groups) workers xs ≡ true
-    → let p = stage_program u rows budget groups in let in_turn = in_order p.faults (results p workers first xs) 0 (length groups) in
-    (in_turn ≡ one_thread p first 0 (length groups))
-    × (put_together u in_turn (given_by (u.term budget first)) ≡ given_by (stage_run u budget (flat_map (λ g. g) groups) first))
+    → IsWholeHistory (stage_program u rows budget groups) (length groups) workers first xs → GivesAsOneThread u rows budget groups workers first xs
