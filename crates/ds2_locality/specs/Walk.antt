@@ -27,9 +27,13 @@ use Rattle.ds2_locality.specs.Deeds.{MethodAt, CodeScope, global_at, variable_at
 abbrev pub DirtySet : Type 0
 DirtySet = Location → Bool
 
--- nothing is dirty: also what is said where no way comes
+-- no location is dirty
 abbrev pub nothing_dirty : DirtySet
 nothing_dirty at = false
+
+-- what is said to be dirty where no way comes: no location, so that it adds nothing where ways meet
+abbrev pub no_way_comes : DirtySet
+no_way_comes = nothing_dirty
 
 -- no flag is known to be 1
 abbrev pub no_flag : Location → Bool
@@ -70,7 +74,7 @@ read_locations place [] dirty = GoesOn dirty
 read_locations place (at ∷ more) dirty = then_walk (read_location place at dirty) (read_locations place more)
 
 -- what is dirty on the ways out of a statement: on to the next one, out of the innermost loop by `leave`, to its next round by
--- `continue`, and out of the method by `return`; nothing where there is no such way
+-- `continue`, and out of the method by `return`
 pub record WaysOut : Type 0 where
   pub onward : DirtySet
   pub leaves : DirtySet
@@ -79,7 +83,7 @@ pub record WaysOut : Type 0 where
 
 -- no way out
 abbrev pub no_way : WaysOut
-no_way = record { onward = nothing_dirty; leaves = nothing_dirty; continues = nothing_dirty; returns = nothing_dirty }
+no_way = record { onward = no_way_comes; leaves = no_way_comes; continues = no_way_comes; returns = no_way_comes }
 
 -- the one way to the next statement
 abbrev pub way_on : DirtySet → WaysOut
@@ -100,11 +104,11 @@ ways_past x y = record (meeting x y) { onward = y.onward }
 
 -- the ways out of a loop that has this dirty at its head, from those out of its body: behind it the head's set stands
 abbrev pub past_loop : DirtySet → WaysOut → WaysOut
-past_loop head body = record { onward = head; leaves = nothing_dirty; continues = nothing_dirty; returns = body.returns }
+past_loop head body = record { onward = head; leaves = no_way_comes; continues = no_way_comes; returns = body.returns }
 
 -- the ways out of a loop that tests behind its body: past the test, and by `leave`
 abbrev pub past_last_test : WaysOut → DirtySet → WaysOut
-past_last_test body tested = record { onward = united tested body.leaves; leaves = nothing_dirty; continues = nothing_dirty; returns = body.returns }
+past_last_test body tested = record { onward = united tested body.leaves; leaves = no_way_comes; continues = no_way_comes; returns = body.returns }
 
 -- what is dirty on any way out of a method's body
 abbrev pub at_end : WaysOut → DirtySet
@@ -152,11 +156,24 @@ pub record TestsEnd : Type 0 where
   pub holding : DirtySet
   pub failing : DirtySet
 
--- goes on past a test of a `when`: a decided one has one way alone
-abbrev pub past_test : Truth → DirtySet → (DirtySet → WalkEnd TestsEnd) → WalkEnd TestsEnd
-past_test Yes dirty go = GoesOn (record { holding = dirty; failing = nothing_dirty })
-past_test No dirty go = go dirty
-past_test Unknown dirty go = then_walk (go dirty) (λ x. GoesOn (record { holding = united dirty x.holding; failing = x.failing }))
+-- a test holds: no way comes past it
+abbrev pub test_holds : DirtySet → TestsEnd
+test_holds dirty = record { holding = dirty; failing = no_way_comes }
+
+-- no test is left: no way comes from here to the statement
+abbrev pub no_test_left : DirtySet → TestsEnd
+no_test_left dirty = record { holding = no_way_comes; failing = dirty }
+
+-- a test may hold, or one of the later tests, or none
+abbrev pub may_hold : DirtySet → TestsEnd → TestsEnd
+may_hold dirty later = record { holding = united dirty later.holding; failing = later.failing }
+
+-- past a test of a `when`: one that is decided to hold ends the tests, one that is decided not to leaves the later ones, and an
+-- undecided one may hold
+abbrev pub past_test : Truth → DirtySet → (later : DirtySet → WalkEnd TestsEnd) → WalkEnd TestsEnd
+past_test Yes dirty later = GoesOn (test_holds dirty)
+past_test No dirty later = later dirty
+past_test Unknown dirty later = then_walk (later dirty) (λ x. GoesOn (may_hold dirty x))
 
 -- ---- calls of hash objects and iterators
 
@@ -259,11 +276,11 @@ module _ (s : WalkScope) where
   walk_step None place dirty = GoesOn dirty
   walk_step (Some e) place dirty = walk_expression e place dirty
 
-  -- the tests of a `when`, by these known flags
-  abbrev pub walk_tests : (Location → Bool) → TypedExpressions → Place → DirtySet → WalkEnd TestsEnd
-  walk_tests known NoExpression place dirty = GoesOn (record { holding = nothing_dirty; failing = dirty })
-  walk_tests known (Then e rest) place dirty =
-      then_walk (walk_expression e place dirty) (λ x. past_test (decided known s.code.home e) x (walk_tests known rest place))
+  -- the tests of a `when`, in order: each is evaluated, and decided by the flags that are known to be 1
+  abbrev pub walk_tests : (known : Location → Bool) → TypedExpressions → Place → DirtySet → WalkEnd TestsEnd
+  walk_tests known NoExpression place dirty = GoesOn (no_test_left dirty)
+  walk_tests known (Then test later) place dirty =
+      then_walk (walk_expression test place dirty) (λ x. past_test (decided known s.code.home test) x (walk_tests known later place))
 
   abbrev mutual
     -- a statement
@@ -301,10 +318,10 @@ module _ (s : WalkScope) where
     walk_all Finish dirty = GoesOn (way_on dirty)
     walk_all (Next first rest) dirty = then_walk (walk first dirty) (λ x. then_walk (walk_all rest x.onward) (λ y. GoesOn (ways_past x y)))
 
-    -- the parts of a `select`, with their tests by these known flags: the tests of a part, then its statement, then the parts that follow;
-    -- past the last one without `otherwise` no way goes on
-    pub walk_whens : (Location → Bool) → TypedWhens → Place → DirtySet → WalkEnd WaysOut
+    -- the parts of a `select`, in order: the tests of a `when`, then its statement where one holds, and the later parts where none does;
+    -- past the last part no way goes on where there is no `otherwise`. In a `select (e)` the tests are values, which no flag decides
+    pub walk_whens : (known : Location → Bool) → TypedWhens → Place → DirtySet → WalkEnd WaysOut
     walk_whens known NoOtherwise place dirty = GoesOn no_way
     walk_whens known (Otherwise statement) place dirty = walk statement dirty
-    walk_whens known (When tests statement rest) place dirty =
-        then_walk (walk_tests known tests place dirty) (λ x. both_ways (walk statement x.holding) (walk_whens known rest place x.failing))
+    walk_whens known (When tests statement later) place dirty =
+        then_walk (walk_tests known tests place dirty) (λ x. both_ways (walk statement x.holding) (walk_whens known later place x.failing))
