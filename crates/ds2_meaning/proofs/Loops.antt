@@ -175,17 +175,14 @@ module _ (s : Surroundings) (calls_within : CallsAreWithin s.calls) (body : RunS
         (λ y p. count_bound w.progress.left y.progress.left y (omega (arith, p)) (omega arith))
 
 pub loops_are_their_turns : LoopsAreTheirTurns
-loops_are_their_turns = record {
-  while_begins = λ declared depth outputs home place e body w. refl;
-  while_turns = λ declared depth outputs home place e body w.
-      while_turned (around declared depth outputs home) (invoke_within declared depth) (exec_all (around declared depth outputs home) body)
-      (statements_within (around declared depth outputs home) (invoke_within declared depth) body) place e w;
-  until_begins = λ declared depth outputs home place e body w. refl;
-  until_turns = λ declared depth outputs home place e body w.
-      until_turned (around declared depth outputs home) (invoke_within declared depth) (exec_all (around declared depth outputs home) body)
-      (statements_within (around declared depth outputs home) (invoke_within declared depth) body) place e w;
-  count_begins = λ declared depth outputs home place i a b step body w. refl;
-  count_turns = λ declared depth outputs home place i end step body w.
-      count_turned (around declared depth outputs home) (invoke_within declared depth) (exec_all (around declared depth outputs home) body)
-      (statements_within (around declared depth outputs home) (invoke_within declared depth) body) place i end step w;
-}
+loops_are_their_turns declared depth outputs home =
+    let s = around declared depth outputs home in
+    let calls_within = invoke_within declared depth in
+    record {
+      while_begins = λ place e body w. refl;
+      while_turns = λ place e body w. while_turned s calls_within (exec_all s body) (statements_within s calls_within body) place e w;
+      until_begins = λ place e body w. refl;
+      until_turns = λ place e body w. until_turned s calls_within (exec_all s body) (statements_within s calls_within body) place e w;
+      count_begins = λ place i a b step body w. refl;
+      count_turns = λ place i end step body w. count_turned s calls_within (exec_all s body) (statements_within s calls_within body) place i end step w;
+    }

@@ -6,7 +6,7 @@ use Rattle.ds2_meaning.specs.declared.location.Reference.{Reference}
 use Rattle.ds2_meaning.specs.Location.{Home}
 use Rattle.ds2_meaning.specs.RunState.{RunState, ExpressionEnd, Gives, Breaks, StatementOutcome, Proceeds, Leaves, Continues, Returns, Faults, begin_step, then_value, store}
 use Rattle.ds2_meaning.specs.Evaluation.{Surroundings, evaluate}
-use Rattle.ds2_meaning.specs.Execution.{exec, exec_all, with_step_value, count_turn, rounds_counted, while_turn, rounds_while, until_turn, rounds_until}
+use Rattle.ds2_meaning.specs.Execution.{exec, exec_all, with_step_value, count_turn, count_loop, while_turn, while_loop, until_turn, until_loop}
 use Rattle.ds2_meaning.specs.Invocation.{invoke}
 use Rattle.ds2_meaning.specs.Method.{Declarations}
 use Rattle.ds2_meaning.specs.TypedExpression.{TypedExpression}
@@ -35,37 +35,27 @@ NoStatementRaisesTheBudget =
     (declared : Declarations) (depth : ℕ) (outputs : List (List (List ℕ))) (home : Home) (statement : TypedStatement) (w : RunState)
     → left_by_statement (exec (around declared depth outputs home) statement w) ≤ w.progress.left
 
--- `do while` from a test on
-abbrev pub while_loop : Surroundings → Place → TypedExpression → TypedStatements → RunState → StatementOutcome
-while_loop s place condition body w = rounds_while s w.progress.left place condition (exec_all s body) w
-
--- `do until` from its body on
-abbrev pub until_loop : Surroundings → Place → TypedExpression → TypedStatements → RunState → StatementOutcome
-until_loop s place condition body w = rounds_until s w.progress.left place condition (exec_all s body) w
-
--- a counted loop from a test on
-abbrev pub count_loop : Surroundings → Place → Reference → Value → Option Value → TypedStatements → RunState → StatementOutcome
-count_loop s place variable end step body w = rounds_counted s w.progress.left place variable end step (exec_all s body) w
-
--- a loop is one turn and then the loop, so that its bound says nothing
-pub record LoopsAreTheirTurns : Type 0 where
+-- in these surroundings a loop is one turn and then the loop
+pub record LoopsTurnIn (s : Surroundings) : Type 0 where
   -- do while: it begins as a step; its turn is a test, its body and then the loop
-  pub while_begins : (declared : Declarations) (depth : ℕ) (outputs : List (List (List ℕ))) (home : Home) (place : Place) (condition : TypedExpression) (body : TypedStatements) (w : RunState)
-      → exec (around declared depth outputs home) (While place condition body) w ≡ begin_step place w (while_loop (around declared depth outputs home) place condition body)
-  pub while_turns : (declared : Declarations) (depth : ℕ) (outputs : List (List (List ℕ))) (home : Home) (place : Place) (condition : TypedExpression) (body : TypedStatements) (w : RunState)
-      → while_loop (around declared depth outputs home) place condition body w
-      ≡ while_turn (around declared depth outputs home) place condition (exec_all (around declared depth outputs home) body) (while_loop (around declared depth outputs home) place condition body) w
+  pub while_begins : (place : Place) (condition : TypedExpression) (body : TypedStatements) (w : RunState)
+      → exec s (While place condition body) w ≡ begin_step place w (while_loop s place condition (exec_all s body))
+  pub while_turns : (place : Place) (condition : TypedExpression) (body : TypedStatements) (w : RunState)
+      → while_loop s place condition (exec_all s body) w ≡ while_turn s place condition (exec_all s body) (while_loop s place condition (exec_all s body)) w
   -- do until: it begins as a step; its turn is its body, a test and then the loop
-  pub until_begins : (declared : Declarations) (depth : ℕ) (outputs : List (List (List ℕ))) (home : Home) (place : Place) (condition : TypedExpression) (body : TypedStatements) (w : RunState)
-      → exec (around declared depth outputs home) (Until place condition body) w ≡ begin_step place w (until_loop (around declared depth outputs home) place condition body)
-  pub until_turns : (declared : Declarations) (depth : ℕ) (outputs : List (List (List ℕ))) (home : Home) (place : Place) (condition : TypedExpression) (body : TypedStatements) (w : RunState)
-      → until_loop (around declared depth outputs home) place condition body w
-      ≡ until_turn (around declared depth outputs home) place condition (exec_all (around declared depth outputs home) body) (until_loop (around declared depth outputs home) place condition body) w
+  pub until_begins : (place : Place) (condition : TypedExpression) (body : TypedStatements) (w : RunState)
+      → exec s (Until place condition body) w ≡ begin_step place w (until_loop s place condition (exec_all s body))
+  pub until_turns : (place : Place) (condition : TypedExpression) (body : TypedStatements) (w : RunState)
+      → until_loop s place condition (exec_all s body) w ≡ until_turn s place condition (exec_all s body) (until_loop s place condition (exec_all s body)) w
   -- do i = a to b by c: it begins as a step, evaluates its three values once, sets its variable and begins its first test; its turn is a test, its body, a step, the addition and then the loop
-  pub count_begins : (declared : Declarations) (depth : ℕ) (outputs : List (List (List ℕ))) (home : Home) (place : Place) (variable : Reference) (start end : TypedExpression) (step : Option TypedExpression) (body : TypedStatements) (w : RunState)
-      → exec (around declared depth outputs home) (Count place variable start end step body) w
-      ≡ begin_step place w (λ u. then_value (evaluate (around declared depth outputs home) start u) (λ a x. then_value (evaluate (around declared depth outputs home) end x) (λ b y.
-      with_step_value (around declared depth outputs home) step y (λ c z. begin_step place (store home variable a z) (count_loop (around declared depth outputs home) place variable b c body)))))
-  pub count_turns : (declared : Declarations) (depth : ℕ) (outputs : List (List (List ℕ))) (home : Home) (place : Place) (variable : Reference) (end : Value) (step : Option Value) (body : TypedStatements) (w : RunState)
-      → count_loop (around declared depth outputs home) place variable end step body w
-      ≡ count_turn (around declared depth outputs home) place variable end step (exec_all (around declared depth outputs home) body) (count_loop (around declared depth outputs home) place variable end step body) w
+  pub count_begins : (place : Place) (variable : Reference) (start end : TypedExpression) (step : Option TypedExpression) (body : TypedStatements) (w : RunState)
+      → exec s (Count place variable start end step body) w
+      ≡ begin_step place w (λ u. then_value (evaluate s start u) (λ a x. then_value (evaluate s end x) (λ b y.
+      with_step_value s step y (λ c z. begin_step place (store s.home variable a z) (count_loop s place variable b c (exec_all s body))))))
+  pub count_turns : (place : Place) (variable : Reference) (end : Value) (step : Option Value) (body : TypedStatements) (w : RunState)
+      → count_loop s place variable end step (exec_all s body) w
+      ≡ count_turn s place variable end step (exec_all s body) (count_loop s place variable end step (exec_all s body)) w
+
+-- a loop is one turn and then the loop wherever it stands, so that the bound of its rounds says nothing
+abbrev pub LoopsAreTheirTurns : Type 0
+LoopsAreTheirTurns = (declared : Declarations) (depth : ℕ) (outputs : List (List (List ℕ))) (home : Home) → LoopsTurnIn (around declared depth outputs home)

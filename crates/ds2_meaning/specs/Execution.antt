@@ -34,16 +34,32 @@ abbrev pub step_or_one : Option Value → Value
 step_or_one None = Int (pos 1)
 step_or_one (Some c) = c
 
--- a counted loop goes on while its variable is at most the end, or for a step below 0 at least the end; null ends it. Where a
--- step was given its sign is tested first, so that the events tell whether it is null, below 0 or neither
-abbrev pub counts_on : Value → Value → Option Value → RunState → (RunState → StatementOutcome) → (RunState → StatementOutcome) → StatementOutcome
-counts_on i end None w on off = after_test (is_true (compared_of LessOrEqual i end)) w on off
+-- a counted loop upwards goes on while its variable is at most the end; null ends it
+abbrev pub goes_up : Value → (end : Value) → RunState → (RunState → StatementOutcome) → (RunState → StatementOutcome) → StatementOutcome
+goes_up i end w on off = after_test (is_true (compared_of LessOrEqual i end)) w on off
+
+-- one downwards goes on while its variable is at least the end; null ends it
+abbrev pub goes_down : Value → (end : Value) → RunState → (RunState → StatementOutcome) → (RunState → StatementOutcome) → StatementOutcome
+goes_down i end w on off = after_test (is_true (compared_of GreaterOrEqual i end)) w on off
+
+-- the test of a counted loop: upwards without a step and for one of at least 0, downwards for one below 0, and a step that is null
+-- ends the loop. The sign of a step is tested first, so that the events tell which of the three it is
+abbrev pub counts_on : Value → (end : Value) → Option Value → RunState → (RunState → StatementOutcome) → (RunState → StatementOutcome) → StatementOutcome
+counts_on i end None w on off = goes_up i end w on off
 counts_on i end (Some step) w on off =
     after_test (is_true (compared_of GreaterOrEqual step (Int (pos 0)))) w
-    (λ u. after_test (is_true (compared_of LessOrEqual i end)) u on off)
-    (λ u. after_test (is_true (compared_of Less step (Int (pos 0)))) u
-    (λ x. after_test (is_true (compared_of GreaterOrEqual i end)) x on off)
-    off)
+    (λ u. goes_up i end u on off)
+    (λ u. after_test (is_true (compared_of Less step (Int (pos 0)))) u (λ x. goes_down i end x on off) off)
+
+-- at most so many rounds of a loop: a turn, and then the other rounds; behind them this comes
+abbrev pub rounds : ℕ → (last : RunState → StatementOutcome) → (turn : (RunState → StatementOutcome) → RunState → StatementOutcome) → RunState → StatementOutcome
+rounds zero last turn w = last w
+rounds (suc n) last turn w = turn (rounds n last turn) w
+
+-- a loop: its turns, one behind the other. Each of them begins a step, so as many rounds as steps are left of the budget are enough,
+-- and this bound says nothing: a loop is one turn and then the loop (`LoopsAreTheirTurns`)
+abbrev pub looped : (last : RunState → StatementOutcome) → (turn : (RunState → StatementOutcome) → RunState → StatementOutcome) → RunState → StatementOutcome
+looped last turn w = rounds w.progress.left last turn w
 
 -- the row of an output: the values of the variables of its columns
 abbrev pub projected_row : Home → List (List ℕ) → RunState → Row
@@ -83,39 +99,55 @@ module _ (s : Surroundings) where
   with_step_value None w go = go None w
   with_step_value (Some e) w go = then_value (evaluate s e w) (λ v u. go (Some v) u)
 
-  -- a counted loop from a test on: its body where it goes on, then a step that adds to its variable, and then the rest
-  abbrev pub count_turn : Place → Reference → Value → Option Value → (RunState → StatementOutcome) → (RunState → StatementOutcome) → RunState → StatementOutcome
-  count_turn place variable end step body rest w =
-      counts_on (variable_value s.home variable w) end step w
-      (λ u. then_round (body u) (λ x. begin_step place x (λ y.
-      then_value (attempt (sum_of (variable_value s.home variable y) (step_or_one step)) y) (λ v z. rest (store s.home variable v z)))))
-      Proceeds
+  -- ---- loops: each is its test, its body, and then the loop
 
-  -- at most so many further rounds of a counted loop
-  abbrev pub rounds_counted : ℕ → Place → Reference → Value → Option Value → (RunState → StatementOutcome) → RunState → StatementOutcome
-  rounds_counted zero place variable end step body w =
-      counts_on (variable_value s.home variable w) end step w (λ u. then_round (body u) (step_fails place)) Proceeds
-  rounds_counted (suc n) place variable end step body w = count_turn place variable end step body (rounds_counted n place variable end step body) w
+  -- a counted loop from a test on: its body where the test holds, and then what comes behind the body
+  abbrev pub count_test : Reference → (end : Value) → Option Value → (body behind : RunState → StatementOutcome) → RunState → StatementOutcome
+  count_test variable end step body behind w = counts_on (variable_value s.home variable w) end step w (λ u. then_round (body u) behind) Proceeds
 
-  -- a loop that tests before its body: a step, its test, its body where that holds, and then the rest
-  abbrev pub while_turn : Place → TypedExpression → (RunState → StatementOutcome) → (RunState → StatementOutcome) → RunState → StatementOutcome
+  -- behind the body of a counted loop: a step, which adds to its variable, and then the rest
+  abbrev pub count_further : Place → Reference → Option Value → (rest : RunState → StatementOutcome) → RunState → StatementOutcome
+  count_further place variable step rest w =
+      begin_step place w (λ x. then_value (attempt (sum_of (variable_value s.home variable x) (step_or_one step)) x) (λ v y. rest (store s.home variable v y)))
+
+  -- a turn of a counted loop: its test, its body, its step, and then the rest
+  abbrev pub count_turn : Place → Reference → (end : Value) → Option Value → (body rest : RunState → StatementOutcome) → RunState → StatementOutcome
+  count_turn place variable end step body rest w = count_test variable end step body (count_further place variable step rest) w
+
+  -- a test of it, and at most so many further rounds
+  abbrev pub rounds_counted : ℕ → Place → Reference → (end : Value) → Option Value → (body : RunState → StatementOutcome) → RunState → StatementOutcome
+  rounds_counted n place variable end step body w =
+      rounds n (count_test variable end step body (step_fails place)) (count_turn place variable end step body) w
+
+  -- a counted loop from a test on
+  abbrev pub count_loop : Place → Reference → (end : Value) → Option Value → (body : RunState → StatementOutcome) → RunState → StatementOutcome
+  count_loop place variable end step body w = looped (count_test variable end step body (step_fails place)) (count_turn place variable end step body) w
+
+  -- a turn of a loop that tests before its body: a step, its test, its body where that holds, and then the rest
+  abbrev pub while_turn : Place → TypedExpression → (body rest : RunState → StatementOutcome) → RunState → StatementOutcome
   while_turn place condition body rest w =
       begin_step place w (λ u. then_value (evaluate s condition u) (λ v x. after_test (is_true v) x (λ y. then_round (body y) rest) Proceeds))
 
   -- at most so many rounds of it
-  abbrev pub rounds_while : ℕ → Place → TypedExpression → (RunState → StatementOutcome) → RunState → StatementOutcome
-  rounds_while zero place condition body w = step_fails place w
-  rounds_while (suc n) place condition body w = while_turn place condition body (rounds_while n place condition body) w
+  abbrev pub rounds_while : ℕ → Place → TypedExpression → (body : RunState → StatementOutcome) → RunState → StatementOutcome
+  rounds_while n place condition body w = rounds n (step_fails place) (while_turn place condition body) w
 
-  -- a loop that tests behind its body: its body, a step, its test, and the rest where that does not hold
-  abbrev pub until_turn : Place → TypedExpression → (RunState → StatementOutcome) → (RunState → StatementOutcome) → RunState → StatementOutcome
+  -- such a loop
+  abbrev pub while_loop : Place → TypedExpression → (body : RunState → StatementOutcome) → RunState → StatementOutcome
+  while_loop place condition body w = looped (step_fails place) (while_turn place condition body) w
+
+  -- a turn of a loop that tests behind its body: its body, a step, its test, and the rest where that does not hold
+  abbrev pub until_turn : Place → TypedExpression → (body rest : RunState → StatementOutcome) → RunState → StatementOutcome
   until_turn place condition body rest w =
       then_round (body w) (λ u. begin_step place u (λ x. then_value (evaluate s condition x) (λ v y. after_test (is_true v) y Proceeds rest)))
 
-  -- at most so many further rounds of it
-  abbrev pub rounds_until : ℕ → Place → TypedExpression → (RunState → StatementOutcome) → RunState → StatementOutcome
-  rounds_until zero place condition body w = then_round (body w) (step_fails place)
-  rounds_until (suc n) place condition body w = until_turn place condition body (rounds_until n place condition body) w
+  -- its body, and at most so many further rounds of it
+  abbrev pub rounds_until : ℕ → Place → TypedExpression → (body : RunState → StatementOutcome) → RunState → StatementOutcome
+  rounds_until n place condition body w = rounds n (λ u. then_round (body u) (step_fails place)) (until_turn place condition body) w
+
+  -- such a loop
+  abbrev pub until_loop : Place → TypedExpression → (body : RunState → StatementOutcome) → RunState → StatementOutcome
+  until_loop place condition body w = looped (λ u. then_round (body u) (step_fails place)) (until_turn place condition body) w
 
   -- the constructor of an instance is called, where its package has one
   abbrev pub constructed : List ℕ → Option ℕ → TypedArguments → RunState → StatementOutcome
@@ -152,9 +184,9 @@ module _ (s : Surroundings) where
     exec (Block place body) w = begin_step place w (exec_all body)
     exec (Count place variable start end step body) w =
         begin_step place w (λ u. then_value (evaluate s start u) (λ a x. then_value (evaluate s end x) (λ b y. with_step_value step y (λ c z.
-        begin_step place (store s.home variable a z) (λ q. rounds_counted q.progress.left place variable b c (exec_all body) q)))))
-    exec (While place condition body) w = begin_step place w (λ u. rounds_while u.progress.left place condition (exec_all body) u)
-    exec (Until place condition body) w = begin_step place w (λ u. rounds_until u.progress.left place condition (exec_all body) u)
+        begin_step place (store s.home variable a z) (count_loop place variable b c (exec_all body))))))
+    exec (While place condition body) w = begin_step place w (while_loop place condition (exec_all body))
+    exec (Until place condition body) w = begin_step place w (until_loop place condition (exec_all body))
 
     -- statements one after the other
     pub exec_all : TypedStatements → RunState → StatementOutcome
