@@ -274,29 +274,35 @@ abbrev pub name_if_renamed : List ℕ → Option PlacedName → OutputName
 name_if_renamed name None = record { name = name; new_place = None }
 name_if_renamed name (Some new) = record { name = new.name; new_place = Some new.place }
 
--- the name of a column of an output: its new name where it is renamed
+-- a column of an output with these renamings: it has its new name where it is renamed
 abbrev pub output_name : List Renaming → List ℕ → OutputName
 output_name renamings name = name_if_renamed name (renamed_to renamings name)
 
--- a renamed column stands behind another column of its name: one that is not renamed, or one renamed at an earlier place
+-- the columns of an output, in the order of the vector, each with the name that it has there
+abbrev pub renamed_columns : SourceNames → source_output.OutputTable → List OutputName
+renamed_columns names o = map (output_name (renamings_of o)) (columns_left names (options_of o.options))
+
+-- a new name at this place stands behind that of another column: one that is not renamed, or one that is renamed at an earlier place
 abbrev pub is_behind : Place → Option Place → Bool
 is_behind place None = true
 is_behind place (Some other) = is_earlier other place
 
--- the place of a column, renamed there, that has the name of another one
-abbrev pub clash_at_new_name : List OutputName → OutputName → Option Place → List Place
-clash_at_new_name all n None = []
-clash_at_new_name all n (Some place) =
-    if list_any (λ (o : OutputName). bytes_eq o.name n.name && is_behind place o.new_place) all then place ∷ [] else []
+-- a column has this name before a new name at this place
+abbrev pub has_name_before : List ℕ → Place → OutputName → Bool
+has_name_before name place o = bytes_eq o.name name && is_behind place o.new_place
 
--- the place of a renamed column that has the name of another one
+-- the place of a column's new name, where it has one, and another column has that name before
+abbrev pub clash_at_new_name : List OutputName → OutputName → (new_place : Option Place) → List Place
+clash_at_new_name all n None = []
+clash_at_new_name all n (Some place) = if list_any (has_name_before n.name place) all then place ∷ [] else []
+
+-- a column that has the name of another one is told at its new name; one that is not renamed is told nowhere
 abbrev pub clashing_name : List OutputName → OutputName → List Place
 clashing_name all n = clash_at_new_name all n n.new_place
 
--- two output columns of one name, at the renamed name
+-- columns of an output that have one name
 abbrev pub clashing_columns : SourceNames → source_output.OutputTable → List Place
-clashing_columns names o =
-    let all = map (output_name (renamings_of o)) (columns_left names (options_of o.options)) in from_each (clashing_name all) all
+clashing_columns names o = let all = renamed_columns names o in from_each (clashing_name all) all
 
 -- the outputs of a unit; `_null_` is none
 abbrev pub real_outputs : SourceNames → List source_output.OutputTable
