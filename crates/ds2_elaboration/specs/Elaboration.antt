@@ -66,7 +66,7 @@ program_in tables before _ = []
 abbrev pub before_source : List SourcePart → UnitsBefore
 before_source parts = record { names = before_all parts; packages = []; threads = [] }
 
--- what stands before the unit that follows a part of a source
+-- what stands before the unit that follows a part of a source, with types: names, and the packages and thread programs up to it
 abbrev pub units_behind : TableColumns → SourcePart → UnitsBefore → UnitsBefore
 units_behind tables part before = record {
   names = behind_part tables part before.names;

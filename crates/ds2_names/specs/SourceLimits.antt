@@ -81,13 +81,22 @@ abbrev pub data_programs_in : SourcePart → ℕ
 data_programs_in (AData u) = 1
 data_programs_in _ = 0
 
+-- the tables that must come from the store and are first mentioned in a part of a source, behind data programs that make some
+-- tables and behind mentions of others
+abbrev pub first_mentioned : (made : List MentionedTable) → (seen : List (List ℕ)) → SourcePart → List PlacedName
+first_mentioned made seen part = first_mentions seen (tables_of_store made (globals_in part))
+
+-- the tables that so many data programs make and a part of a source behind them, those of the last one first
+abbrev pub made_with : (programs : ℕ) → (made : List MentionedTable) → SourcePart → List MentionedTable
+made_with programs made part = tables_made_by (programs + 1) (outputs_in part) ++ made
+
 -- the tables that must come from the store, each at its first mention in parts of a source behind so many data programs, which make
 -- some tables, and behind mentions of others
-abbrev pub store_tables : ℕ → (made : List MentionedTable) → (seen : List (List ℕ)) → List SourcePart → List PlacedName
+abbrev pub store_tables : (programs : ℕ) → (made : List MentionedTable) → (seen : List (List ℕ)) → List SourcePart → List PlacedName
 store_tables programs made seen [] = []
 store_tables programs made seen (part ∷ parts) =
-    let own = first_mentions seen (tables_of_store made (globals_in part)) in
-    own ++ store_tables (programs + data_programs_in part) (tables_made_by (programs + 1) (outputs_in part) ++ made) (names_alone own ++ seen) parts
+    let own = first_mentioned made seen part in
+    own ++ store_tables (programs + data_programs_in part) (made_with programs made part) (names_alone own ++ seen) parts
 
 -- ---- what stands before a unit
 
@@ -139,13 +148,13 @@ known_part tables known (AThread u) =
     }) ∷ []
 known_part tables known _ = []
 
--- what stands before the unit that follows a part of a source
+-- what stands before the unit that follows a part of a source: what stood before the part, and the part
 abbrev pub behind_part : TableColumns → SourcePart → BeforeUnit → BeforeUnit
 behind_part tables part before = record {
   known = known_part tables before.known part ++ before.known;
   data_programs = before.data_programs + data_programs_in part;
-  made = tables_made_by (before.data_programs + 1) (outputs_in part) ++ before.made;
-  mentioned = names_alone (first_mentions before.mentioned (tables_of_store before.made (globals_in part))) ++ before.mentioned;
+  made = made_with before.data_programs before.made part;
+  mentioned = names_alone (first_mentioned before.made before.mentioned part) ++ before.mentioned;
   tokens = tokens_behind before.known before.tokens (source_instances (globals_in part));
 }
 
