@@ -287,12 +287,20 @@ may_call_on in_init (AnyThread thread) = in_init
 may_call_on in_init _ = true
 
 module _ (tables : TableColumns) (before : UnitsBefore) (u : UnitSource) where
-  -- what a method of a unit, `init` or another one, with these parameters and locals that returns this sees
-  abbrev pub scope_with : (in_init : Bool) → List typed.Variable → Option Ty → TypeScope
+  -- the instances that a unit declares
+  abbrev pub instances_declared : List SourceInstance
+  instances_declared = (unit_names tables before u).instances
+
+  -- the objects that a method of a unit may call: in `init` all, and in another one those that are none of a thread program
+  abbrev pub objects_for_method : (in_init : Bool) → List ObjectInScope
+  objects_for_method in_init = map (object_of_instance before) (filter (λ (i : SourceInstance). may_call_on in_init i.sort) instances_declared)
+
+  -- what a method of a unit sees, `init` or another one, with these parameters and locals and with the type that it returns
+  abbrev pub scope_with : (in_init : Bool) → (locals : List typed.Variable) → (returns : Option Ty) → TypeScope
   scope_with in_init locals returns = record {
     variables = vector_variables tables before u;
     parameters = parameter_variables u;
-    objects = map (object_of_instance before) (filter (λ (i : SourceInstance). may_call_on in_init i.sort) (unit_names tables before u).instances);
+    objects = objects_for_method in_init;
     unjoined = unjoined_columns tables before u;
     flags = names_alone (unit_names tables before u).flags;
     bys = names_alone (unit_names tables before u).bys;
@@ -343,7 +351,7 @@ module _ (tables : TableColumns) (before : UnitsBefore) (u : UnitSource) where
   abbrev pub broken_type_rules : TypeRefusals
   broken_type_rules =
       broken_at TypeClash (clashing_tables tables before u)
-      ++ from_each (λ (i : SourceInstance). instance_refusals tables before scope_of_declarations i i.sort) (unit_names tables before u).instances
+      ++ from_each (λ (i : SourceInstance). instance_refusals tables before scope_of_declarations i i.sort) instances_declared
       ++ from_each method_refusals (source_methods u.globals)
 
   -- the refusal of the types of a unit, where there is one: that of the least place, and at one place the first kind
@@ -353,9 +361,21 @@ module _ (tables : TableColumns) (before : UnitsBefore) (u : UnitSource) where
   -- the hash objects and iterators of a unit
   abbrev pub unit_objects : DeclaredObjects
   unit_objects = record {
-    hashes = from_each (λ (i : SourceInstance). hash_of_sort tables before.names.made scope_of_declarations (spelled_name i.name) i.sort) (unit_names tables before u).instances;
-    iterators = from_each (λ (i : SourceInstance). iterator_of_sort (spelled_name i.name) i.sort) (unit_names tables before u).instances;
+    hashes = from_each (λ (i : SourceInstance). hash_of_sort tables before.names.made scope_of_declarations (spelled_name i.name) i.sort) instances_declared;
+    iterators = from_each (λ (i : SourceInstance). iterator_of_sort (spelled_name i.name) i.sort) instances_declared;
   }
+
+  -- the instances of packages of a unit
+  abbrev pub package_instances : List InstanceTree
+  package_instances = from_each (λ (i : SourceInstance). instance_of_sort before (spelled_name i.name) i.sort) instances_declared
+
+  -- the instances of thread programs of a unit
+  abbrev pub thread_instances : List ThreadInstance
+  thread_instances = from_each (λ (i : SourceInstance). thread_instance_of before (spelled_name i.name) i.sort) instances_declared
+
+  -- the variables that a unit retains from one load to the next
+  abbrev pub retained_variables : List (List ℕ)
+  retained_variables = listed_in_statements (codes "retain") u.globals
 
   -- ---- programs
 
@@ -391,17 +411,18 @@ module _ (tables : TableColumns) (before : UnitsBefore) (u : UnitSource) where
   init_with_constructors =
       record (system_body (codes "init")) { statements = behind_constructors before (unit_names tables before u).instances (system_body (codes "init")).statements }
 
-  -- what a data program or a thread program becomes, over these columns of tables and behind these units
+  -- what a data program or a thread program becomes, over these columns of tables and behind these units: its name where it is a thread
+  -- program, its variables, its objects and instances, what it reads and writes, and its methods
   abbrev pub typed_unit : UnitTree
   typed_unit = record {
     thread = option_map spelled_name u.name;
     parameters = parameter_variables u;
     declared = program_variables u;
     columns = column_variables tables before u;
-    retained = listed_in_statements (codes "retain") u.globals;
-    instances = from_each (λ (i : SourceInstance). instance_of_sort before (spelled_name i.name) i.sort) (unit_names tables before u).instances;
+    retained = retained_variables;
+    instances = package_instances;
     objects = unit_objects;
-    threads = from_each (λ (i : SourceInstance). thread_instance_of before (spelled_name i.name) i.sort) (unit_names tables before u).instances;
+    threads = thread_instances;
     reading = program_reading;
     outputs = unit_outputs u.kind;
     methods = method_trees;
