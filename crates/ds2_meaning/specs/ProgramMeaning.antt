@@ -158,14 +158,20 @@ opening_of p tables values =
 abbrev pub parameters_given : List ℕ → List Variable → Storage → List Value
 parameters_given instance parameters c = map (λ (p : Variable). held (c (record { home = Some instance; global = Parameter p.name }))) parameters
 
+-- the values that a program gives to the parameters of the thread program that it reads from
+abbrev pub parameters_for_stage : UnitTree → (stage : ProgramTree) → Storage → List Value
+parameters_for_stage p stage = parameters_given (stage_instance p.reading) (reader_of stage).parameters
+
+-- the load of a program that a row of the thread program that it reads from is
+abbrev pub load_of_row : UnitTree → Row → Settings
+load_of_row p = row_settings (data_vector p) (stage_columns p.reading)
+
 -- a program as units over its loads, which make groups at a grain, or over the rows of the thread program that it reads from
 abbrev pub program_over_loads : ProgramTree → TableRows → (budget grain : ℕ) → ProgramOf Settings Storage
 program_over_loads (OverTables p) tables budget grain =
     Reads (program_units p budget) (loads_over (data_vector p) p.reading tables) (number_of_groups grain p.reading tables)
 program_over_loads (OverStage p stage) tables budget grain =
-    let q = reader_of stage in
-    ReadsFrom (program_units p budget) (program_over_loads stage tables budget grain) (opening_of q tables) (parameters_given (stage_instance p.reading) q.parameters)
-    (row_settings (data_vector p) (stage_columns p.reading))
+    ReadsFrom (program_units p budget) (program_over_loads stage tables budget grain) (opening_of (reader_of stage) tables) (parameters_for_stage p stage) (load_of_row p)
 
 -- the one-thread answer of a program with these values of its parameters, over these tables. The grain, which fits the reading
 -- statement of the program that reads tables, changes the number of groups alone

@@ -15,9 +15,9 @@ pub record Units (L C : Type 0) : Type 0 where
   pub run : L → C → UnitOutcome C
   pub term : C → UnitOutcome C
 
--- a program over the loads of its reading statement, which make so many groups, or over the rows of the thread program that it
--- reads from, each a group: how that one begins with its parameters, the parameters that were given, and the load that one of its
--- rows is
+-- a program with what it reads. It reads the loads of its reading statement, which make so many groups; or it reads from a thread
+-- program, each of whose rows is a group: that one is opened with values of its parameters, these are told from what the program
+-- keeps behind its `init`, and a row is a load
 pub data ProgramOf (L C : Type 0) : Type 0 where
   Reads : Units L C → List L → (groups : ℕ) → ProgramOf L C
   ReadsFrom : Units L C → (stage : ProgramOf L C) → (opened : List Value → C) → (parameters : C → List Value) → (load : Row → L) → ProgramOf L C
