@@ -71,12 +71,12 @@ programs_mean_same alike counted p translatable =
     let typed : IsTypedProgram p = IsTranslatable.typed translatable in
     record {
       answers = alike p translatable [];
+      outputs = λ rows. outputs_alike (reader_of p) 0 (reader_of p).outputs rows (IsTypedUnit.outputs (reader_typed p typed));
       stages = stages_mean_same alike p typed (IsTranslatable.instances translatable);
       counts = each_counts counted p typed;
       tables = same_tables p typed;
       columns = same_columns p typed;
       places = each_names_tables p;
-      outputs = λ rows. outputs_alike (reader_of p) 0 (reader_of p).outputs rows (IsTypedUnit.outputs (reader_typed p typed));
       names = same_names p;
       bys = same_bys p;
     }

@@ -40,6 +40,10 @@ CodeAnswersAs p code =
     (tables : TableRows) (contents : List Contents) (budget grain : ℕ) → HaveRowsMentioned p tables contents
     → AreLikeAnswers (code_answer code contents budget grain) (program_answer p [] tables budget grain)
 
+-- the programs of code: its own, and the thread programs that it reads from, the nearest one first
+abbrev pub programs_of_code : StagedParts → List ProgramParts
+programs_of_code code = code.program ∷ code.stages
+
 -- ---- tables that are read
 
 -- the table that a reference in code means
@@ -73,6 +77,14 @@ columns_at_opening p = columns_loaded p.objects.hashes ++ columns_loaded_by p.in
 abbrev pub columns_mentioned : ProgramTree → List Columns
 columns_mentioned (OverTables p) = columns_at_opening p ++ map columns_read (inputs_of p.reading)
 columns_mentioned (OverStage p stage) = columns_at_opening p ++ columns_mentioned stage
+
+-- the tables that code mentions, in order
+abbrev pub tables_of_code : StagedParts → List MentionedTable
+tables_of_code code = map table_referred (program_references code.program code.stages)
+
+-- their columns, in the same order
+abbrev pub columns_of_code : StagedParts → List Columns
+columns_of_code code = map columns_named (program_references code.program code.stages)
 
 -- ---- the table of each hash object and of each place of a reading statement
 
@@ -110,6 +122,10 @@ tables_of_outputs (o ∷ outputs) (table ∷ tables) = record { name = o.name; o
 abbrev pub code_tables_made : ProgramParts → List Written → List MadeTable
 code_tables_made code rows = tables_of_outputs code.outputs (tables_written code rows)
 
+-- of any rows that are written code makes the same tables as a program
+abbrev pub MakesSameTables : ProgramTree → StagedParts → Type 0
+MakesSameTables p code = (rows : List Written) → code_tables_made code.program rows ≡ tables_made 0 (reader_of p).outputs rows
+
 -- ---- the programs of a chain
 
 -- how many BY variables a reading statement of code has
@@ -118,6 +134,22 @@ number_of_bys (reading.Set reads bys) = length bys
 number_of_bys (reading.Merge reads bys retains) = length bys
 number_of_bys _ = 0
 
+-- by how many BY variables each program of code reads
+abbrev pub bys_in_code : StagedParts → List ℕ
+bys_in_code code = map (λ (part : ProgramParts). number_of_bys part.reading) (programs_of_code code)
+
+-- by how many a program reads, and each thread program that it reads from
+abbrev pub bys_in_chain : ProgramTree → List ℕ
+bys_in_chain p = map (λ (unit : UnitTree). length (bys_of unit.reading)) (programs_in_chain p)
+
+-- the name of each program of code, where it is a thread program
+abbrev pub names_in_code : StagedParts → List (Option (List ℕ))
+names_in_code code = map (λ (part : ProgramParts). part.name) (programs_of_code code)
+
+-- the name of a program and of each thread program that it reads from, where it is a thread program
+abbrev pub names_in_chain : ProgramTree → List (Option (List ℕ))
+names_in_chain p = map (λ (unit : UnitTree). unit.thread) (programs_in_chain p)
+
 -- ---- thread programs
 
 -- code means the same as a thread program with those that it reads from: whatever values its parameters have, over any tables, with every budget
@@ -125,7 +157,7 @@ number_of_bys _ = 0
 pub record ThreadMeansSame (p : ProgramTree) (code : StagedParts) : Type 0 where
   pub answers : (values : List Value) (tables : TableRows) (contents : List Contents) (budget grain : ℕ) → HaveRowsMentioned p tables contents
       → AreLikeAnswers (code_answer_with code values contents budget grain) (program_answer p values tables budget grain)
-  pub outputs : (rows : List Written) → code_tables_made code.program rows ≡ tables_made 0 (reader_of p).outputs rows
+  pub outputs : MakesSameTables p code
 
 -- so it is with the code of each thread program that a program reads from, the nearest one first
 abbrev pub StagesMeanSame : ProgramTree → List ProgramParts → Type 0
@@ -136,20 +168,23 @@ StagesMeanSame (OverStage p stage) (code ∷ codes) = ThreadMeansSame stage (rec
 
 -- ---- the same meaning
 
--- code means the same as a program with the thread programs that it reads from: it answers as the program means, and so does the code of each of
--- those; in each of its programs the way of a call tells how many instructions it executes; it mentions the same tables with the same columns in
--- the same order, each of its programs at the same hash objects and places of its reading statement; of any rows it makes the same tables; each
--- of its programs has the name of the same thread program, where it is one, and reads by as many BY variables
+-- code means the same as a program with the thread programs that it reads from
 pub record MeansSame (p : ProgramTree) (code : StagedParts) : Type 0 where
+  -- it answers as the program means, and makes the same tables of any rows
   pub answers : CodeAnswersAs p code
+  pub outputs : MakesSameTables p code
+  -- so does the code of each of the thread programs, whatever values its parameters have
   pub stages : StagesMeanSame p code.stages
-  pub counts : AllZip CountsByWay (programs_in_chain p) (code.program ∷ code.stages)
-  pub tables : map table_referred (program_references code.program code.stages) ≡ tables_mentioned p
-  pub columns : map columns_named (program_references code.program code.stages) ≡ columns_mentioned p
-  pub places : AllZip NamesSameTables (programs_in_chain p) (code.program ∷ code.stages)
-  pub outputs : (rows : List Written) → code_tables_made code.program rows ≡ tables_made 0 (reader_of p).outputs rows
-  pub names : map (λ (part : ProgramParts). part.name) (code.program ∷ code.stages) ≡ map (λ (unit : UnitTree). unit.thread) (programs_in_chain p)
-  pub bys : map (λ (part : ProgramParts). number_of_bys part.reading) (code.program ∷ code.stages) ≡ map (λ (unit : UnitTree). length (bys_of unit.reading)) (programs_in_chain p)
+  -- in each of its programs the way of a call tells how many instructions the call executes
+  pub counts : AllZip CountsByWay (programs_in_chain p) (programs_of_code code)
+  -- it mentions the same tables with the same columns in the same order
+  pub tables : tables_of_code code ≡ tables_mentioned p
+  pub columns : columns_of_code code ≡ columns_mentioned p
+  -- each of its programs mentions them at the same hash objects and places of its reading statement
+  pub places : AllZip NamesSameTables (programs_in_chain p) (programs_of_code code)
+  -- each of its programs has the name of the same thread program, where it is one, and reads by as many BY variables
+  pub names : names_in_code code ≡ names_in_chain p
+  pub bys : bys_in_code code ≡ bys_in_chain p
 
 -- the code of each typed program, over tables or with the thread programs that it reads from, means the same as the program
 abbrev pub TypedProgramsMeanSame : Type 0
