@@ -1,4 +1,3 @@
-pub mod Alone
 pub mod Loads
 pub mod OneThread
 pub mod Table
