@@ -1,9 +1,9 @@
 -- With which statuses the answers of commands stop.
 use Rattle.std.proofs.Common.{◌≡◌, ◌⊎◌, inl, inr, ◌∙◌, ℕ, List, flat_map, Option, Some, None, refl, sym, ap, subst}
 use Rattle.ds2_outside.specs.Files.{Files}
-use Rattle.ds2_compile.specs.AnswersOfTexts.{SourcesRead}
-use Rattle.ds2_compile.specs.ProgramTree.{ProgramTree}
-use Rattle.ds2_compile.specs.StagedParts.{StagedParts}
+use Rattle.ds2_commands.specs.AnswersOfTexts.{SourcesRead}
+use Rattle.ds2_commands.specs.ProgramTree.{ProgramTree}
+use Rattle.ds2_commands.specs.StagedParts.{StagedParts}
 use Rattle.ds2_answer.specs.declared.command_line.CommandLine.{CommandLine}
 use Rattle.ds2_answer.specs.declared.command_line.CommandLine.TheVariants.{Run, Compile, Exec, Check}
 use Rattle.ds2_answer.specs.declared.status.Status.{Status}
@@ -16,10 +16,10 @@ use Rattle.ds2_answer.specs.PlanSteps.{files_behind_all, status_at_end, steps_of
 use Rattle.ds2_answer.specs.SourcePlans.{check_threads, compile_programs_of, outputs_of_program, runs_of_programs, run_programs_of, store_object}
 use Rattle.ds2_answer.specs.ProgramPlans.{programs_plan}
 use Rattle.ds2_answer.specs.Status.{IsRefusal}
-use Rattle.ds2_verdicts.specs.ThreadVerdicts.{verdict_named}
-use Rattle.ds2_verdicts.specs.declared.verdicts.ThreadVerdict.{ThreadVerdict}
+use Rattle.ds2_commands.specs.ThreadVerdicts.{verdict_named}
+use Rattle.ds2_commands.specs.ThreadVerdict.{ThreadVerdict}
 use Rattle.ds2_answer.specs.TablePlans.{Presence, none_made}
-use Rattle.ds2_top.proofs.PlanStops.{StopsAmong, either_way, exec_stop, nothing_written, outputs_stop, programs_stop, source_stop, verdicts_stop}
+use Rattle.ds2_commands.proofs.PlanStops.{StopsAmong, either_way, exec_stop, nothing_written, outputs_stop, programs_stop, source_stop, verdicts_stop}
 
 -- ---- any command
 

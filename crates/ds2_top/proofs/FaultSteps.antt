@@ -6,9 +6,9 @@ use Rattle.ds2_value.specs.declared.fault.Ending.TheVariants.{Normal, Faulted}
 use Rattle.ds2_value.specs.declared.fault.Fault.{Fault}
 use Rattle.ds2_csv.specs.Text as csv
 use Rattle.ds2_outside.specs.Files.{Files}
-use Rattle.ds2_compile.specs.AnswersOfTexts.{SourcesRead}
-use Rattle.ds2_compile.specs.ProgramTree.{ProgramTree}
-use Rattle.ds2_compile.specs.StagedParts.{StagedParts}
+use Rattle.ds2_commands.specs.AnswersOfTexts.{SourcesRead}
+use Rattle.ds2_commands.specs.ProgramTree.{ProgramTree}
+use Rattle.ds2_commands.specs.StagedParts.{StagedParts}
 use Rattle.ds2_answer.specs.declared.status.Status.{Status}
 use Rattle.ds2_answer.specs.declared.status.Status.TheVariants as ended
 use Rattle.ds2_answer.specs.Answer.{table_file}
@@ -18,13 +18,13 @@ use Rattle.ds2_answer.specs.Plan.{Plan, Stops, Logs, ReadsFile, AsksFor, WritesF
 use Rattle.ds2_answer.specs.PlanSteps.{PlanStep, LogLine, ReadFile, AskFor, WriteFile, files_behind, files_behind_all, status_at_end, steps_of}
 use Rattle.ds2_answer.specs.ProgramPlans.{ProgramLeft, ProgramRun, count_rows_then, count_stage_then, end_then, program_then, programs_plan, put_then, write_then}
 use Rattle.ds2_answer.specs.StagesLeft.{StageLeft}
-use Rattle.ds2_verdicts.specs.ThreadVerdicts.{verdict_named}
+use Rattle.ds2_commands.specs.ThreadVerdicts.{verdict_named}
 use Rattle.ds2_answer.specs.SourcePlans.{object_bytes, object_file, outputs_of_program, run_programs_of, runs_of_programs, source_plan, store_object}
 use Rattle.ds2_answer.specs.TablePlans.{OutputNamed, Presence, ask_unless_made, made_too, none_made, outputs_then, unless_there}
 use Rattle.ds2_top.specs.Leaves.{Did}
 use Rattle.ds2_top.specs.Outside.{Outside}
 use Rattle.ds2_top.specs.RuntimeFaults.{EndsWithoutFault, FirstFault, LeavesFault, lines_of_faulting, steps_of_fault, steps_of_runs}
-use Rattle.ds2_top.specs.SourceObjects.{IsObjectOf}
+use Rattle.ds2_commands.specs.SourceObjects.{IsObjectOf}
 
 -- ---- parts that each make one step
 

@@ -1,13 +1,6 @@
 pub mod Plain
-pub mod PlanStops
 pub mod CommandStops
 pub mod FaultSteps
 pub mod Promises
-pub mod FileReads
-pub mod InputNames
-pub mod LocalRuns
-pub mod LoadSteps
-pub mod StoreSteps
-pub mod CommandSteps
-pub mod ObjectSteps
 pub mod NamedLines
+pub mod WordSteps

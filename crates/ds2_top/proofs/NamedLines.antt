@@ -5,7 +5,7 @@ use Rattle.ds2_answer.specs.declared.command_line.CommandLine.TheVariants.{Run, 
 use Rattle.ds2_answer.specs.declared.command_line.GivenOptions.{GivenOptions}
 use Rattle.ds2_answer.specs.CommandLines.{command_line_of, exec_with_options, file_command, is_object_name, no_options, object_command, options_behind, run_with_options, source_command, without_options}
 use Rattle.ds2_answer.specs.Words.{is_source}
-use Rattle.ds2_top.specs.CommandOutcomes.{NamesFile}
+use Rattle.ds2_commands.specs.CommandOutcomes.{NamesFile}
 
 -- a command that is there names its file
 abbrev NamesIfSome : Option CommandLine → Type 0

@@ -2,8 +2,8 @@
 use Rattle.std.proofs.Common.{◌≡◌, ◌⊎◌, ◌∙◌, ◌++◌, inl, inr, ℕ, List, [], codes, length, refl, sym, ap, subst, arith, ◌≤◌, Option, Some, None, IfSome, IsSome, Result, Ok, Err}
 use Rattle.std.proofs.lemmas.List.{take_all}
 use Rattle.ds2_outside.specs.Files.{Files}
-use Rattle.ds2_compile.specs.AnswersOfTexts.{SourcesRead}
-use Rattle.ds2_compile.specs.StagedParts.{StagedParts}
+use Rattle.ds2_commands.specs.AnswersOfTexts.{SourcesRead}
+use Rattle.ds2_commands.specs.StagedParts.{StagedParts}
 use Rattle.ds2_answer.specs.declared.command_line.CommandLine.{CommandLine}
 use Rattle.ds2_answer.specs.declared.command_line.CommandLine.TheVariants.{Run, Compile, Exec, Check}
 use Rattle.ds2_answer.specs.declared.status.Status.{Status}
@@ -20,16 +20,16 @@ use Rattle.ds2_store_steps.specs.Halts.{CausedBy, FollowsAll}
 use Rattle.ds2_store_steps.specs.PlanOutcomes.{CameOfPlan, CutShort, StoppedAs}
 use Rattle.ds2_store_steps.specs.declared.halt.Halt.{Halt}
 use Rattle.ds2_store_steps.specs.declared.halt.Halt.TheVariants.{Ended, OutOfMemory}
-use Rattle.ds2_top.specs.CommandOutcomes.{DecodesUnlessHalted, DoesCommand, StoresUnlessHalted}
+use Rattle.ds2_commands.specs.CommandOutcomes.{DecodesUnlessHalted, DoesCommand, StoresUnlessHalted}
 use Rattle.ds2_top.specs.DecodedFiles.{DecodesObject, EndsBeforeDecoding, EndsInFileRead}
 use Rattle.ds2_top.specs.Headline.{Headline, IsAnswered, LeavesRefusal}
 use Rattle.ds2_top.specs.Leaves.{Did, Leaves}
-use Rattle.ds2_top.specs.ObjectRuns.{HaltsUndecoded}
+use Rattle.ds2_commands.specs.ObjectRuns.{HaltsUndecoded}
 use Rattle.ds2_top.specs.Outside.{Outside, Gained, HoldsFiles, LogGains, LogGainsPart, LogRose, ReadsRose, WritesRose}
 use Rattle.ds2_top.specs.Reported.{EndReported, Reported, TakesLine, TakesSome}
 use Rattle.ds2_top.specs.RuntimeFaults.{FaultLeft}
-use Rattle.ds2_top.specs.SourceLoads.{HaltsUnstored}
-use Rattle.ds2_top.specs.SourceObjects.{IsBeforeStoring, StoresObject}
+use Rattle.ds2_commands.specs.SourceObjects.{HaltsUnstored, IsBeforeStoring}
+use Rattle.ds2_top.specs.StoredObjects.{StoresObject}
 use Rattle.ds2_top.proofs.CommandStops.{check_faults_never, compile_faults_never, refusal_writes_nothing, usage_only}
 use Rattle.ds2_top.proofs.FaultSteps.{fault_left}
 use Rattle.ds2_top.proofs.Plain.{append_nil, ended_leaves, memory_leaves}

@@ -1,20 +1,14 @@
 -- The object file that a command runs.
-use Rattle.std.specs.Prelude.{◌≡◌, ◌⊎◌, ℕ, List, codes, Option, Some, None, Ok}
-use Rattle.ds2_base.specs.Bytes.{Bytes}
-use Rattle.ds2_outside.specs.Files.{Files, file}
+use Rattle.std.specs.Prelude.{◌≡◌, ◌⊎◌, ℕ, List, codes, Option, Some, None}
+use Rattle.ds2_outside.specs.Files.{Files}
 use Rattle.ds2_answer.specs.declared.command_line.CommandLine.{CommandLine}
 use Rattle.ds2_answer.specs.declared.command_line.CommandLine.TheVariants.{Run, Compile, Exec, Check}
-use Rattle.ds2_answer.specs.declared.kinds.TheConstants.{OBJECT_LIMIT}
 use Rattle.ds2_answer.specs.declared.status.Status.{Status}
 use Rattle.ds2_answer.specs.declared.status.Status.TheVariants as ended
 use Rattle.ds2_answer.specs.Lines.{fault_line, memory_line}
-use Rattle.ds2_answer.specs.Load.{within_limit}
-use Rattle.ds2_answer.specs.ObjectPlans.{IsDecoding, ObjectReading}
+use Rattle.ds2_answer.specs.ObjectPlans.{ObjectReading}
+use Rattle.ds2_commands.specs.ObjectRuns.{DecodesFile}
 use Rattle.ds2_top.specs.Outside.{Outside, Gained, HoldsFiles, LogGainsPart, ReadsRose}
-
--- the named file, where it is there and within its limit, is decoded as it should be
-abbrev pub DecodesFile : ObjectReading → (name : List ℕ) → Files → Type 0
-DecodesFile object_for name files = (bytes : Bytes) → within_limit OBJECT_LIMIT (file files name) ≡ Ok bytes → IsDecoding object_for bytes
 
 -- the read of the named file has failed, for a cause, and its line is all that the log has gained: the whole line or, where the log failed or
 -- there was no memory to write it, a first part

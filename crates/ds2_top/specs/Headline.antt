@@ -1,7 +1,7 @@
 -- What the top call promises.
 use Rattle.std.specs.Prelude.{◌≡◌, ◌⊎◌, ℕ, List, None, IfSome}
-use Rattle.ds2_compile.specs.AnswersOfTexts.{SourcesRead}
-use Rattle.ds2_compile.specs.StagedParts.{StagedParts}
+use Rattle.ds2_commands.specs.AnswersOfTexts.{SourcesRead}
+use Rattle.ds2_commands.specs.StagedParts.{StagedParts}
 use Rattle.ds2_outside.specs.Files.{Files}
 use Rattle.ds2_answer.specs.declared.status.Status.{Status}
 use Rattle.ds2_answer.specs.declared.status.Status.TheVariants as ended
@@ -16,7 +16,7 @@ use Rattle.ds2_top.specs.DecodedFiles.{DecodesObject}
 use Rattle.ds2_top.specs.Leaves.{Did, Leaves}
 use Rattle.ds2_top.specs.Outside.{Outside, Gained, HoldsFiles, LogGains, LogRose, ReadsRose, WritesRose}
 use Rattle.ds2_top.specs.RuntimeFaults.{FaultLeft}
-use Rattle.ds2_top.specs.SourceObjects.{StoresObject}
+use Rattle.ds2_top.specs.StoredObjects.{StoresObject}
 
 -- a refusal is that of the answer: each file is as it was, and the log has gained its line or, where it has failed, a first part of it
 pub record LeavesRefusal (answer : Plan) (files : Files) (before now : Outside) (status : Status) : Type 0 where

@@ -4,9 +4,9 @@ use Rattle.ds2_base.specs.declared.place.Place.{Place}
 use Rattle.ds2_value.specs.declared.fault.Ending.{Ending}
 use Rattle.ds2_value.specs.declared.fault.Ending.TheVariants.{Normal, Faulted}
 use Rattle.ds2_value.specs.declared.fault.Fault.{Fault}
-use Rattle.ds2_compile.specs.AnswersOfTexts.{SourcesRead}
-use Rattle.ds2_compile.specs.ProgramTree.{ProgramTree}
-use Rattle.ds2_compile.specs.StagedParts.{StagedParts}
+use Rattle.ds2_commands.specs.AnswersOfTexts.{SourcesRead}
+use Rattle.ds2_commands.specs.ProgramTree.{ProgramTree}
+use Rattle.ds2_commands.specs.StagedParts.{StagedParts}
 use Rattle.ds2_outside.specs.Files.{Files}
 use Rattle.ds2_answer.specs.declared.command_line.CommandLine.{CommandLine}
 use Rattle.ds2_answer.specs.declared.command_line.CommandLine.TheVariants.{Run, Compile, Exec, Check}
@@ -17,10 +17,10 @@ use Rattle.ds2_answer.specs.Plan.{Plan, Stops}
 use Rattle.ds2_answer.specs.PlanSteps.{PlanStep, LogLine, files_behind_all, steps_of}
 use Rattle.ds2_answer.specs.ProgramPlans.{ProgramLeft, ProgramRun, program_then}
 use Rattle.ds2_answer.specs.SourcePlans.{runs_of_programs, source_plan}
-use Rattle.ds2_verdicts.specs.ThreadVerdicts.{verdict_named}
-use Rattle.ds2_verdicts.specs.declared.verdicts.ThreadVerdict.{ThreadVerdict}
+use Rattle.ds2_commands.specs.ThreadVerdicts.{verdict_named}
+use Rattle.ds2_commands.specs.ThreadVerdict.{ThreadVerdict}
 use Rattle.ds2_top.specs.Outside.{Outside, HoldsFiles}
-use Rattle.ds2_top.specs.SourceObjects.{BecomesPrograms}
+use Rattle.ds2_commands.specs.SourceObjects.{BecomesPrograms}
 
 -- a program does not end in a fault
 abbrev pub EndsWithoutFault : Option Ending → Type 0

@@ -7,15 +7,9 @@
 //! ```
 #![tactic(auto)]
 
-mod commands;
-mod compiling;
-mod loaded;
-mod objects;
-mod refusals;
 mod report;
-mod sources;
-mod storing;
 mod top;
+mod words;
 mod workers;
 
 pub use ds2_answer::Status;

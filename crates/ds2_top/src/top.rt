@@ -1,12 +1,12 @@
 //! The top call.
 ghost use Rattle.ds2_top.specs.Headline.{Headline};
 
-use crate::commands::run;
 use crate::report::report_end;
+use crate::words::run;
 use crate::workers::run_with;
 use ds2_answer::Status;
 use ds2_base::{List, Text};
-use ds2_compile::sources_are_read;
+use ds2_commands::sources_are_read;
 use ds2_outside::{Gate, Sink, Store};
 use std::alloc::Global;
 use std::sync::Wait;

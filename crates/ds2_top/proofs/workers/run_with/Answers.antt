@@ -1,8 +1,8 @@
 use Rattle.std.proofs.Common.{◌∙◌, Option, Some, refl, sym, subst}
 use Rattle.ds2_answer.specs.declared.command_line.CommandLine.{CommandLine}
 use Rattle.ds2_answer.specs.CommandLines.{command_line_of}
-use Rattle.ds2_top.specs.CommandOutcomes.{DoesCommand}
-use Rattle.ds2_top.proofs.CommandSteps.{no_line, no_words}
+use Rattle.ds2_commands.specs.CommandOutcomes.{DoesCommand}
+use Rattle.ds2_top.proofs.WordSteps.{no_line, no_words}
 use Rattle.ds2_top.proofs.NamedLines.{line_names}
 use Rattle.ds2_top.proofs.workers.run_with.Goals as goal
 

@@ -1,0 +1,20 @@
+use Rattle.ds2_answer.specs.SourcePlans.{source_plan}
+use Rattle.ds2_commands.specs.CommandOutcomes.{runs_with}
+use Rattle.ds2_commands.proofs.CommandSteps.{source_does, source_ends}
+use Rattle.ds2_commands.proofs.StoreSteps.{loaded_runs}
+use Rattle.ds2_commands.proofs.workers.run_source_with.Goals as goal
+
+pub run_loaded_with-requires-clause-runs : goal.run_loaded_with-requires-clause-runs
+run_loaded_with-requires-clause-runs g c = λ κs lives.
+    loaded_runs (source_plan c.sources_are_read.ensures c.args.source.now) c.args.log.now (g.S.Store.files c.args.store.now) c.in_ok-loaded.loaded c.load_source.new.log (g.S.Store.files c.load_source.new.store)
+    (c.in_ok-loaded.ensures.loads c.sources_are_read.ensures)
+
+pub returns-in_err-loaded-clause-does : goal.returns-in_err-loaded-clause-does
+returns-in_err-loaded-clause-does g c sources =
+    source_ends sources c.args.source.now (runs_with c.args.source.now c.args.budget) c.args.log.now c.load_source.new.log (g.S.Store.files c.args.store.now) (g.S.Store.files c.load_source.new.store) c.in_err-loaded.field-0.0
+    c.from_residual.result c.from_residual.ensures.1 (c.in_err-loaded.ensures.loads sources)
+
+pub returns-clause-does : goal.returns-clause-does
+returns-clause-does g c sources =
+    source_does sources c.args.source.now (runs_with c.args.source.now c.args.budget) c.in_ok-loaded.loaded c.args.log.now c.load_source.new.log c.run_loaded_with.new.log (g.S.Store.files c.args.store.now) (g.S.Store.files c.load_source.new.store)
+    (g.S.Store.files c.run_loaded_with.new.store) c.run_loaded_with.result (c.in_ok-loaded.ensures.loads sources) c.run_loaded_with.ensures.does (λ keeps. c.run_loaded_with.ensures.readable)

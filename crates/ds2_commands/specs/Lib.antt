@@ -1,0 +1,10 @@
+-- The commands.
+pub mod SourceObjects
+pub mod SourceLoads
+pub mod ObjectRuns
+pub mod CommandOutcomes
+pub use Rattle.ds2_compile.specs.AnswersOfTexts
+pub use Rattle.ds2_compile.specs.ProgramTree
+pub use Rattle.ds2_compile.specs.StagedParts
+pub use Rattle.ds2_verdicts.specs.ThreadVerdicts
+pub use Rattle.ds2_verdicts.specs.declared.verdicts.ThreadVerdict

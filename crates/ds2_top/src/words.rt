@@ -1,0 +1,41 @@
+//! What a line of words does, but for the writing of the log.
+ghost use Rattle.ds2_commands.specs.AnswersOfTexts.{SourcesRead};
+ghost use Rattle.ds2_answer.specs.CommandLines.{command_line_of};
+ghost use Rattle.ds2_answer.specs.Lines.{usage_line};
+ghost use Rattle.ds2_store_steps.specs.Halts.{CausedBy, StopsAs};
+ghost use Rattle.ds2_commands.specs.CommandOutcomes.{DoesCommand};
+
+use ds2_answer::lines::say_usage;
+use ds2_answer::{Status, read_command_line};
+use ds2_base::{Bytes, OutOfMemory, Text};
+use ds2_commands::do_command;
+use ds2_outside::Store;
+use ds2_store_steps::Halt;
+use std::alloc::Global;
+
+/// Says that the words are no command, which ends it.
+pub(crate) fn refuse_words(log: &mut Bytes) -> Halt
+    ensures { StopsAs Status.Usage usage_line log.old result log.new }
+{
+    match say_usage(log) {
+        Ok(()) => Halt::Ended(Status::Usage),
+        Err(OutOfMemory) => Halt::OutOfMemory,
+    }
+}
+
+/// Does what a line of words says, but for the writing of the log.
+pub(crate) fn run<S: Store>(
+    alloc: Global,
+    words: &[Text],
+    log: &mut Bytes,
+    store: &mut S,
+) -> Result<(), Halt>
+    ensures does { (sources : SourcesRead) → DoesCommand sources (command_line_of words.now) log.old (S.files store.old) result log.new (S.files store.new) }
+    ensures read { CausedBy Status.Read result (S.read_faults store.old) (S.read_faults store.new) }
+    ensures write { CausedBy Status.Write result (S.write_faults store.old) (S.write_faults store.new) }
+{
+    match read_command_line(alloc, words)? {
+        Some(line) => do_command(alloc, &line, log, store),
+        None => Err(refuse_words(log)),
+    }
+}
