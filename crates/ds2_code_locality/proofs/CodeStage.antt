@@ -227,9 +227,9 @@ module _ (p : UnitTree) where
   as_states s t is_s is_t (ByFault o) (ByFault q) r = r
 
 pub local_code_makes_stage : LocalCodeIsIndependent → LocalCodeMakesStage
-local_code_makes_stage law t typed told merges grain local =
+local_code_makes_stage law t typed told grain local =
     let p = t.program in
-    let free = law t typed told merges grain local in
+    let free = law t typed told grain local in
     record {
       groups = λ budget ls ks s t gl gk alike agree.
           as_states p s t agree.0 agree.1 (run_loads (coded_stage p) budget ls s) (run_loads (coded_stage p) budget ks t)

@@ -185,10 +185,10 @@ group_of_code p tables contents grain ls same is =
     }
 
 pub groups_are_independent : LocalCodeMakesStage → TypedUnitsRunAsMeant → TypedLoadsAreAlike → LocalCodeHasIndependentGroups
-groups_are_independent stages run_alike loads t typed reads named told merges grain local tables contents has whole are =
+groups_are_independent stages run_alike loads t typed reads named told grain local tables contents has whole are =
     let p = t.program in
     let alike = loads p typed reads named tables contents has in
-    let law = stages t typed told merges grain local in
+    let law = stages t typed told grain local in
     let agrees = AgreeAsStates (is_data_of_code p) (fixed_data p) in
     record {
       free = record {

@@ -333,4 +333,4 @@ module _ (p : UnitTree) where
     }
 
 pub local_code_is_independent : LocalIsIndependent → TypedUnitsRunAsMeant → TypedUnitsCountByWay → LocalCodeIsIndependent
-local_code_is_independent sound runs counts t typed told merges grain local = code_independent t.program (runs t.program typed) (counts t.program typed) grain (sound t typed told merges grain local)
+local_code_is_independent sound runs counts t typed told grain local = code_independent t.program (runs t.program typed) (counts t.program typed) grain (sound t typed told grain local)

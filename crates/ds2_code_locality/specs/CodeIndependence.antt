@@ -16,7 +16,7 @@ use Rattle.ds2_program_code.specs.ProgramRuns.{HoldsProgram}
 use Rattle.ds2_locality.specs.declared.locality.Verdict.TheVariants.{Local}
 use Rattle.ds2_locality.specs.Independence.{UnitsGave, units_of_stage, LocatedLoad, settings_at, IsGroupOfReading, fixed_locations}
 use Rattle.ds2_locality.specs.KeptLocations.{is_flag_before}
-use Rattle.ds2_locality.specs.Soundness.{ObjectsTold, MergesBy}
+use Rattle.ds2_locality.specs.Soundness.{ObjectsTold}
 use Rattle.ds2_locality.specs.Verdict.{JudgedThread, verdict_of}
 
 -- of the course of a unit of code it is seen how many instructions it executed
@@ -59,5 +59,5 @@ pub record IsCodeIndependentAt (p : UnitTree) (grain : ℕ) : Type 0 where
 
 -- the code of a typed thread program that is local at a grain is group independent there
 abbrev pub LocalCodeIsIndependent : Type 0
-LocalCodeIsIndependent = (t : JudgedThread) → IsTypedUnit t.program → ObjectsTold t → MergesBy t.program.reading → (grain : ℕ) → verdict_of t ≡ Local grain
+LocalCodeIsIndependent = (t : JudgedThread) → IsTypedUnit t.program → ObjectsTold t → (grain : ℕ) → verdict_of t ≡ Local grain
     → IsCodeIndependentAt t.program grain

@@ -14,7 +14,7 @@ use Rattle.ds2_program_code.specs.CodeParts.{code_slots}
 use Rattle.ds2_locality.specs.declared.locality.Verdict.TheVariants.{Local}
 use Rattle.ds2_locality.specs.Independence.{IsGroupOfReading, is_fixed}
 use Rattle.ds2_locality.specs.KeptLocations.{seen_content, is_flag_before}
-use Rattle.ds2_locality.specs.Soundness.{ObjectsTold, MergesBy}
+use Rattle.ds2_locality.specs.Soundness.{ObjectsTold}
 use Rattle.ds2_locality.specs.Verdict.{JudgedThread, verdict_of}
 use Rattle.ds2_code_locality.specs.CodeIndependence.{coded_stage}
 
@@ -61,6 +61,6 @@ fixed_data p = record { content = λ d. seen_content p (kept_by_code p d); is_fi
 
 -- the code of a typed thread program that is local at a grain makes a stage whose groups are independent there, as the law on stages asks
 abbrev pub LocalCodeMakesStage : Type 0
-LocalCodeMakesStage = (t : JudgedThread) → IsTypedUnit t.program → ObjectsTold t → MergesBy t.program.reading → (grain : ℕ) → verdict_of t ≡ Local grain
+LocalCodeMakesStage = (t : JudgedThread) → IsTypedUnit t.program → ObjectsTold t → (grain : ℕ) → verdict_of t ≡ Local grain
     → IsGroupIndependent (coded_stage t.program) (IsGroupOfReading t.program.reading t.program grain) (is_flag_before grain t.program.reading)
     (AgreeAsStates (is_data_of_code t.program) (fixed_data t.program))

@@ -20,7 +20,7 @@ use Rattle.ds2_code_schedule.specs.StageSchedules.{units_of_code, group_sets}
 use Rattle.ds2_code_schedule.specs.StageTold.{told_units}
 use Rattle.ds2_same_answer.specs.SameAnswer.{HasNamedInstances, HaveRowsMentioned, staged_code}
 use Rattle.ds2_locality.specs.declared.locality.Verdict.TheVariants.{Local}
-use Rattle.ds2_locality.specs.Soundness.{ObjectsTold, MergesBy}
+use Rattle.ds2_locality.specs.Soundness.{ObjectsTold}
 use Rattle.ds2_locality.specs.Verdict.{JudgedThread, verdict_of}
 use Rattle.ds2_code_locality.specs.CodeStates.{is_data_of_code, fixed_data}
 
@@ -47,5 +47,5 @@ IsIndependentCode p grain =
 -- have names
 abbrev pub LocalCodeHasIndependentGroups : Type 0
 LocalCodeHasIndependentGroups =
-    (t : JudgedThread) → IsTypedUnit t.program → ReadsNoStage t.program.reading → HasNamedInstances (OverTables t.program) → ObjectsTold t → MergesBy t.program.reading → (grain : ℕ) → verdict_of t ≡ Local grain
+    (t : JudgedThread) → IsTypedUnit t.program → ReadsNoStage t.program.reading → HasNamedInstances (OverTables t.program) → ObjectsTold t → (grain : ℕ) → verdict_of t ≡ Local grain
     → IsIndependentCode t.program grain

@@ -145,5 +145,5 @@ module _ (texts : EveryTextIsTyped) (tables : TableColumns) (parts : List Source
       → IsValidObject compiled.object → compiled.verdicts ≡ source_verdicts tables parts → IsCompiled tables parts (Ok compiled)
   source_compiled law local compiled named are valid judged =
       outcome_compiled law (names_alone (source_inputs parts)) tables (source_verdicts tables parts) (elaborated_source tables parts) (settled_source tables parts)
-      (source_is_typed texts tables parts schemas stands) (λ all e typed all_named. local tables parts all stands.grammar e (data_programs_typed all typed) all_named)
+      (source_is_typed texts tables parts schemas stands) (λ all e typed all_named. local tables parts all e (data_programs_typed all typed) all_named)
       programs compiled is named are valid judged

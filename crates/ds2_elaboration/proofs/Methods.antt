@@ -7,8 +7,8 @@ use Rattle.std.proofs.lemmas.List.{length-map}
 use Rattle.ds2_base.specs.declared.place.Place.{Place}
 use Rattle.ds2_token.specs.declared.token.Token.{Token}
 use Rattle.ds2_tree.specs.Globals.{Method, GlobalItem, Declared, Listed, Defined, method_spelling, global_spelling, IsGlobal}
-use Rattle.ds2_tree.specs.Lists.{if_any, all_spelled, Each}
-use Rattle.ds2_tree.specs.Readings.{reading_spelling}
+use Rattle.ds2_tree.specs.Lists.{if_any, all_spelled, Each, IfAny}
+use Rattle.ds2_tree.specs.Readings.{reading_spelling, IsReading}
 use Rattle.ds2_tree.specs.Statements.{AreStatements}
 use Rattle.ds2_tree.specs.declared.globals.Returns.{Returns}
 use Rattle.ds2_tree.specs.declared.readings.ByVariable as source_by
@@ -65,6 +65,12 @@ methods_of_grammar [] g = tt
 methods_of_grammar (Declared d ∷ globals) g = methods_of_grammar globals g.1
 methods_of_grammar (Listed keyword names end ∷ globals) g = methods_of_grammar globals g.1
 methods_of_grammar (Defined m ∷ globals) g = (g.0.6, methods_of_grammar globals g.1)
+
+pub readings_of_grammar : (globals : List GlobalItem) → Each IsGlobal globals → AllByRecursion (λ (m : Method). IfAny IsReading m.reading) (source_methods globals)
+readings_of_grammar [] g = tt
+readings_of_grammar (Declared d ∷ globals) g = readings_of_grammar globals g.1
+readings_of_grammar (Listed keyword names end ∷ globals) g = readings_of_grammar globals g.1
+readings_of_grammar (Defined m ∷ globals) g = (g.0.5, readings_of_grammar globals g.1)
 
 pub methods_in_order : (globals : List GlobalItem) → StandInOrder (all_spelled global_spelling globals)
     → AllByRecursion (λ (m : Method). StandInOrder (method_spelling m)) (source_methods globals)

@@ -1,14 +1,15 @@
 -- The reading statement of a program that breaks no rule is typed.
 use Rattle.std.proofs.Common.{◌≡◌, inl, inr, ℕ, ◌≤◌, nat_le, length, bytes_eq, codes, cond, Bool, true, false, not, ◌||◌, List, [], ◌∷◌, ◌++◌, map, filter, if◌then◌else◌, Option, Some, None, refl, sym, ap, ◌∙◌, subst, true≢false, arith}
 use Rattle.std.specs.List.{AllByRecursion}
+use Rattle.std.specs.Prelude.{is_some}
 use Rattle.std.proofs.lemmas.Bool.{and_parts, or_parts, or_from, or_left, or_right, not_from_false, leb-true}
 use Rattle.std.proofs.lemmas.List.{length-map}
 use Rattle.std.proofs.lemmas.List.Folds.{list_any-append}
 use Rattle.ds2_base.specs.declared.place.Place.{Place}
 use Rattle.ds2_token.specs.declared.token.Token.{Token}
 use Rattle.ds2_tree.specs.Globals.{Method}
-use Rattle.ds2_tree.specs.Lists.{if_any}
-use Rattle.ds2_tree.specs.Readings.{reading_spelling}
+use Rattle.ds2_tree.specs.Lists.{if_any, IfAny, SomeOf}
+use Rattle.ds2_tree.specs.Readings.{reading_spelling, IsByVariable, IsBy, IsReading}
 use Rattle.ds2_tree.specs.declared.readings.ByVariable as source_by
 use Rattle.ds2_tree.specs.declared.readings.Input as source_input
 use Rattle.ds2_tree.specs.declared.readings.Reading as source_reading
@@ -21,8 +22,10 @@ use Rattle.ds2_value.specs.Types.{takes}
 use Rattle.ds2_value.specs.declared.schema.Column.{Column}
 use Rattle.ds2_value.specs.declared.ty.Ty.{Ty}
 use Rattle.ds2_meaning.specs.declared.globals.Variable as typed
+use Rattle.ds2_meaning.specs.declared.readings.Input as typed_input
 use Rattle.ds2_meaning.specs.declared.readings.MentionedTable.{MentionedTable}
-use Rattle.ds2_meaning.specs.IsTyped.{type_in, variable_names, AreVariables, AreByColumns, AreTypedInputs, IsTypedReading}
+use Rattle.ds2_meaning.specs.declared.readings.Reading.TheVariants.{Merge}
+use Rattle.ds2_meaning.specs.IsTyped.{type_in, variable_names, AreVariables, AreByColumns, AreTypedInputs, MergesBy, IsTypedReading}
 use Rattle.ds2_meaning.specs.ProgramTree.{is_listed}
 use Rattle.ds2_names.specs.NameRules.{from_each, place_unless, spelled_number, is_in_all_tables, real_outputs}
 use Rattle.ds2_names.specs.SourceUnit.{TableColumns, UnitSource, spelled_name, PlacedName, placed_name, names_alone, variable_declarations, source_methods, local_names, is_package, SourceInstance, reading_of_run, tables_of_reading, bys_of_reading, new_columns_of, new_columns, stage_token, columns_of_stage, SourceNames, instance_names, all_globals}
@@ -40,7 +43,7 @@ use Rattle.ds2_elaboration.proofs.Joins.{TakesType, DeclaredTakes, IsUnclashed, 
 use Rattle.ds2_elaboration.proofs.Limits.{few_tables, few_bys}
 use Rattle.ds2_elaboration.proofs.Locals.{declared_variable_names}
 use Rattle.ds2_elaboration.proofs.Lookups.{of_among, for_each, mapped_among}
-use Rattle.ds2_elaboration.proofs.Methods.{methods_in_order, run_in_order}
+use Rattle.ds2_elaboration.proofs.Methods.{readings_of_grammar, methods_in_order, run_in_order}
 use Rattle.ds2_elaboration.proofs.Orders.{same_bytes, bytes_are, turned_bytes}
 use Rattle.ds2_elaboration.proofs.Outcome.{both_empty, unplaced}
 use Rattle.ds2_elaboration.proofs.Stages.{stage_schema, stage_types, stage_names}
@@ -268,20 +271,36 @@ module _ (tables : TableColumns) (schemas : (table : List ℕ) → is_schema (ta
     pub bys : AllByRecursion (λ (b : source_by.ByVariable). is_in_all_tables tables (tables_of_reading reading) (spelled_name b.name) ≡ true) (bys_of_reading reading)
     pub numbers : bad_reading_number reading ≡ []
     pub stage : AreVariables variables columns
+    pub grammar : IfAny IsReading reading
+
+  -- the BY variables of a `merge` of the grammar
+  merges_by : (inputs : List typed_input.Input) (bys : List source_by.ByVariable) (retains : Bool) → SomeOf IsByVariable bys → MergesBy (Merge inputs (map read_by bys) retains)
+  merges_by inputs [] retains some = absurd some
+  merges_by inputs (b ∷ bys) retains some = tt
 
   typed_reading : (reading : Option source_reading.Reading) → ReadingHolds reading → IsTypedReading variables (read_statement tables made columns reading)
-  typed_reading None h = (h.tables_few, h.bys_few, tt)
+  typed_reading None h = (h.tables_few, h.bys_few, tt, tt)
   typed_reading (Some (read_as.Set keyword inputs end by)) h =
       let bys = bys_of_reading (Some (read_as.Set keyword inputs end by)) in
-      let p = few_of bys inputs h.tables_few h.bys_few in (p.0, p.1, typed_inputs bys inputs h.inputs h.bys)
+      let p = few_of bys inputs h.tables_few h.bys_few in (p.0, p.1, typed_inputs bys inputs h.inputs h.bys, tt)
   typed_reading (Some (read_as.SetFrom keyword from instance threads end)) h =
       let p = workers_asked threads h.numbers in (p.0, p.1, h.stage)
   typed_reading (Some (read_as.Merge keyword inputs retain end by)) h =
-      let p = few_of by.variables inputs h.tables_few h.bys_few in (p.0, p.1, typed_inputs by.variables inputs h.inputs h.bys)
+      let p = few_of by.variables inputs h.tables_few h.bys_few in
+      let some : IsBy by = h.grammar.3 in
+      (p.0, p.1, typed_inputs by.variables inputs h.inputs h.bys, merges_by (map (read_input tables made) inputs) by.variables (is_some retain) some.1)
 
   pub typed_reading_of : (found : Option Method) → ReadingHolds (reading_if_any found) → IsTypedReading variables (reading_of_method tables made columns found)
-  typed_reading_of None h = (h.tables_few, h.bys_few, tt)
+  typed_reading_of None h = (h.tables_few, h.bys_few, tt, tt)
   typed_reading_of (Some m) h = typed_reading m.reading h
+
+grammar_if : (b : Bool) (own rest : Option source_reading.Reading) → IfAny IsReading own → IfAny IsReading rest → IfAny IsReading (if b then own else rest)
+grammar_if true own rest f g = f
+grammar_if false own rest f g = g
+
+run_of_grammar : (methods : List Method) → AllByRecursion (λ (m : Method). IfAny IsReading m.reading) methods → IfAny IsReading (reading_of_run methods)
+run_of_grammar [] f = tt
+run_of_grammar (m ∷ methods) f = grammar_if (bytes_eq (spelled_name m.name) (codes "run")) m.reading (reading_of_run methods) f.0 (run_of_grammar methods f.1)
 
 number_if : (b : Bool) (own rest : Option source_reading.Reading) → bad_reading_number own ≡ [] → bad_reading_number rest ≡ [] → bad_reading_number (if b then own else rest) ≡ []
 number_if true own rest f g = f
@@ -477,6 +496,7 @@ module _ (laws : JoinLaws) (tables : TableColumns) (before : UnitsBefore) (u : U
         bys = bys_in_tables (bys_of_reading reading) (known_bys laws tables before u given);
         numbers = ap bad_reading_number e ∙ run_number (source_methods u.globals) (reading_numbers laws tables before u given);
         stage = stage_typed;
+        grammar = subst (λ (r : Option source_reading.Reading). IfAny IsReading r) (sym e) (run_of_grammar (source_methods u.globals) (readings_of_grammar u.globals given.source.grammar));
       } in
       typed_reading_of tables given.schemas before.names.made stage_here vector_here (method_named (source_methods u.globals) (codes "run"))
       (subst (λ (r : Option source_reading.Reading). ReadingHolds tables given.schemas before.names.made stage_here vector_here r) (e ∙ reading_found (source_methods u.globals)) holds)

@@ -10,7 +10,6 @@ use Rattle.ds2_locality.specs.declared.locality.Verdict.{Verdict}
 use Rattle.ds2_locality.specs.declared.locality.Verdict.TheVariants.{Local}
 use Rattle.ds2_locality.specs.Independence.{IsIndependentAt}
 use Rattle.ds2_locality.specs.KeptLocations.{is_flag_of_by}
-use Rattle.ds2_locality.specs.Soundness.{MergesBy}
 use Rattle.ds2_locality.specs.Verdict.{JudgedThread, locations_in_order, is_cell, Ground, earlier_place}
 use Rattle.ds2_deeds.specs.declared.deed.NumberedDeed.{NumberedDeed}
 use Rattle.ds2_deeds.specs.declared.deed.NumberedDeed.TheVariants as numbered
@@ -44,6 +43,6 @@ pub record TellsCells (t : JudgedThread) : Type 0 where
   pub cells : (at : Location) → is_cell t.program at ≡ true → IsTold t at
   pub flags : (at : Location) → is_flag_of_by (bys_of t.program.reading) at.home at.global ≡ true → IsTold t at
 
--- a verdict is sound of a program: where it says local at a grain, the program is group independent there, if a `merge` has a BY variable
+-- a verdict is sound of a program: where it says local at a grain, the program is group independent there
 abbrev pub IsSoundAt : UnitTree → Verdict → Type 0
-IsSoundAt p v = MergesBy p.reading → (grain : ℕ) → v ≡ Local grain → IsIndependentAt p grain
+IsSoundAt p v = (grain : ℕ) → v ≡ Local grain → IsIndependentAt p grain

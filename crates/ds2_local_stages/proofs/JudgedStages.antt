@@ -5,13 +5,12 @@ use Rattle.ds2_meaning.specs.IsTyped.{IsTypedUnit, IsTypedProgram, ReadsNoStage}
 use Rattle.ds2_meaning.specs.ProgramTree.{UnitTree, ProgramTree, OverTables, OverStage}
 use Rattle.ds2_locality.specs.declared.locality.Verdict.{Verdict}
 use Rattle.ds2_locality.specs.declared.locality.Verdict.TheVariants.{Local}
-use Rattle.ds2_locality.specs.Soundness.{ObjectsTold, MergesBy}
+use Rattle.ds2_locality.specs.Soundness.{ObjectsTold}
 use Rattle.ds2_locality.specs.Verdict.{JudgedThread, verdict_of}
 use Rattle.ds2_verdicts.specs.OwnVerdicts.{HasOwnVerdict, StagesHaveVerdicts, ProgramsHaveVerdicts}
 use Rattle.ds2_verdicts.specs.SourceVerdicts.{source_verdicts}
 use Rattle.ds2_verdicts.specs.declared.verdicts.ThreadVerdict.{ThreadVerdict}
 use Rattle.ds2_same_answer.specs.SameAnswer.{HasNamedInstances}
-use Rattle.ds2_source_merges.specs.SourceMerges.{EachMergesBy, EveryMergeHasBy}
 use Rattle.ds2_code_locality.specs.LocalGroups.{IsIndependentCode, LocalCodeHasIndependentGroups}
 use Rattle.ds2_local_stages.specs.LocalStages.{StagesAreIndependent, LocalStagesAreIndependent}
 
@@ -25,9 +24,6 @@ stage_typed p stage typed = typed.2
 stage_named : (p : UnitTree) (stage : ProgramTree) → HasNamedInstances (OverStage p stage) → HasNamedInstances stage
 stage_named p stage named = named.1
 
-stage_merges : (p : UnitTree) (stage : ProgramTree) → EachMergesBy (OverStage p stage) → EachMergesBy stage
-stage_merges p stage merges = merges.1
-
 own_verdict : (verdicts : List ThreadVerdict) (p : UnitTree) (stage : ProgramTree) → StagesHaveVerdicts verdicts (OverStage p stage) → HasOwnVerdict verdicts stage
 own_verdict verdicts p stage own = own.0
 
@@ -36,31 +32,30 @@ stage_verdicts verdicts p stage own = own.1
 
 module _ (independent : LocalCodeHasIndependentGroups) where
   judged_code : (t : JudgedThread) (grain : ℕ) → ObjectsTold t → verdict_of t ≡ Local grain → IsTypedUnit t.program → ReadsNoStage t.program.reading
-      → HasNamedInstances (OverTables t.program) → MergesBy t.program.reading → IsIndependentCode t.program grain
-  judged_code t grain told local typed reads named merges = independent t typed reads named told merges grain local
+      → HasNamedInstances (OverTables t.program) → IsIndependentCode t.program grain
+  judged_code t grain told local typed reads named = independent t typed reads named told grain local
 
   -- what the verdict says of the thread program that a program reads from, where that one reads tables
-  own_independent : (verdicts : List ThreadVerdict) (p : UnitTree) (stage : ProgramTree) → IsTypedProgram stage → HasNamedInstances stage → EachMergesBy stage → HasOwnVerdict verdicts stage
+  own_independent : (verdicts : List ThreadVerdict) (p : UnitTree) (stage : ProgramTree) → IsTypedProgram stage → HasNamedInstances stage → HasOwnVerdict verdicts stage
       → StagesAreIndependent verdicts stage → StagesAreIndependent verdicts (OverStage p stage)
-  own_independent verdicts p (OverTables q) typed named merges it rest = λ grain e.
+  own_independent verdicts p (OverTables q) typed named it rest = λ grain e.
       let t : JudgedThread = HasOwnVerdict.judged it in
       let local : verdict_of t ≡ Local grain = same_verdict (verdict_of t) (Local grain) (sym (HasOwnVerdict.verdict it) ∙ e) in
-      let P : UnitTree → Type 0 = λ u. IsTypedUnit u → ReadsNoStage u.reading → HasNamedInstances (OverTables u) → MergesBy u.reading → IsIndependentCode u grain in
-      subst P (HasOwnVerdict.program it) (judged_code t grain (HasOwnVerdict.told it) local) typed.0 typed.1 named merges
-  own_independent verdicts p (OverStage q stage) typed named merges it rest = rest
+      let P : UnitTree → Type 0 = λ u. IsTypedUnit u → ReadsNoStage u.reading → HasNamedInstances (OverTables u) → IsIndependentCode u grain in
+      subst P (HasOwnVerdict.program it) (judged_code t grain (HasOwnVerdict.told it) local) typed.0 typed.1 named
+  own_independent verdicts p (OverStage q stage) typed named it rest = rest
 
-  stages_independent : (verdicts : List ThreadVerdict) (p : ProgramTree) → IsTypedProgram p → HasNamedInstances p → EachMergesBy p → StagesHaveVerdicts verdicts p → StagesAreIndependent verdicts p
-  stages_independent verdicts (OverTables p) typed named merges own = tt
-  stages_independent verdicts (OverStage p stage) typed named merges own =
-      own_independent verdicts p stage (stage_typed p stage typed) (stage_named p stage named) (stage_merges p stage merges) (own_verdict verdicts p stage own)
-      (stages_independent verdicts stage (stage_typed p stage typed) (stage_named p stage named) (stage_merges p stage merges) (stage_verdicts verdicts p stage own))
+  stages_independent : (verdicts : List ThreadVerdict) (p : ProgramTree) → IsTypedProgram p → HasNamedInstances p → StagesHaveVerdicts verdicts p → StagesAreIndependent verdicts p
+  stages_independent verdicts (OverTables p) typed named own = tt
+  stages_independent verdicts (OverStage p stage) typed named own =
+      own_independent verdicts p stage (stage_typed p stage typed) (stage_named p stage named) (own_verdict verdicts p stage own)
+      (stages_independent verdicts stage (stage_typed p stage typed) (stage_named p stage named) (stage_verdicts verdicts p stage own))
 
-  all_independent : (verdicts : List ThreadVerdict) (programs : List ProgramTree) → AllByRecursion IsTypedProgram programs → AllByRecursion HasNamedInstances programs → AllByRecursion EachMergesBy programs
+  all_independent : (verdicts : List ThreadVerdict) (programs : List ProgramTree) → AllByRecursion IsTypedProgram programs → AllByRecursion HasNamedInstances programs
       → AllByRecursion (StagesHaveVerdicts verdicts) programs → AllByRecursion (StagesAreIndependent verdicts) programs
-  all_independent verdicts [] typed named merges own = tt
-  all_independent verdicts (p ∷ programs) typed named merges own =
-      (stages_independent verdicts p typed.0 named.0 merges.0 own.0, all_independent verdicts programs typed.1 named.1 merges.1 own.1)
+  all_independent verdicts [] typed named own = tt
+  all_independent verdicts (p ∷ programs) typed named own = (stages_independent verdicts p typed.0 named.0 own.0, all_independent verdicts programs typed.1 named.1 own.1)
 
-pub local_stages_are_independent : EveryMergeHasBy → ProgramsHaveVerdicts → LocalCodeHasIndependentGroups → LocalStagesAreIndependent
-local_stages_are_independent merge have independent tables parts programs source e typed named =
-    all_independent independent (source_verdicts tables parts) programs typed named (merge tables parts programs source e) (have tables parts programs e)
+pub local_stages_are_independent : ProgramsHaveVerdicts → LocalCodeHasIndependentGroups → LocalStagesAreIndependent
+local_stages_are_independent have independent tables parts programs e typed named =
+    all_independent independent (source_verdicts tables parts) programs typed named (have tables parts programs e)

@@ -1,7 +1,7 @@
 -- The code of thread programs is independent as the verdicts of their source say.
 use Rattle.std.specs.Prelude.{◌≡◌, ℕ, unwrap_or, List, [], Some, Ok}
 use Rattle.std.specs.List.{AllByRecursion}
-use Rattle.ds2_tree.specs.Units.{SourcePart, IsSource}
+use Rattle.ds2_tree.specs.Units.{SourcePart}
 use Rattle.ds2_meaning.specs.IsTyped.{IsTypedProgram}
 use Rattle.ds2_meaning.specs.ProgramTree.{UnitTree, ProgramTree, OverTables, OverStage}
 use Rattle.ds2_names.specs.SourceUnit.{TableColumns}
@@ -26,5 +26,5 @@ StagesAreIndependent verdicts (OverStage p (OverStage q stage)) = StagesAreIndep
 -- so it is in the typed programs that a source becomes, whose instances of thread programs have names
 abbrev pub LocalStagesAreIndependent : Type 0
 LocalStagesAreIndependent =
-    (tables : TableColumns) (parts : List SourcePart) (programs : List ProgramTree) → IsSource parts → elaborated_source tables parts ≡ Ok programs
+    (tables : TableColumns) (parts : List SourcePart) (programs : List ProgramTree) → elaborated_source tables parts ≡ Ok programs
     → AllByRecursion IsTypedProgram programs → AllByRecursion HasNamedInstances programs → AllByRecursion (StagesAreIndependent (source_verdicts tables parts)) programs

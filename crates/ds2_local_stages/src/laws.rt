@@ -6,7 +6,6 @@ ghost use Rattle.ds2_local_stages.specs.LocalStages.{LocalStagesAreIndependent};
 pub fn local_stages_are_independent()
     ensures { LocalStagesAreIndependent }
 {
-    ds2_source_merges::laws::every_merge_has_by();
     ds2_verdicts::laws::programs_have_verdicts();
     ds2_code_locality::laws::local_code_has_independent_groups();
 }

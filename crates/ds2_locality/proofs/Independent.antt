@@ -5,19 +5,22 @@ use Rattle.ds2_value.specs.Run.{Event}
 use Rattle.ds2_schedule.specs.Groups.{UnitRun, IsSameEnd}
 use Rattle.ds2_meaning.specs.declared.location.Global.{Global}
 use Rattle.ds2_meaning.specs.declared.location.Global.TheVariants.{Named, First, Last, Present, Parameter}
+use Rattle.ds2_meaning.specs.declared.globals.Variable.{Variable}
 use Rattle.ds2_meaning.specs.declared.readings.ByVariable.{ByVariable}
+use Rattle.ds2_meaning.specs.declared.readings.Reading.{Reading}
+use Rattle.ds2_meaning.specs.declared.readings.Reading.TheVariants.{Nothing, Once, Set, Merge, From}
 use Rattle.ds2_meaning.specs.Execution.{exec_all}
-use Rattle.ds2_meaning.specs.IsTyped.{IsTypedUnit}
+use Rattle.ds2_meaning.specs.IsTyped.{MergesBy, IsTypedReading, IsTypedUnit}
 use Rattle.ds2_meaning.specs.Location.{Home, Storage}
 use Rattle.ds2_meaning.specs.ProgramMeaning.{program_surroundings, unit_end, unit_state, nothing_more}
-use Rattle.ds2_meaning.specs.ProgramTree.{UnitTree}
+use Rattle.ds2_meaning.specs.ProgramTree.{UnitTree, data_vector}
 use Rattle.ds2_meaning.specs.Reading.{bys_of}
 use Rattle.ds2_meaning.specs.TypedStatement.{TypedStatements}
 use Rattle.ds2_locality.specs.declared.locality.Verdict.TheVariants.{Local}
 use Rattle.ds2_locality.specs.Deeds.{init_deeds}
 use Rattle.ds2_locality.specs.Independence.{UnitsGave, unit_ended, seen_way, thread_stage, IsIndependentAt}
 use Rattle.ds2_locality.specs.KeptLocations.{bys_from, is_first_of_by}
-use Rattle.ds2_locality.specs.Soundness.{MergesBy, LocalIsIndependent}
+use Rattle.ds2_locality.specs.Soundness.{LocalIsIndependent}
 use Rattle.ds2_locality.specs.Verdict.{JudgedThread, known_first, Ground, ground_at, ground_of_term, ground_of_init, first_write, first_ground, ground_outside_run, coarsest, verdict_of}
 use Rattle.ds2_locality.specs.Walk.{no_flag}
 use Rattle.ds2_locality.proofs.Fixed.{run_leaves_fixed}
@@ -68,9 +71,15 @@ first_alone bys None (Present name) e = absurd (true≢false (sym e))
 first_alone bys None (Parameter name) e = absurd (true≢false (sym e))
 first_alone bys (Some instance) g e = absurd (true≢false (sym e))
 
--- a typed thread program that the verdict calls local at a grain is group independent there, where a `merge` has a BY variable and all hash
--- objects and iterators are told
+typed_merges : (variables : List Variable) (reading : Reading) → IsTypedReading variables reading → MergesBy reading
+typed_merges variables Nothing typed = tt
+typed_merges variables Once typed = tt
+typed_merges variables (Set inputs bys) typed = tt
+typed_merges variables (Merge inputs bys retains) typed = typed.3
+typed_merges variables (From instance workers columns) typed = tt
+
+-- a typed thread program that the verdict calls local at a grain is group independent there, where all hash objects and iterators are told
 pub typed_local_independent : LocalIsIndependent
-typed_local_independent t typed told merges grain local =
+typed_local_independent t typed told grain local =
     local_independent t typed (mentioned t typed told) (λ g. stands t typed (known_first t g) (λ k e. first_alone (bys_from g t.program.reading) k.home k.global e))
-    (stands t typed no_flag (λ k e. absurd (true≢false (sym e)))) merges grain local
+    (stands t typed no_flag (λ k e. absurd (true≢false (sym e)))) (typed_merges (data_vector t.program) t.program.reading typed.reading) grain local

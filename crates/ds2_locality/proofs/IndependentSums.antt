@@ -41,7 +41,7 @@ typed_by_one = record {
   instances = tt;
   objects = (tt, tt);
   threads = tt;
-  reading = (omega arith, omega arith, (refl, ((BigInt, refl, refl), ((BigInt, refl, refl), ((BigInt, refl, refl), tt))), (refl, tt), tt));
+  reading = (omega arith, omega arith, (refl, ((BigInt, refl, refl), ((BigInt, refl, refl), ((BigInt, refl, refl), tt))), (refl, tt), tt), tt);
   outputs = (omega arith, refl, (refl, (refl, tt)), tt);
   output_names = refl;
   methods = tt;
@@ -62,7 +62,7 @@ typed_by_two = record {
   instances = tt;
   objects = (tt, tt);
   threads = tt;
-  reading = (omega arith, omega arith, (refl, ((BigInt, refl, refl), ((BigInt, refl, refl), ((BigInt, refl, refl), tt))), (refl, (refl, tt)), tt));
+  reading = (omega arith, omega arith, (refl, ((BigInt, refl, refl), ((BigInt, refl, refl), ((BigInt, refl, refl), tt))), (refl, (refl, tt)), tt), tt);
   outputs = (omega arith, refl, (refl, (refl, tt)), tt);
   output_names = refl;
   methods = tt;
@@ -77,12 +77,12 @@ typed_by_two = record {
 by_one : IsIndependentAt sums_of_a 1
 by_one =
     typed_local_independent (record { program = sums_of_a; run_place = col 5; term_place = col 9; objects = own_objects_first sums_of_a }) typed_by_one
-    (all_objects_are_told sums_of_a (col 5) (col 9) []) tt 1 grain_verdicts.sum_by_a
+    (all_objects_are_told sums_of_a (col 5) (col 9) []) 1 grain_verdicts.sum_by_a
 
 by_two : IsIndependentAt sums_of_a_and_b 2
 by_two =
     typed_local_independent (record { program = sums_of_a_and_b; run_place = col 5; term_place = col 9; objects = own_objects_first sums_of_a_and_b }) typed_by_two
-    (all_objects_are_told sums_of_a_and_b (col 5) (col 9) []) tt 2 grain_verdicts.sum_by_two
+    (all_objects_are_told sums_of_a_and_b (col 5) (col 9) []) 2 grain_verdicts.sum_by_two
 
 -- ---- a sum that runs on
 

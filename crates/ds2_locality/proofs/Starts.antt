@@ -15,14 +15,13 @@ use Rattle.ds2_meaning.specs.declared.readings.ByVariable.{ByVariable}
 use Rattle.ds2_meaning.specs.declared.readings.Input.{Input}
 use Rattle.ds2_meaning.specs.declared.readings.Reading.{Reading}
 use Rattle.ds2_meaning.specs.declared.readings.Reading.TheVariants.{Nothing, Once, Set, Merge, From}
-use Rattle.ds2_meaning.specs.IsTyped.{is_by}
+use Rattle.ds2_meaning.specs.IsTyped.{is_by, MergesBy}
 use Rattle.ds2_meaning.specs.Location.{Home, Storage, Holds}
 use Rattle.ds2_meaning.specs.ProgramTree.{UnitTree, data_vector}
 use Rattle.ds2_meaning.specs.Reading.{TableRows, Settings, InputTables, inputs_of, bys_of, input_tables, value_under, key_in, keys_in, descending_of, keyed_loads, settings_in, settings_of, row_settings, with_settings, stage_columns}
 use Rattle.ds2_locality.specs.Deeds.{global_at}
 use Rattle.ds2_locality.specs.Independence.{LocatedLoad, located, settings_at, loads_of_tables, located_group, thread_groups, IsTableGroup, IsRowGroup, IsGroupOfReading}
 use Rattle.ds2_locality.specs.KeptLocations.{is_column_or_flag, seen_at, bys_from, is_first_of_by}
-use Rattle.ds2_locality.specs.Soundness.{MergesBy}
 use Rattle.ds2_locality.specs.Verdict.{JudgedThread, coarsest}
 use Rattle.ds2_locality.proofs.Loading.{own_load, read_back, Sets, first_at, One, set_whole, merge_whole, stage_whole, statement_ones}
 use Rattle.ds2_locality.proofs.Opening.{map_length, Proper, Opens, beside_length, next_length, Heads, first_opens, set_loads_proper, merge_loads_proper}

@@ -1,9 +1,7 @@
 -- The theorem on the verdict: a thread program that is local at a grain is group independent there.
 use Rattle.std.specs.List.{list_any}
-use Rattle.std.specs.Prelude.{◌≡◌, ℕ, true, List, [], ◌∷◌, is_some}
+use Rattle.std.specs.Prelude.{◌≡◌, ℕ, true, List, is_some}
 use Rattle.ds2_base.specs.declared.place.Place.{Place}
-use Rattle.ds2_meaning.specs.declared.readings.Reading.{Reading}
-use Rattle.ds2_meaning.specs.declared.readings.Reading.TheVariants.{Merge}
 use Rattle.ds2_meaning.specs.HashObjects.{hash_named, iterator_named, object_at}
 use Rattle.ds2_meaning.specs.IsTyped.{IsTypedUnit}
 use Rattle.ds2_meaning.specs.Location.{Home, is_same_location}
@@ -17,15 +15,9 @@ pub record ObjectsTold (t : JudgedThread) : Type 0 where
   pub hashes : (home : Home) (name : List ℕ) → is_some (hash_named (objects_of t.program home).hashes name) ≡ true → list_any (λ other. is_same_location (object_at home name) other) t.objects ≡ true
   pub iterators : (home : Home) (name : List ℕ) → is_some (iterator_named (objects_of t.program home).iterators name) ≡ true → list_any (λ other. is_same_location (object_at home name) other) t.objects ≡ true
 
--- a `merge` has a BY variable; without one, loads of one key would not set all columns
-abbrev pub MergesBy : Reading → Type 0
-MergesBy (Merge inputs [] retains) = ⊥
-MergesBy (Merge inputs (by ∷ bys) retains) = Unit {0}
-MergesBy _ = Unit {0}
-
 -- a typed thread program that is local at a grain is group independent there
 abbrev pub LocalIsIndependent : Type 0
-LocalIsIndependent = (t : JudgedThread) → IsTypedUnit t.program → ObjectsTold t → MergesBy t.program.reading → (grain : ℕ) → verdict_of t ≡ Local grain → IsIndependentAt t.program grain
+LocalIsIndependent = (t : JudgedThread) → IsTypedUnit t.program → ObjectsTold t → (grain : ℕ) → verdict_of t ≡ Local grain → IsIndependentAt t.program grain
 
 -- in whatever order the names of its declarations are told, all hash objects and iterators of a program are
 abbrev pub AllObjectsAreTold : Type 0

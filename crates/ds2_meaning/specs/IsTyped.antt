@@ -31,7 +31,7 @@ use Rattle.ds2_meaning.specs.declared.methods.Parameter as parameters
 use Rattle.ds2_meaning.specs.declared.readings.ByVariable.{ByVariable}
 use Rattle.ds2_meaning.specs.declared.readings.Input.{Input}
 use Rattle.ds2_meaning.specs.declared.readings.Reading.{Reading}
-use Rattle.ds2_meaning.specs.declared.readings.Reading.TheVariants.{From}
+use Rattle.ds2_meaning.specs.declared.readings.Reading.TheVariants.{Merge, From}
 use Rattle.ds2_meaning.specs.HashObjects.{DeclaredObjects, hash_named, iterator_named, object_at}
 use Rattle.ds2_meaning.specs.Location.{Home, Location, Storage, held, items_held}
 use Rattle.ds2_meaning.specs.Method.{MethodTree}
@@ -578,11 +578,17 @@ AreTypedInputs variables bys [] = Unit {0}
 AreTypedInputs variables bys (input ∷ inputs) =
     IsTrue (is_schema input.columns) × AreVariables variables input.columns × AreByColumns bys input.columns × AreTypedInputs variables bys inputs
 
--- a reading statement: the columns that it sets are variables; it has at most 16 tables and 16 BY variables, and 1 to 64 workers
+-- a `merge` has a BY variable; without one, loads of one key would not set all columns
+abbrev pub MergesBy : Reading → Type 0
+MergesBy (Merge inputs [] retains) = ⊥
+MergesBy _ = Unit {0}
+
+-- a reading statement: the columns that it sets are variables; it has at most 16 tables and 16 BY variables, a `merge` has one, and
+-- it has 1 to 64 workers
 abbrev pub IsTypedReading : List Variable → Reading → Type 0
 IsTypedReading variables (From instance workers columns) = (1 ≤ workers) × (workers ≤ 64) × AreVariables variables columns
 IsTypedReading variables reading =
-    (length (inputs_of reading) ≤ 16) × (length (bys_of reading) ≤ 16) × AreTypedInputs variables (bys_of reading) (inputs_of reading)
+    (length (inputs_of reading) ≤ 16) × (length (bys_of reading) ≤ 16) × AreTypedInputs variables (bys_of reading) (inputs_of reading) × MergesBy reading
 
 -- each column of an output has the type of its variable
 abbrev pub AreOutputColumns : List Variable → List OutputColumn → Type 0

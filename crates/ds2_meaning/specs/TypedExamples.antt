@@ -5,7 +5,7 @@ use Rattle.ds2_value.specs.declared.ty.Ty.TheVariants.{BigInt}
 use Rattle.ds2_meaning.specs.declared.location.Global.TheVariants.{First, Parameter}
 use Rattle.ds2_meaning.specs.declared.location.Reference.TheVariants.{At}
 use Rattle.ds2_meaning.specs.declared.readings.Input.{Input}
-use Rattle.ds2_meaning.specs.declared.readings.Reading.TheVariants.{Set, From}
+use Rattle.ds2_meaning.specs.declared.readings.Reading.TheVariants.{Set, Merge, From}
 use Rattle.ds2_meaning.specs.ExampleWords.{col, int, variable_of, assign_at, bigint, output_of, program_with}
 use Rattle.ds2_meaning.specs.FormExamples.{counting_up}
 use Rattle.ds2_meaning.specs.HashExamples.{hashing, on_hash}
@@ -53,6 +53,8 @@ pub record TypedExamples : Type 0 where
   -- set t; where t has two columns k, and seventeen tables
   pub tables_are_schemas : IsTypedProgram (OverTables (reader (Set (input_of (codes "t") (codes "k" ∷ codes "k" ∷ []) ∷ []) []) [] (codes "k" ∷ []) [])) → ⊥
   pub seventeen_tables_are_too_many : IsTypedProgram (OverTables many_tables) → ⊥
+  -- merge t; without a BY variable
+  pub merge_wants_a_by_variable : IsTypedProgram (OverTables (reader (Merge (input_of (codes "t") (codes "k" ∷ []) ∷ []) [] false) [] (codes "k" ∷ []) [])) → ⊥
   -- set from s threads=65;
   pub workers_are_few : IsTypedProgram (OverTables (record (program_with (codes "x" ∷ []) []) { reading = From (codes "s") 65 [] })) → ⊥
   -- a data program with a parameter n, and a thread program as a data program

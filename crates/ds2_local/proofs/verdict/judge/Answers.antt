@@ -28,4 +28,4 @@ returns-clause-independent c =
     (ap (λ l. locations_named l) c.as_slice-2.ensures ∙ c.in_ok-locations.ensures) (ap (λ l. methods_named l) c.as_slice-3.ensures ∙ c.in_ok-methods.ensures) in
     let told = c.all_objects_are_told.ensures t.program t.run_place t.term_place names in
     IfOk-weaker c.verdict_by_numbers.result (λ verdict. verdict ≡ verdict_of t) (λ verdict. IsSoundAt t.program verdict)
-    (λ verdict e merges grain is. c.local_is_independent.ensures t c.requires told merges grain (sym e ∙ is)) (c.verdict_by_numbers.ensures t numbered (cells_are_told t c.requires told))
+    (λ verdict e grain is. c.local_is_independent.ensures t c.requires told grain (sym e ∙ is)) (c.verdict_by_numbers.ensures t numbered (cells_are_told t c.requires told))

@@ -3,4 +3,4 @@ use Rattle.ds2_local_stages.proofs.laws.local_stages_are_independent.Goals as go
 
 pub returns : goal.returns
 returns c =
-    local_stages_are_independent c.every_merge_has_by.ensures c.programs_have_verdicts.ensures c.local_code_has_independent_groups.ensures
+    local_stages_are_independent c.programs_have_verdicts.ensures c.local_code_has_independent_groups.ensures
