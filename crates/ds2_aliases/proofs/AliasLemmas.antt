@@ -342,7 +342,7 @@ module _ (names : SourceNames) where
       (each_of_map (λ (p : MethodParts). from_each (aliased_in_mention unit (is_named p.locals)) p.mentions) (parts_of_method (flags_in names)) names.methods
       ∙ sym (each_is (λ m. from_each (aliased_in_use names m) (uses_in names m)) (λ m. from_each (aliased_in_mention unit (is_named (local_names m))) (mentions_in_uses (flags_in names) (statements_uses (flags_in names) m.body))) method_is names.methods))
 
--- what hashed tables tell of a unit's calls, and its instances, give the earliest aliased argument
+-- what tables tell of a unit's calls, and its instances, give the earliest aliased argument
 pub unit_aliased : (c : Calls) (names : SourceNames) (instances : List PlacedName) → HasCalls c names → instances ≡ instance_names names
     → aliased_by_parts (unit_parts (calls_by_tables c) names.methods instances) ≡ earliest (aliased_arguments names)
 unit_aliased c names instances has h = (λ i. aliased_by_parts (unit_parts (calls_tell c names has i) names.methods (h i))) ∙ aliased_is names

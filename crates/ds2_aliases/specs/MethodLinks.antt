@@ -1,4 +1,4 @@
--- Hashed tables from a name to the methods that mention it, that call it, or that use the instance of it.
+-- Tables from a name to the methods that mention it, that call it, or that use the instance of it.
 use Rattle.std.specs.Prelude.{◌≡◌, ℕ, nat_eq, List, [], unwrap_or, Option, Some, None}
 use Rattle.std.specs.Cmp.Lexicographic.{pointwise}
 use Rattle.std.specs.HashMap.{HashMap, get}

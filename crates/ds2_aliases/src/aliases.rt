@@ -15,9 +15,8 @@ use crate::reach::{Links, Reached, is_reached, links_of_unit};
 use ds2_base::{OutOfMemory, Place};
 use ds2_calls::Calls;
 use ds2_mentions::{Mention, MethodParts, UnitParts, parts_of_unit};
-use ds2_scope::{Unit, UnitNames, earlier_of, earliest_later, place_unless};
+use ds2_scope::{NameTable, Unit, UnitNames, earlier_of, earliest_later, place_unless};
 use std::alloc::Global;
-use std::collections::HashMap;
 
 // The earliest second one of two names that a call hands over and that are one.
 fn repeated_in_mention(alloc: Global, mention: &Mention) -> Result<Option<Place>, OutOfMemory>
@@ -74,7 +73,7 @@ fn reached_handing(
 ) -> Result<Option<Place>, OutOfMemory>
     ensures { IfOk result (λ place. (unit : UnitParts) → AreLinks links.now unit → place ≡ earliest (from_each (reached_place unit) handings.now)) }
 {
-    let mut reached: Reached = HashMap::new(alloc);
+    let mut reached: Reached = NameTable::new(alloc);
     let mut found: Option<Place> = None;
     'handings: for h in handings {
         found = earlier_of(found, reached_place(alloc, links, &mut reached, h)?);

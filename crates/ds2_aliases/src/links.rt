@@ -1,4 +1,4 @@
-//! Hashed tables from a name to the methods that mention it, that call it, or that use the instance of it.
+//! Tables from a name to the methods that mention it, that call it, or that use the instance of it.
 ghost use Rattle.std.specs.Prelude.{◌≡◌, true, ◌||◌, ◌&&◌, ◌++◌, ◌∷◌, [], ℕ, List as Items, IfOk, OnOk, not, bytes_eq, if◌then◌else◌, nat_eq};
 ghost use Rattle.std.specs.Cmp.Lexicographic.{pointwise};
 ghost use Rattle.std.specs.HashSet.{contains};
@@ -9,9 +9,8 @@ ghost use Rattle.ds2_aliases.specs.MethodLinks.{linked, links_of_method, HasLink
 
 use ds2_base::{Bytes, List, OutOfMemory};
 use ds2_mentions::{Mention, MethodParts};
-use ds2_scope::{NameSet, add_name, name_set};
+use ds2_scope::{NameSet, NameTable, add_name, name_set};
 use std::alloc::Global;
-use std::collections::{HashMap, HashSet};
 
 /// What links a method to a name.
 #[derive(Clone, Copy)]
@@ -25,7 +24,7 @@ pub(crate) enum LinkKind {
 }
 
 /// For each name the methods that are linked to it.
-pub(crate) type LinkTable = HashMap<Bytes, List<Bytes>>;
+pub(crate) type LinkTable = NameTable<List<Bytes>>;
 
 // Adds a name, where no parameter or local hides it.
 fn push_unless_hidden(
@@ -250,8 +249,8 @@ pub(crate) fn links_of(
 ) -> Result<LinkTable, OutOfMemory>
     ensures { IfOk result (λ table. HasLinks table kind methods.now) }
 {
-    let mut seen: NameSet = HashSet::new(alloc);
-    let mut table: LinkTable = HashMap::new(alloc);
+    let mut seen = NameSet::new(alloc);
+    let mut table: LinkTable = NameTable::new(alloc);
     'methods: for m in methods {
         note_method(alloc, kind, &mut seen, &mut table, m)?;
     }

@@ -12,9 +12,8 @@ ghost use Rattle.ds2_aliases.specs.ReachedNames.{AreLinks, HasReached};
 use crate::links::{LinkKind, LinkTable, links_of};
 use ds2_base::{Bytes, List, OutOfMemory};
 use ds2_mentions::UnitParts;
-use ds2_scope::{NameSet, add_name};
+use ds2_scope::{NameSet, NameTable, add_name};
 use std::alloc::Global;
-use std::collections::{HashMap, HashSet};
 
 /// Which methods mention a name, call one and use an instance, which instances have a variable of a name, and how many methods there are.
 #[derive(Drop)]
@@ -27,7 +26,7 @@ pub(crate) struct Links {
 }
 
 /// For names, the methods that reach each.
-pub(crate) type Reached = HashMap<Bytes, NameSet>;
+pub(crate) type Reached = NameTable<NameSet>;
 
 /// The links of the methods and instances of a unit.
 pub(crate) fn links_of_unit(alloc: Global, parts: &UnitParts) -> Result<Links, OutOfMemory>
@@ -130,7 +129,7 @@ fn enter(alloc: Global, set: &mut NameSet, names: &[Bytes]) -> Result<List<Bytes
 fn reaching(alloc: Global, links: &Links, name: &Bytes) -> Result<NameSet, OutOfMemory>
     ensures { IfOk result (λ set. (unit : UnitParts) → AreLinks links.now unit → (method : Items ℕ) → contains (pointwise nat_eq) set method ≡ reaches unit name.now (length unit.methods) method) }
 {
-    let mut reached: NameSet = HashSet::new(alloc);
+    let mut reached = NameSet::new(alloc);
     let begun = mentioning(alloc, links, name)?;
     let mut next: List<Bytes> = begun;
     'layers: for _layer in 0..links.depth {

@@ -1,4 +1,4 @@
--- What hashed tables tell of the calls of a unit is what the definitions say of them.
+-- What tables tell of the calls of a unit is what the definitions say of them.
 use Rattle.std.proofs.Common.{◌≡◌, ℕ, List, [], length, Option, Some, None, refl, sym}
 use Rattle.std.specs.Prelude.{is_some, unwrap_or}
 use Rattle.std.specs.Option.{option_map, option_map_or}
@@ -94,14 +94,14 @@ flags_are names (callee.Function n) = flags_of_first (method_named names.methods
 flags_are names (callee.Null keyword) = refl
 flags_are names (callee.Method object dot method) = flags_if_any names.known (instance_named names.instances (spelled_name object)) (spelled_name method)
 
--- hashed tables tell what the units before a unit tell
+-- tables tell what the units before a unit tell
 units_tell : (c : Calls) (names : SourceNames) → HasCalls c names → units_in_tables c.known.now ≡ units_known names.known
 units_tell c names has = λ i. record {
   methods_of_package = λ name. has.of_units_before.packages name i;
   parameters_of_thread = λ name. has.of_units_before.threads name i;
 }
 
--- hashed tables tell what the definitions say of calls
+-- tables tell what the definitions say of calls
 pub calls_tell : (c : Calls) (names : SourceNames) → HasCalls c names → calls_by_tables c ≡ calls_of_names names
 calls_tell c names has = λ i. record {
   method = λ name. has.of_unit.by_method name i;

@@ -23,14 +23,14 @@ units_known known = record {
 abbrev pub methods_in_table : {S : Type 0} → HashMap (List ℕ) (List Bool) S → MethodParameters
 methods_in_table table = get (pointwise nat_eq) table
 
--- what hashed tables tell
+-- what tables tell
 abbrev pub units_in_tables : KnownCalls → UnitsByName
 units_in_tables k = record {
   methods_of_package = λ name. option_map methods_in_table (get (pointwise nat_eq) k.packages name);
   parameters_of_thread = get (pointwise nat_eq) k.threads;
 }
 
--- hashed tables tell what units tell
+-- tables tell what units tell
 pub record KnowsCalls (k : KnownCalls) (known : List KnownUnit) : Type 0 where
   pub packages : (name : List ℕ) → (units_in_tables k).methods_of_package name ≡ (units_known known).methods_of_package name
   pub threads : (name : List ℕ) → (units_in_tables k).parameters_of_thread name ≡ (units_known known).parameters_of_thread name

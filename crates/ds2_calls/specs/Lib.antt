@@ -1,5 +1,5 @@
 -- What the calls of a unit may mean, by the names in them: methods and their in_out parameters, instances, and the units that stand
--- before it; and what hashed tables tell of these.
+-- before it; and what tables tell of these.
 pub mod MethodFlags
 pub mod InstanceSorts
 pub mod KnownUnits

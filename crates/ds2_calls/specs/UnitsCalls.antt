@@ -1,4 +1,4 @@
--- What hashed tables tell of the calls of a unit.
+-- What tables tell of the calls of a unit.
 use Rattle.std.specs.Prelude.{nat_eq, List}
 use Rattle.std.specs.Cmp.Lexicographic.{pointwise}
 use Rattle.std.specs.HashMap.{get}
@@ -11,12 +11,12 @@ use Rattle.ds2_calls.specs.SortCalls.{CallsByName}
 use Rattle.ds2_calls.specs.declared.unit_calls.Calls.{Calls}
 use Rattle.ds2_calls.specs.declared.unit_calls.UnitCalls.{UnitCalls}
 
--- hashed tables of these methods and instances
+-- tables of these methods and instances
 pub record HasUnitCalls (c : UnitCalls) (methods : List Method) (instances : List SourceInstance) : Type 0 where
   pub by_method : HasMethods c.methods methods
   pub by_instance : HasSorts c.sorts instances
 
--- what hashed tables tell of calls
+-- what tables tell of calls
 abbrev pub calls_by_tables : Calls → CallsByName
 calls_by_tables c = record {
   method = get (pointwise nat_eq) c.unit.now.methods;
@@ -32,7 +32,7 @@ calls_of_names names = record {
   units = units_known names.known;
 }
 
--- hashed tables tell what the calls of a unit may mean
+-- tables tell what the calls of a unit may mean
 pub record HasCalls (c : Calls) (names : SourceNames) : Type 0 where
   pub of_unit : HasUnitCalls c.unit.now names.methods names.instances
   pub of_units_before : KnowsCalls c.known.now names.known

@@ -1,4 +1,4 @@
-//! A hashed table of the instances of a unit.
+//! A table of the instances of a unit.
 ghost use Rattle.std.specs.Prelude.{◌≡◌, ◌++◌, ℕ, List as Items, IfOk, OnOk, nat_eq, map};
 ghost use Rattle.std.specs.Cmp.Lexicographic.{pointwise};
 ghost use Rattle.std.specs.HashMap.{get};
@@ -9,11 +9,10 @@ ghost use Rattle.ds2_names.specs.SourceUnit.{spelled_name, spelled_text, bracket
 ghost use Rattle.ds2_calls.specs.InstanceSorts.{bracketed_names, sort_if_spelled, sort_in, HasSorts};
 
 use ds2_base::{Bytes, List, OutOfMemory};
-use ds2_scope::spelled_name;
+use ds2_scope::{NameTable, spelled_name};
 use ds2_token::Token;
 use ds2_tree::{Bracketed, BracketedName, Declaration, GlobalItem};
 use std::alloc::Global;
-use std::collections::HashMap;
 
 /// What an instance is one of.
 #[derive(Drop)]
@@ -29,7 +28,7 @@ pub enum Sort {
 }
 
 /// For each instance, by its name, what it is one of.
-pub type SortTable = HashMap<Bytes, Sort>;
+pub type SortTable = NameTable<Sort>;
 
 /// The name that the text constant of a table or a hash object spells. Bytes that are no text, as no constant has them, are want of memory.
 #[tactic(auto, using(crate::proofs::SortLemmas::text_told))]
@@ -136,7 +135,7 @@ fn note_global(alloc: Global, sorts: &mut SortTable, global: &GlobalItem) -> Res
 pub fn instance_sorts(alloc: Global, globals: &[GlobalItem]) -> Result<SortTable, OutOfMemory>
     ensures { IfOk result (λ table. HasSorts table (source_instances (map global_tree globals.now))) }
 {
-    let mut sorts: SortTable = HashMap::new(alloc);
+    let mut sorts: SortTable = NameTable::new(alloc);
     'globals: for global in globals {
         note_global(alloc, &mut sorts, global)?;
     }

@@ -1,6 +1,6 @@
 //! What the calls of a unit may mean: its own methods, functions, and the methods of its instances.
 //!
-//! `methods` and `instances` have hashed tables of a unit's methods and instances, `known_calls` those of the units that stand before it; `UnitCalls`
+//! `methods` and `instances` have tables of a unit's methods and instances, `known_calls` those of the units that stand before it; `UnitCalls`
 //! and `Calls` put them together. `functions` and `sorts` tell how many arguments a call takes, and which parameters are in_out.
 #![tactic(auto)]
 

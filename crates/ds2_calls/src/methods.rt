@@ -1,4 +1,4 @@
-//! A hashed table of the methods of a unit.
+//! A table of the methods of a unit.
 ghost use Rattle.std.specs.Prelude.{◌≡◌, ℕ, List as Items, IfOk, OnOk, nat_eq, map, option_copied};
 ghost use Rattle.std.specs.Cmp.Lexicographic.{pointwise};
 ghost use Rattle.std.specs.HashMap.{get};
@@ -10,13 +10,12 @@ ghost use Rattle.ds2_scope.specs.Collected.{methods_in};
 ghost use Rattle.ds2_calls.specs.MethodFlags.{are_in_out, flags_of_method, flags_if_named, HasMethods};
 
 use ds2_base::{Bytes, List, OutOfMemory};
-use ds2_scope::spelled_name;
+use ds2_scope::{NameTable, spelled_name};
 use ds2_tree::{GlobalItem, Method, Parameter};
 use std::alloc::Global;
-use std::collections::HashMap;
 
 /// For each name of a method its parameters: whether each is in_out.
-pub type MethodFlags = HashMap<Bytes, List<bool>>;
+pub type MethodFlags = NameTable<List<bool>>;
 
 // For each parameter whether it is in_out.
 fn in_out_flags(alloc: Global, parameters: &[Parameter]) -> Result<List<bool>, OutOfMemory>
@@ -60,7 +59,7 @@ fn note_global(
 pub fn method_flags(alloc: Global, globals: &[GlobalItem]) -> Result<MethodFlags, OutOfMemory>
     ensures { IfOk result (λ table. HasMethods table (source_methods (map global_tree globals.now))) }
 {
-    let mut methods: MethodFlags = HashMap::new(alloc);
+    let mut methods: MethodFlags = NameTable::new(alloc);
     'globals: for global in globals {
         note_global(alloc, &mut methods, global)?;
     }

@@ -15,7 +15,7 @@ use ds2_scope::spelled_name;
 use ds2_tree::{Callee, GlobalItem};
 use std::alloc::Global;
 
-/// Hashed tables of the methods and instances of a unit.
+/// Tables of the methods and instances of a unit.
 #[derive(Drop)]
 pub struct UnitCalls {
     pub methods: MethodFlags,

@@ -283,6 +283,17 @@ fn run_program<S: Store>(
 
 // ---- programs
 
+/// The names of the tables of which rows are kept, which are let go by a call.
+pub(crate) struct KeptNames {
+    pub(crate) names: NameSet,
+}
+
+impl Drop for KeptNames {
+    fn drop(self) {
+        let KeptNames { names: _ } = self;
+    }
+}
+
 /// Runs programs one behind the other, each over the tables of the store that were read and those that earlier ones have made: `init`, `run`
 /// on each load, `term`, each with this budget of at most [`ds2_machine::MOST_BUDGET`] steps and calls; behind `init` the thread program that
 /// it reads from, if any, with its groups at the grain of its verdict. A program that ends without fault writes its tables; the first fault
@@ -304,7 +315,8 @@ pub fn run_programs<S: Store>(
     ensures write { CausedBy Status.Write result (S.write_faults store.old) (S.write_faults store.new) }
 {
     let references = references_of(alloc, codes)?;
-    let kept = names_kept(alloc, references.as_slice())?;
+    let names = names_kept(alloc, references.as_slice())?;
+    let kept = KeptNames { names };
     let key = key_of_run(alloc, codes, stored)?;
     let mut made: List<List<KeptTable>> = List::new(alloc);
     let mut left = codes;
@@ -313,7 +325,7 @@ pub fn run_programs<S: Store>(
         let tables = run_program(
             alloc,
             code,
-            &kept,
+            &kept.names,
             stored,
             made.as_slice(),
             key,

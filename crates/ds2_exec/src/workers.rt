@@ -23,7 +23,7 @@ ghost use Rattle.ds2_exec.specs.Workers.{threads_of_reading, within_workers, wor
 
 use crate::key::key_of_run;
 use crate::output_rows::sinks_of;
-use crate::programs::{CodeEnd, code_end, settle, tables_of_code};
+use crate::programs::{CodeEnd, KeptNames, code_end, settle, tables_of_code};
 use crate::stages::{grains_of, local_grain};
 use ds2_answer::Status;
 use ds2_base::{Bytes, List, OutOfMemory};
@@ -199,7 +199,8 @@ pub fn run_programs_with<S: Store, G: Gate + Sync, W: Threads + Wait + Sync>(
     ensures write { CausedBy Status.Write result (S.write_faults store.old) (S.write_faults store.new) }
 {
     let references = references_of(alloc, codes)?;
-    let kept = names_kept(alloc, references.as_slice())?;
+    let names = names_kept(alloc, references.as_slice())?;
+    let kept = KeptNames { names };
     let key = key_of_run(alloc, codes, stored)?;
     let mut made: List<List<KeptTable>> = List::new(alloc);
     let mut left = codes;
@@ -209,7 +210,7 @@ pub fn run_programs_with<S: Store, G: Gate + Sync, W: Threads + Wait + Sync>(
             rt,
             alloc,
             code,
-            &kept,
+            &kept.names,
             stored,
             made.as_slice(),
             key,

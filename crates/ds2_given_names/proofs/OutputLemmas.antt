@@ -1,4 +1,4 @@
--- The columns of outputs by hashed tables, and what outputs break.
+-- The columns of outputs by tables of names, and what outputs break.
 use Rattle.std.proofs.Common.{◌≡◌, ℕ, Bool, true, false, not, ◌||◌, ◌&&◌, List, [], ◌∷◌, ◌++◌, length, nat_eq, bytes_eq, Option, Some, None, refl, sym, ap, ◌∙◌, arith}
 use Rattle.std.specs.Prelude.{if◌then◌else◌, codes, map, filter}
 use Rattle.std.specs.Cmp.Lexicographic.{pointwise}

@@ -1,4 +1,4 @@
-//! The names that `keep` and `drop` list, as hashed tables.
+//! The names that `keep` and `drop` list, as sets.
 
 use ds2_scope::NameSet;
 

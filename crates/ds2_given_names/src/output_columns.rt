@@ -11,12 +11,11 @@ use crate::lists::KeepDrop;
 use crate::renamed::NewNames;
 use ds2_base::{Bytes, List, OutOfMemory, Place};
 use ds2_names::{OutputName, PlacedName};
-use ds2_scope::{earlier_of, is_earlier, place_unless};
+use ds2_scope::{NameTable, earlier_of, is_earlier, place_unless};
 use std::alloc::Global;
-use std::collections::HashMap;
 
 // For each name of columns the earliest place, None where one of them is not renamed.
-type FirstNew = HashMap<Bytes, Option<Place>>;
+type FirstNew = NameTable<Option<Place>>;
 
 // Whether a variable is a column.
 fn is_column(statements: &KeepDrop, options: &KeepDrop, name: &Bytes) -> bool
@@ -103,7 +102,7 @@ fn note_column(alloc: Global, firsts: &mut FirstNew, n: &OutputName) -> Result<(
 fn first_columns(alloc: Global, columns: &[OutputName]) -> Result<FirstNew, OutOfMemory>
     ensures { IfOk result (λ firsts. HasFirstNew firsts columns.now) }
 {
-    let mut firsts: FirstNew = HashMap::new(alloc);
+    let mut firsts: FirstNew = NameTable::new(alloc);
     'columns: for n in columns {
         note_column(alloc, &mut firsts, n)?;
     }

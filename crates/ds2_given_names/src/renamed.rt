@@ -6,15 +6,14 @@ ghost use Rattle.std.specs.Option.{option_or};
 ghost use Rattle.ds2_names.specs.NameRules.{from_each, renamings_in, renamed_to};
 ghost use Rattle.ds2_given_names.specs.OutputParts.{HasNewNames, new_name_of};
 
-use ds2_base::{Bytes, OutOfMemory};
+use ds2_base::OutOfMemory;
 use ds2_names::PlacedName;
-use ds2_scope::{placed_name, spelled_name};
+use ds2_scope::{NameTable, placed_name, spelled_name};
 use ds2_tree::{OutputOption, Renaming};
 use std::alloc::Global;
-use std::collections::HashMap;
 
 /// For each old name the first new one.
-pub type NewNames = HashMap<Bytes, PlacedName>;
+pub type NewNames = NameTable<PlacedName>;
 
 // Adds a renaming, unless the old name has a new one.
 fn note_renaming(alloc: Global, news: &mut NewNames, r: &Renaming) -> Result<(), OutOfMemory>
@@ -57,7 +56,7 @@ fn note_option(alloc: Global, news: &mut NewNames, option: &OutputOption) -> Res
 pub fn new_names(alloc: Global, options: &[OutputOption]) -> Result<NewNames, OutOfMemory>
     ensures { IfOk result (λ news. HasNewNames news (from_each renamings_in options.now)) }
 {
-    let mut news: NewNames = HashMap::new(alloc);
+    let mut news: NewNames = NameTable::new(alloc);
     'options: for option in options {
         note_option(alloc, &mut news, option)?;
     }

@@ -1,4 +1,4 @@
--- The tests of hashed tables are those of a unit's names, and the rules by tests are the rules.
+-- The tests of tables are those of a unit's names, and the rules by tests are the rules.
 use Rattle.std.proofs.Common.{◌≡◌, ℕ, Bool, true, false, not, ◌&&◌, ◌||◌, List, [], ◌∷◌, ◌++◌, length, nat_eq, bytes_eq, Option, Some, None, refl, sym, ap, ◌∙◌}
 use Rattle.std.specs.Prelude.{if◌then◌else◌, is_some, unwrap_or, map}
 use Rattle.std.specs.Option.{option_map, option_map_or}
@@ -86,7 +86,7 @@ some_mapped : {A B : Type 0} (f : A → B) (x : Option A) → is_some (option_ma
 some_mapped f None = refl
 some_mapped f (Some a) = refl
 
--- the tests of hashed tables are those of a unit's names
+-- the tests of tables are those of a unit's names
 pub tests_are : (s : InstanceScope) (names : SourceNames) → AreGlobalTables s.globals.now names → HasCalls s.calls.now names → tests_in_tables s ≡ tests_of_unit names
 tests_are s names h c = λ j. record {
   is_global = λ name. global name j;

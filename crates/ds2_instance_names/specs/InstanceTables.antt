@@ -1,4 +1,4 @@
--- Hashed tables of a unit's globals, and the tests that these make.
+-- Tables of a unit's globals, and the tests that these make.
 use Rattle.std.specs.Prelude.{◌≡◌, ℕ, Bool, true, false, not, ◌&&◌, ◌||◌, nat_eq, is_some, unwrap_or, List, [], Option, Some, None}
 use Rattle.std.specs.Cmp.Lexicographic.{pointwise}
 use Rattle.std.specs.HashSet.{contains}
@@ -15,7 +15,7 @@ use Rattle.ds2_instance_names.specs.InstanceTests.{InstanceTests}
 use Rattle.ds2_instance_names.specs.declared.tables.GlobalTables.{GlobalTables}
 use Rattle.ds2_instance_names.specs.declared.tables.InstanceScope.{InstanceScope}
 
--- hashed tables of a unit's globals
+-- tables of a unit's globals
 pub record AreGlobalTables (t : GlobalTables) (names : SourceNames) : Type 0 where
   pub variables : HasNames t.variables (names_alone (vector_names names))
   pub parameters : HasNames t.parameters (names_alone names.parameters)
@@ -36,7 +36,7 @@ is_hash_object _ = false
 abbrev pub constructor_among : Option MethodParameters → List ℕ → Option (List Bool)
 constructor_among methods name = option_map (λ (m : MethodParameters). unwrap_or (m name) []) methods
 
--- the tests that hashed tables make
+-- the tests that tables make
 abbrev pub tests_in_tables : InstanceScope → InstanceTests
 tests_in_tables s =
     let t = s.globals.now in record {

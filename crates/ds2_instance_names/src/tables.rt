@@ -1,4 +1,4 @@
-//! Hashed tables of a unit's globals, and tests on names by them.
+//! Tables of a unit's globals, and tests on names by them.
 ghost use Rattle.std.specs.Prelude.{◌≡◌, IfOk, nat_eq, option_copied};
 ghost use Rattle.ds2_calls.specs.KnownUnits.{units_in_tables};
 ghost use Rattle.ds2_instance_names.specs.InstanceTables.{AreGlobalTables, constructor_among, is_hash_object, tests_in_tables};
@@ -10,7 +10,7 @@ use ds2_calls::{Calls, KnownCalls, Sort};
 use ds2_scope::{NameSet, UnitNames, name_set};
 use std::alloc::Global;
 
-/// Hashed tables of a unit's globals.
+/// Tables of a unit's globals.
 #[derive(Drop)]
 pub(crate) struct GlobalTables {
     /// Declared variables and columns.

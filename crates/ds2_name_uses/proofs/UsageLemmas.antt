@@ -176,7 +176,7 @@ member_there : (o : Option SourceInstance) (member : Token) → unknown_member_o
 member_there None member = refl
 member_there (Some x) member = ap (λ t. place_unless (t && bytes_eq (spelled_name member) (codes "num_items")) member.place) (hash_is x.sort)
 
--- hashed tables tell which globals are there
+-- tables tell which globals are there
 pub global_by_tables : (names : SourceNames) (s : Scope) → AreTablesOf s.unit.now names → HasCalls s.calls names → (name : List ℕ) → may_be_global names name ≡ is_global_there (tests_by s) name
 global_by_tables names s t has name =
     global_is names name ∙ sym (λ i. t.settable name i || (t.flags name i || (is_some ((calls_tell s.calls names has i).sort_of_instance name) || t.is_open i)))
@@ -290,7 +290,7 @@ module _ (names : SourceNames) (m : Method) where
   broken_is usage.WrongCount u = wrong_count_is u
   broken_is usage.MisplacedSetting u = misplaced_is u
 
-  -- the tests that hashed tables make are those on names
+  -- the tests that tables make are those on names
   tests_are : (s : Scope) → AreTablesOf s.unit.now names → HasCalls s.calls names → HasNames s.locals (names_alone (local_names m)) → s.is_init ≡ is_system_method (codes "init") names m
       → tests_by s ≡ tests_of names m
   tests_are s t has l init = λ i. record {

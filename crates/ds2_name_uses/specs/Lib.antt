@@ -1,4 +1,4 @@
--- What a use of a name breaks, by tests on names, what hashed tables of names tell, and what a unit breaks of the rules on uses.
+-- What a use of a name breaks, by tests on names, what tables of names tell, and what a unit breaks of the rules on uses.
 pub mod UseRules
 pub mod ScopeTables
 pub mod ListedParts

@@ -1,4 +1,4 @@
--- The names of a unit in hashed tables, and the tests that these make.
+-- The names of a unit in tables, and the tests that these make.
 use Rattle.std.specs.Prelude.{◌≡◌, not, ◌&&◌, nat_eq, bytes_eq, codes}
 use Rattle.std.specs.Cmp.Lexicographic.{pointwise}
 use Rattle.std.specs.HashSet as set
@@ -10,7 +10,7 @@ use Rattle.ds2_name_uses.specs.declared.scope.Scope.{Scope}
 use Rattle.ds2_name_uses.specs.UseRules.{NameTests, settable_names}
 use Rattle.ds2_scope.specs.NameSets.{HasNames}
 
--- hashed tables of what a unit gives names to
+-- tables of what a unit gives names to
 pub record AreTablesOf (t : UnitTables) (names : SourceNames) : Type 0 where
   pub settable : HasNames t.settable (names_alone (settable_names names))
   pub flags : HasNames t.flags (names_alone names.flags)
@@ -19,7 +19,7 @@ pub record AreTablesOf (t : UnitTables) (names : SourceNames) : Type 0 where
   pub is_open : t.is_open ≡ not (columns_are_known names)
   pub is_program : t.is_program ≡ not (is_package names.unit.kind)
 
--- the tests that hashed tables make
+-- the tests that tables make
 abbrev pub tests_by : Scope → NameTests
 tests_by s = record {
   is_local = set.contains (pointwise nat_eq) s.locals;

@@ -1,4 +1,4 @@
-//! What a method of a unit sees: hashed tables of names.
+//! What a method of a unit sees: tables of names.
 ghost use Rattle.std.specs.Prelude.{◌≡◌};
 
 use ds2_calls::Calls;
@@ -15,7 +15,7 @@ pub(crate) enum UsageRule {
     MisplacedSetting,
 }
 
-/// Hashed tables of what a unit gives names to, beside its methods and instances.
+/// Tables of what a unit gives names to, beside its methods and instances.
 #[derive(Drop)]
 pub(crate) struct UnitTables {
     /// What may be set: declared variables, columns, and the parameters of a thread program.

@@ -1,4 +1,4 @@
-//! Hashed tables of what a unit gives names to.
+//! Tables of what a unit gives names to.
 ghost use Rattle.std.specs.Prelude.{◌≡◌, ◌++◌, ℕ, List as Items, IfOk, OnOk, nat_eq, not, ◌||◌};
 ghost use Rattle.std.specs.Cmp.Lexicographic.{pointwise};
 ghost use Rattle.std.specs.HashSet.{contains};

@@ -17,7 +17,6 @@ use ds2_calls::Calls;
 use ds2_names::{NamedSchema, PlacedName};
 use ds2_scope::{NameSet, Unit, UnitNames, earlier_of, reading_of_unit, stage_of, tables_of};
 use std::alloc::Global;
-use std::collections::HashSet;
 
 /// The earliest places at which a unit breaks the rules on uses of names, None where it does not.
 #[derive(Clone, Copy)]
@@ -68,7 +67,7 @@ pub fn broken_uses(
 {
     let globals = unit.globals;
     let own = tables_of_unit(alloc, names, unit.kind)?;
-    let outside: NameSet = HashSet::new(alloc);
+    let outside = NameSet::new(alloc);
     let scope = Scope::over(UsageRule::UnknownName, &own, calls, outside, false);
     let beside = unknown_beside_uses(alloc, tables, names.bys.as_slice(), &scope, unit)?;
     let used = in_methods(alloc, &own, calls, UsageRule::UnknownName, globals)?;

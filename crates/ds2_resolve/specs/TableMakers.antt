@@ -1,4 +1,4 @@
--- Which data program makes a table, as a hashed table tells.
+-- Which data program makes a table.
 use Rattle.std.specs.Prelude.{ℕ, Bool, not, ◌&&◌, nat_eq, bytes_eq, codes, unwrap_or, List}
 use Rattle.std.specs.Cmp.Lexicographic.{pointwise}
 use Rattle.std.specs.HashMap.{HashMap, get}

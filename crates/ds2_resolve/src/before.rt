@@ -21,12 +21,12 @@ use ds2_base::{Bytes, List, OutOfMemory, Place};
 use ds2_calls::KnownCalls;
 use ds2_names::PlacedName;
 use ds2_scope::{
-    Instance, KnownThread, KnownUnits, NameSet, Unit, UnitKind, earlier_of, one_more, spelled_name,
+    Instance, KnownThread, KnownUnits, NameSet, NameTable, Unit, UnitKind, earlier_of, one_more,
+    spelled_name,
 };
 use ds2_token::Token;
 use ds2_tree::{DataProgram, GlobalItem, OutputTable, Package, Source, Thread};
 use std::alloc::Global;
-use std::collections::{HashMap, HashSet};
 
 /// What stands before a unit of a source.
 #[derive(Drop)]
@@ -155,8 +155,8 @@ impl UnitsBefore {
             known: KnownUnits::new(alloc),
             calls: KnownCalls::new(alloc),
             count: 0,
-            makers: HashMap::new(alloc),
-            mentioned: HashSet::new(alloc),
+            makers: NameTable::new(alloc),
+            mentioned: NameSet::new(alloc),
             room: 16,
             tokens,
         }

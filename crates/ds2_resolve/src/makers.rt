@@ -3,13 +3,12 @@ ghost use Rattle.std.specs.Prelude.{◌≡◌, ℕ, List as Items, OnOk, if◌th
 ghost use Rattle.ds2_resolve.specs.TableMakers.{maker_in, makes_table, makes_one};
 
 use ds2_base::{Bytes, OutOfMemory};
-use ds2_scope::spelled_name;
+use ds2_scope::{NameTable, spelled_name};
 use ds2_tree::OutputTable;
 use std::alloc::Global;
-use std::collections::HashMap;
 
 /// For each table that data programs make, the number of the last program that makes it, from 1.
-pub type Makers = HashMap<Bytes, u32>;
+pub type Makers = NameTable<u32>;
 
 /// The number of the last program that makes a table, 0 where none does.
 pub fn maker_of(makers: &Makers, name: &Bytes) -> u32

@@ -1,3 +1,4 @@
+pub mod NameTableLemmas
 pub mod EarliestLemmas
 pub mod LesserLemmas
 pub mod NamedLemmas

@@ -1,4 +1,4 @@
--- The earliest place of each name, as a hashed table of names tells it.
+-- The earliest place of each name, as a table by names tells it.
 use Rattle.std.specs.Prelude.{◌≡◌, ℕ, Bool, false, nat_eq, bytes_eq, not, ◌&&◌, if◌then◌else◌, List, [], ◌∷◌, Option, Some, None}
 use Rattle.std.specs.Cmp.Lexicographic.{pointwise}
 use Rattle.std.specs.HashMap.{HashMap, get}

@@ -6,30 +6,27 @@ ghost use Rattle.ds2_meaning.specs.ProgramTree.{is_listed};
 ghost use Rattle.ds2_names.specs.SourceUnit.{names_alone, columns_stored};
 ghost use Rattle.ds2_scope.specs.NameSets.{HasNames, column_names, AddsColumns, AddsAllColumns, stage_column_by, stage_columns_by};
 
+use crate::name_table::NameSet;
 use crate::names::spelled_name;
 use ds2_base::{Bytes, List, OutOfMemory, Place};
 use ds2_names::{NamedSchema, PlacedName};
 use ds2_tree::Input;
 use ds2_value::Column;
 use std::alloc::Global;
-use std::collections::HashSet;
-
-/// A set of names.
-pub type NameSet = HashSet<Bytes>;
 
 /// Adds a name; true exactly where it was not there.
 pub fn add_name(alloc: Global, set: &mut NameSet, name: &[u8]) -> Result<bool, OutOfMemory>
     ensures new { IfOk result (λ added. added ≡ not (contains (pointwise nat_eq) set.old name.now)) }
     ensures names { OnOk result ((other : Items ℕ) → contains (pointwise nat_eq) set.new other ≡ (bytes_eq name.now other || contains (pointwise nat_eq) set.old other)) }
 {
-    Ok(set.insert(List::from_slice(alloc, name)?)?)
+    set.insert(List::from_slice(alloc, name)?)
 }
 
 /// The set of these names.
 pub fn name_set(alloc: Global, names: &[PlacedName]) -> Result<NameSet, OutOfMemory>
     ensures { IfOk result (λ set. HasNames set (names_alone names.now)) }
 {
-    let mut set: NameSet = HashSet::new(alloc);
+    let mut set = NameSet::new(alloc);
     'names: for n in names {
         add_name(alloc, &mut set, n.name.as_slice())?;
     }
@@ -40,7 +37,7 @@ pub fn name_set(alloc: Global, names: &[PlacedName]) -> Result<NameSet, OutOfMem
 pub fn column_set(alloc: Global, columns: &[Column]) -> Result<NameSet, OutOfMemory>
     ensures { IfOk result (λ set. HasNames set (column_names columns.now)) }
 {
-    let mut set: NameSet = HashSet::new(alloc);
+    let mut set = NameSet::new(alloc);
     'columns: for column in columns {
         add_name(alloc, &mut set, column.name.as_str().as_bytes())?;
     }

@@ -2,8 +2,8 @@
 //!
 //! Each rule of `ds2_names` has a function that gives the earliest place at which the rule is broken; `BrokenRules` puts them together.
 //! Here stand what these functions share: a unit of any kind (`Unit`), the instances that it declares, the packages and thread programs
-//! before it (`KnownUnits`), its names in lists and in hashed sets; and parts of the rule on names that are given twice. No list of names
-//! is walked for each use.
+//! before it (`KnownUnits`), its names in lists and in sets; and parts of the rule on names that are given twice. No list of names
+//! is walked for each use: a table by names that a source may have any number of finds them by their order (`NameTable`).
 #![tactic(auto)]
 
 mod collected;
@@ -13,6 +13,7 @@ mod earliest;
 mod instances;
 mod known;
 pub mod laws;
+mod name_table;
 mod names;
 mod reading;
 mod refusal;
@@ -21,11 +22,12 @@ mod unit;
 mod unit_names;
 
 pub use collected::{declared_names, local_names, method_names, output_names, renamed_names};
-pub use columns::{NameSet, add_columns, add_name, column_set, columns_of, name_set};
+pub use columns::{add_columns, add_name, column_set, columns_of, name_set};
 pub use duplicates::{repeated_local, repeated_method, repeated_output, repeated_renaming};
 pub use earliest::{earlier, earlier_of, is_earlier, place_unless};
 pub use instances::{Instance, InstanceSort, instance_names, instances_of};
 pub use known::{KnownThread, KnownUnits, one_more};
+pub use name_table::{NameSet, NameTable};
 pub use names::{is_system_name, placed_name, push_names, spelled_name};
 pub use reading::{
     by_names, bys_of, push_flags, reading_of_run, reads_thread, stage_of, tables_of,

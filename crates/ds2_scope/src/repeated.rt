@@ -7,13 +7,13 @@ ghost use Rattle.ds2_scope.specs.Earliest.{earlier_of, earliest};
 ghost use Rattle.ds2_scope.specs.NamedPlaces.{first_place_of, place_if_named, stands_behind, place_if_before, HasFirstPlaces};
 
 use crate::earliest::{earlier, earlier_of, is_earlier, place_unless};
-use ds2_base::{Bytes, List, OutOfMemory, Place};
+use crate::name_table::NameTable;
+use ds2_base::{List, OutOfMemory, Place};
 use ds2_names::PlacedName;
 use std::alloc::Global;
-use std::collections::HashMap;
 
 // For each name the earliest place at which it is given.
-type FirstPlaces = HashMap<Bytes, Place>;
+type FirstPlaces = NameTable<Place>;
 
 // Adds a name to the table.
 fn note(alloc: Global, firsts: &mut FirstPlaces, n: &PlacedName) -> Result<(), OutOfMemory>
@@ -29,7 +29,7 @@ fn note(alloc: Global, firsts: &mut FirstPlaces, n: &PlacedName) -> Result<(), O
 fn first_places(alloc: Global, names: &[PlacedName]) -> Result<FirstPlaces, OutOfMemory>
     ensures { IfOk result (λ firsts. HasFirstPlaces firsts names.now) }
 {
-    let mut firsts: FirstPlaces = HashMap::new(alloc);
+    let mut firsts: FirstPlaces = NameTable::new(alloc);
     'names: for n in names {
         note(alloc, &mut firsts, n)?;
     }

@@ -13,7 +13,6 @@ use ds2_names::PlacedName;
 use ds2_scope::NameSet;
 use ds2_tree::{Source, SourcePart};
 use std::alloc::Global;
-use std::collections::HashSet;
 
 /// How many tables of the store a source may mention.
 pub const MOST_TABLES: usize = 16;
@@ -22,7 +21,7 @@ pub const MOST_TABLES: usize = 16;
 fn source_inputs(alloc: Global, parts: &[SourcePart]) -> Result<List<PlacedName>, OutOfMemory>
     ensures { IfOk result (λ tables. tables ≡ source_inputs (map part_tree parts.now)) }
 {
-    let mut known: NameSet = HashSet::new(alloc);
+    let mut known = NameSet::new(alloc);
     let mut first: List<PlacedName> = List::new(alloc);
     'parts: for part in parts {
         add_part(alloc, &mut known, &mut first, part)?;

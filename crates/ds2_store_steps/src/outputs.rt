@@ -19,7 +19,6 @@ use ds2_outside::Store;
 use ds2_scope::{NameSet, add_name};
 use ds2_valid_code::ProgramCode;
 use std::alloc::Global;
-use std::collections::HashSet;
 
 // Refuses an output whose table an earlier one makes.
 fn refuse_made(alloc: Global, name: &Name, log: &mut Bytes) -> Halt
@@ -107,7 +106,7 @@ pub fn ask_outputs<S: Store>(
     ensures read { CausedBy Status.Read result (S.read_faults store.old) (S.read_faults store.new) }
     ensures write { CausedBy Status.Write result (S.write_faults store.old) (S.write_faults store.new) }
 {
-    let mut made: NameSet = HashSet::new(alloc);
+    let mut made = NameSet::new(alloc);
     let mut left = codes;
     'codes: while let [code, after @ ..] = left {
         let outputs = code.parts().program.outputs.as_slice();

@@ -25,7 +25,6 @@ use ds2_table::Table;
 use ds2_valid_code::ProgramCode;
 use ds2_value::{Column, Ty, copy_columns};
 use std::alloc::Global;
-use std::collections::HashSet;
 use std::sync::Arc;
 
 // ---- the references of code
@@ -253,7 +252,7 @@ fn add_input(
 pub fn inputs_of(alloc: Global, references: &[TableReference]) -> Result<List<Name>, OutOfMemory>
     ensures { IfOk result (λ names. names ≡ first_referred none_made references.now) }
 {
-    let mut known: NameSet = HashSet::new(alloc);
+    let mut known = NameSet::new(alloc);
     let mut names: List<Name> = List::new(alloc);
     let mut left = references;
     'references: while let [reference, after @ ..] = left {
@@ -275,7 +274,7 @@ fn add_made(alloc: Global, names: &mut NameSet, name: &Name) -> Result<(), OutOf
 pub fn names_kept(alloc: Global, references: &[TableReference]) -> Result<NameSet, OutOfMemory>
     ensures { IfOk result (λ names. AllByRecursion (IsKeptName (contains (pointwise nat_eq) names)) references.now) }
 {
-    let mut names: NameSet = HashSet::new(alloc);
+    let mut names = NameSet::new(alloc);
     let mut left = references;
     'references: while let [reference, after @ ..] = left {
         if reference.maker != 0 {

@@ -10,6 +10,6 @@ use Rattle.ds2_aliases.proofs.links.link.Goals as goal
 pub returns : goal.returns
 returns c = λ other m.
     let method = c.args.method.now in
-    let put = c.in_ok-insert.ensures.updates.0 other in
+    let put = c.in_ok-insert.ensures.updates other in
     one_link (linked c.args.table.now) c.args.name.now method other m (get (pointwise nat_eq) c.take_linked-methods.new.table other) (get (pointwise nat_eq) c.insert.new.self other) c.push_method.new.methods
     (λ x. c.in_ok-push_method.ensures x ∙ ap (λ ms. is_listed ms x || bytes_eq method x) c.take_linked-methods.ensures.taken) (c.take_linked-methods.ensures.others other) (grind (arith, common_steps, put))

@@ -21,6 +21,6 @@ returns-clause-answer c = λ unit are has. c.contains-answer.ensures ∙ c.in_ok
 pub returns-clause-table : goal.returns-clause-table
 returns-clause-table c = λ unit are has. λ other.
     let name = c.args.name.now in
-    let put = c.in_ok-insert.ensures.updates.0 other in
+    let put = c.in_ok-insert.ensures.updates other in
     one_more_reached unit name other c.in_ok-set.set (get (pointwise nat_eq) c.args.reached.now other) (get (pointwise nat_eq) c.insert.new.self other)
     (λ method. c.in_ok-set.ensures unit are method) (has other) (grind (arith, common_steps, put))

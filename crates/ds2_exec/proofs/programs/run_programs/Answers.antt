@@ -14,10 +14,10 @@ returns-in_err-references-clause-does g c =
     no_memory (plan_of (verdict_named c.args.verdicts.now) c.args.budget c.args.stored.now c.args.codes.now []) (λ (_ : Unit {0}). Stops Done) c.args.log.now c.args.log.now (g.S.Store.files c.args.store.now) (g.S.Store.files c.args.store.now) c.from_residual.result
     c.from_residual.ensures.1 refl
 
-pub returns-in_err-kept-clause-does : goal.returns-in_err-kept-clause-does
-returns-in_err-kept-clause-does g c =
-    no_memory (plan_of (verdict_named c.args.verdicts.now) c.args.budget c.args.stored.now c.args.codes.now []) (λ (_ : Unit {0}). Stops Done) c.args.log.now c.args.log.now (g.S.Store.files c.args.store.now) (g.S.Store.files c.args.store.now) c.from_residual-in_err-kept.result
-    c.from_residual-in_err-kept.ensures.1 refl
+pub returns-in_err-names-clause-does : goal.returns-in_err-names-clause-does
+returns-in_err-names-clause-does g c =
+    no_memory (plan_of (verdict_named c.args.verdicts.now) c.args.budget c.args.stored.now c.args.codes.now []) (λ (_ : Unit {0}). Stops Done) c.args.log.now c.args.log.now (g.S.Store.files c.args.store.now) (g.S.Store.files c.args.store.now) c.from_residual-in_err-names.result
+    c.from_residual-in_err-names.ensures.1 refl
 
 pub key_of_run-requires : goal.key_of_run-requires
 key_of_run-requires g c = c.requires.linked.links
@@ -29,10 +29,10 @@ returns-in_err-key-clause-does g c =
 
 pub loop-left-init : goal.loop-left-init
 loop-left-init g c =
-    let keeps = contains (pointwise nat_eq) c.in_ok-kept.kept in
+    let keeps = contains (pointwise nat_eq) c.in_ok-names.names in
     record {
       run = running_begins keeps (verdict_named c.args.verdicts.now) c.args.budget c.args.stored.now c.args.codes.now c.as_slice.result.now c.new-made.result c.args.log.now (g.S.Store.files c.args.store.now) c.requires.fit c.requires.linked
-          (c.as_slice.ensures ∙ c.in_ok-references.ensures) c.in_ok-kept.ensures c.new-made.ensures;
+          (c.as_slice.ensures ∙ c.in_ok-references.ensures) c.in_ok-names.ensures c.new-made.ensures;
       reads = omega arith;
       writes = omega arith;
     }

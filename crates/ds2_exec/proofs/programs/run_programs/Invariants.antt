@@ -8,7 +8,7 @@ use Rattle.ds2_exec.proofs.programs.run_programs.Given as goal
 
 abbrev pub invariant-loop-left : goal.invariant-loop-left
 invariant-loop-left g l = record {
-  run : AreRunSoFar (contains (pointwise nat_eq) l.kept) (verdict_named l.verdicts) l.budget l.stored l.codes l.left l.made l.initial.log (g.S.Store.files l.initial.store) l.log (g.S.Store.files l.store);
+  run : AreRunSoFar (contains (pointwise nat_eq) l.kept.names) (verdict_named l.verdicts) l.budget l.stored l.codes l.left l.made l.initial.log (g.S.Store.files l.initial.store) l.log (g.S.Store.files l.store);
   reads : g.S.Store.read_faults l.initial.store ≤ g.S.Store.read_faults l.store;
   writes : g.S.Store.write_faults l.initial.store ≤ g.S.Store.write_faults l.store;
 }

@@ -12,5 +12,5 @@ returns c = λ name.
     let n = c.args.n.now in
     let h : Some c.earlier-first.result ≡ earlier_of (get (pointwise nat_eq) c.args.firsts.now n.name) (Some n.place) = grind (arith, common_steps) in
     let k = one_more_noted (get (pointwise nat_eq) c.args.firsts.now) n c.earlier-first.result name h in
-    let updated = c.in_ok-insert.ensures.updates.0 name in
+    let updated = c.in_ok-insert.ensures.updates name in
     grind (arith, common_steps, k, updated)

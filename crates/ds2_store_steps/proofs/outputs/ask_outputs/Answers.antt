@@ -13,7 +13,7 @@ use Rattle.ds2_store_steps.proofs.outputs.ask_outputs.Goals as goal
 pub codes-init : goal.codes-init
 codes-init g c = record {
   asked = asking_begins none_made (contains (pointwise nat_eq) c.new-made.result) (flat_map outputs_of_code c.args.codes.now) c.args.log.now (g.S.Store.files c.args.store.now)
-      (λ name. ap (λ (keys : List (List ℕ)). list_any (pointwise nat_eq name) keys) c.new-made.ensures.empty);
+      (λ name. ap (λ (keys : List (List ℕ)). list_any (pointwise nat_eq name) keys) c.new-made.ensures);
   reads = omega arith;
   writes = omega arith;
 }

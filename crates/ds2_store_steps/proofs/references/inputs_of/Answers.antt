@@ -8,7 +8,7 @@ use Rattle.ds2_store_steps.proofs.ReferenceSteps.{named_all, named_reference, na
 use Rattle.ds2_store_steps.proofs.references.inputs_of.Goals as goal
 
 pub references-init : goal.references-init
-references-init c = naming_begins none_made (contains (pointwise nat_eq) c.new-known.result) [] c.new-names.result c.args.references.now (λ name. ap (λ (keys : List (List ℕ)). list_any (pointwise nat_eq name) keys) c.new-known.ensures.empty) c.new-names.ensures
+references-init c = naming_begins none_made (contains (pointwise nat_eq) c.new-known.result) [] c.new-names.result c.args.references.now (λ name. ap (λ (keys : List (List ℕ)). list_any (pointwise nat_eq name) keys) c.new-known.ensures) c.new-names.ensures
 
 pub references-preserved : goal.references-preserved
 references-preserved c = named_reference _ _ _ _ _ _ _ _ _ _ (item_is _ _ c.in-len1-up.len_at_least c.reference-item.is) c.references.invariant c.in_ok-add_input.ensures.known c.in_ok-add_input.ensures.names
