@@ -1,8 +1,9 @@
 -- From the methods that mention a name to those that call them, layer by layer.
-use Rattle.std.proofs.Common.{◌≡◌, ℕ, zero, suc, ◌+◌, Bool, true, false, not, ◌||◌, ◌&&◌, cond, List, [], ◌∷◌, ◌++◌, bytes_eq, nat_eq, Option, Some, None, refl, subst, sym, ap, ◌∙◌, true≢false, add-one}
+use Rattle.std.proofs.Common.{◌≡◌, ℕ, zero, suc, ◌+◌, ◌-◌, ◌≤◌, ◌==◌, Bool, true, false, not, ◌||◌, ◌&&◌, cond, List, [], ◌∷◌, ◌++◌, bytes_eq, nat_eq, Option, Some, None, refl, subst, sym, ap, ◌∙◌, true≢false, add-one, length, arith}
 use Rattle.std.specs.List.{list_any}
 use Rattle.std.specs.Cmp.Lexicographic.{pointwise}
 use Rattle.std.specs.HashSet.{HashSet, contains}
+use Rattle.std.proofs.lemmas.Bool.{eqb-true}
 use Rattle.std.proofs.lemmas.Slice.Eq.{bytes_eq-Decides}
 use Rattle.ds2_meaning.specs.ProgramTree.{is_listed}
 use Rattle.ds2_names.specs.NameRules.{from_each}
@@ -13,7 +14,7 @@ use Rattle.ds2_aliases.specs.declared.reach.Links.{Links}
 use Rattle.ds2_aliases.specs.MethodLinks.{linked, links_if_any}
 use Rattle.ds2_aliases.specs.ReachingMethods.{part_named, has_variable_of, holds, mentions_itself, mentions_or_calls, reaches}
 use Rattle.ds2_aliases.specs.ReachedNames.{AreLinks, HasReaching}
-use Rattle.ds2_aliases.proofs.TestLemmas.{same_truth, or_false, or_left, or_right, or_else, listed_append, listed_each, passed_by, passing}
+use Rattle.ds2_aliases.proofs.TestLemmas.{same_truth, or_false, and_false, or_left, or_right, or_else, listed_append, listed_each, passed_by, passing}
 
 -- names that were entered into a set, and those that were not in it before
 pub one_entered : (a cy e c r : Bool) → (e ≡ true → cy ≡ c) → ((a || (not cy && e)) || (not (e || c) && r)) ≡ (a || (not c && (e || r)))
@@ -196,6 +197,26 @@ next_layer unit name links are k reached reached' next added next' layer enter n
     ap (λ ms. is_listed ms method) n
     ∙ listed_each (linked links.callers) added method
     ∙ (λ i. list_any (λ called. are.callers called method i) added)))
+
+-- where no method comes next, none comes later
+pub still_layer : {S : Type 0} (unit : UnitParts) (name : List ℕ) (reached : HashSet (List ℕ) S) (d k : ℕ) → IsLayer unit name k reached [] → IsLayer unit name (k + d) reached []
+still_layer unit name reached zero k layer = subst (λ j. IsLayer unit name j reached []) (omega arith) layer
+still_layer unit name reached (suc d) k layer =
+    subst (λ j. IsLayer unit name j reached []) (omega arith)
+    (still_layer unit name reached d (suc k)
+    (layer_beyond unit name k reached reached [] [] [] layer
+    (λ method. sym (or_false (contains (pointwise nat_eq) reached method))) (λ method. sym (and_false (not (contains (pointwise nat_eq) reached method)))) (λ method. refl)))
+
+no_names : (names : List (List ℕ)) → (length names == 0) ≡ true → names ≡ []
+no_names [] h = refl
+no_names (x ∷ names) h = let k = eqb-true (length (x ∷ names)) 0 h in absurd (omega (arith, k))
+
+-- the methods of the last layer that is not empty are all that reach the name
+pub last_layer : {S : Type 0} (unit : UnitParts) (name : List ℕ) (reached : HashSet (List ℕ) S) (next : List (List ℕ)) (k n : ℕ) → IsLayer unit name k reached next → k ≤ n
+    → (length next == 0) ≡ true → (method : List ℕ) → contains (pointwise nat_eq) reached method ≡ reaches unit name n method
+last_layer unit name reached next k n layer few none method =
+    (still_layer unit name reached (n - k) k (subst (IsLayer unit name k reached) (no_names next none) layer)).here method
+    ∙ ap (λ (j : ℕ). reaches unit name j method) (omega (arith, few))
 
 -- one name more whose methods were looked for
 pub one_more_reached : {T : Type 0} (unit : UnitParts) (name other : List ℕ) (set : HashSet (List ℕ) T) (old new : Option (HashSet (List ℕ) T))

@@ -125,7 +125,7 @@ fn enter(alloc: Global, set: &mut NameSet, names: &[Bytes]) -> Result<List<Bytes
     Ok(added)
 }
 
-// The methods that reach a name within as many calls as there are methods.
+// The methods that reach a name within as many calls as there are methods; where a layer is empty, so is each further one.
 fn reaching(alloc: Global, links: &Links, name: &Bytes) -> Result<NameSet, OutOfMemory>
     ensures { IfOk result (λ set. (unit : UnitParts) → AreLinks links.now unit → (method : Items ℕ) → contains (pointwise nat_eq) set method ≡ reaches unit name.now (length unit.methods) method) }
 {
@@ -133,6 +133,9 @@ fn reaching(alloc: Global, links: &Links, name: &Bytes) -> Result<NameSet, OutOf
     let begun = mentioning(alloc, links, name)?;
     let mut next: List<Bytes> = begun;
     'layers: for _layer in 0..links.depth {
+        if next.is_empty() {
+            return Ok(reached);
+        }
         let added = enter(alloc, &mut reached, next.as_slice())?;
         next = linked_to(alloc, &links.callers, added.as_slice())?;
     }

@@ -1,11 +1,11 @@
-use Rattle.std.proofs.Common.{◌≡◌, ℕ, List, false, length, nat_eq, ap, ◌∙◌, arith}
+use Rattle.std.proofs.Common.{◌≡◌, ◌≤◌, ℕ, List, false, length, nat_eq, sym, ap, ◌∙◌, arith}
 use Rattle.std.proofs.lemmas.Grind.{common_steps}
 use Rattle.std.specs.Cmp.Lexicographic.{pointwise}
 use Rattle.std.specs.HashSet.{contains}
 use Rattle.ds2_names.specs.NameRules.{from_each}
 use Rattle.ds2_aliases.specs.MethodLinks.{linked}
 use Rattle.ds2_aliases.specs.ReachingMethods.{reaches}
-use Rattle.ds2_aliases.proofs.ReachLemmas.{first_layer, next_layer}
+use Rattle.ds2_aliases.proofs.ReachLemmas.{first_layer, next_layer, last_layer}
 use Rattle.ds2_aliases.proofs.reach.reaching.Goals as goal
 
 pub layers-init : goal.layers-init
@@ -22,6 +22,12 @@ layers-preserved c = λ unit are.
     (λ method. let h = c.in_ok-added.ensures.set method in grind (arith, common_steps, h))
     (λ method. let h = c.in_ok-added.ensures.added method in grind (arith, common_steps, h))
     (c.in_ok-next.ensures ∙ ap (from_each (linked links.callers)) c.as_slice-in-layers.ensures)
+
+pub returns-then-is_empty : goal.returns-then-is_empty
+returns-then-is_empty c = λ unit are.
+    let few : c.layers._layer ≤ length unit.methods = omega (arith, are.depth) in
+    last_layer unit c.args.name.now c.layers.reached c.layers.next c.layers._layer (length unit.methods) (c.layers.invariant unit are) few
+    (sym c.is_empty.ensures ∙ c.if-is_empty.true)
 
 pub returns : goal.returns
 returns c = λ unit are method.
