@@ -74,8 +74,8 @@ def each_of(letter, count, statement):
     return "".join(statement.format(f"{letter}{number}") for number in range(count))
 
 
-# Nearly as many names as a unit may have.
-MOST = 990
+# Nearly as many names as a unit may have, and as many beside 16 BY variables and their flags.
+MOST, MOST_BY = 990, 940
 DATA = "data _null_; dcl bigint a b c;"
 DATA_END = " end; end; enddata;"
 THREAD = "thread t; dcl bigint x; retain x;"
@@ -100,7 +100,7 @@ def thread_by(*parts, **more):
 
 def over_names(of, size, piece, declared="dcl bigint {};", **parts):
     """Pieces of two names each, of which half the size has half as many."""
-    count = max(2, MOST * size // SOURCE_LIMIT)
+    count = max(2, (MOST_BY if of is thread_by else MOST) * size // SOURCE_LIMIT)
     return of(size, lambda n: piece.format(n % count, n * 7 % count, n), declared.format(names("v", count)), **parts)
 
 
@@ -149,7 +149,7 @@ threaded("methods that call the next one and the first", lambda size: chain(size
 threaded("methods that call the next one in a loop", lambda size: chain(size, THREAD, "do while (x = 1); m{0}(); end;", "x = 1;", begun()))
 threaded("methods that each call the next one, by 16 BY variables", lambda size: chain(size, THREAD, "if first.b9 then x = 0; m{0}();", "x = 1;", begun(READ_BYS)))
 threaded("methods over many names that each call the next one, by 16 BY variables", lambda size: chain(
-    size, f"{THREAD} dcl bigint {names('v', MOST)}; retain {names('v', MOST)};", "m{0}(); v0 = v1;", each_of("v", MOST, "{0} = {0};"), begun(READ_BYS)))
+    size, f"{THREAD} dcl bigint {names('v', MOST_BY)}; retain {names('v', MOST_BY)};", "m{0}(); v0 = v1;", each_of("v", MOST_BY, "{0} = {0};"), begun(READ_BYS)))
 threaded("methods, each of which is called", lambda size: each_called(size, THREAD, lambda n: f"method m{n}(); x = {n}; end;\n", lambda n: f"if x = 2 then m{n}();", " end;" + READER))
 threaded("assignments over many names", lambda size: over_names(thread, size, "v{0} = v{1};\n"))
 threaded("assignments over many retained names", lambda size: over_names(thread, size, "v{0} = v{1};\n", RETAINED))
@@ -160,9 +160,9 @@ threaded("loops 60 deep, by 16 BY variables", lambda size: deep(thread_by, size,
 threaded("conditions 60 deep, by 16 BY variables", lambda size: deep(thread_by, size, "if x = 1 then do; ", "x = x + 1; ", "end; else x = 2; ", depth=30))
 threaded("flags of 16 BY variables", lambda size: thread_by(size, lambda n: f"if first.b{n % 16} then x = {n}; x = x + 1;\n"))
 threaded("calls of a method that mentions many names, by 16 BY variables", lambda size: thread_by(
-    size, "f();", f"dcl bigint {names('v', MOST)}; method f(); {each_of('v', MOST, '{0} = {0} + 1;')} end;"))
+    size, "f();", f"dcl bigint {names('v', MOST_BY)}; method f(); {each_of('v', MOST_BY, '{0} = {0} + 1;')} end;"))
 threaded("calls with many in_out arguments, by 16 BY variables", lambda size: thread_by(
-    size, f"f({handed('', 'v', MOST)});\n", f"dcl bigint {names('v', MOST)}; method f({handed('in_out bigint', 'p', MOST)}); end;"))
+    size, f"f({handed('', 'v', MOST_BY)});\n", f"dcl bigint {names('v', MOST_BY)}; method f({handed('in_out bigint', 'p', MOST_BY)}); end;"))
 threaded("calls of a hash object with 128 of many variables, by 16 BY variables", lambda size: thread_by(size, "h.find();h.add();i.next();", f"dcl bigint {names('v', 800)}; {HASH_OF_128}"))
 threaded("calls of the methods of 60 instances, by 16 BY variables", lambda size: filled(
     size, f"package p; dcl bigint n; method f(); n = n + 1; end; method g(); f(); end; endpackage; {THREAD} {OF_60} method run(); {READ_BYS} if x = 1 then do; ", lambda n: f"q{n % 60}.g();", THREAD_END))
