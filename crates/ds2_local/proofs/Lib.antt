@@ -4,6 +4,7 @@ pub mod AlikeLemmas
 pub mod RangeLemmas
 pub mod MarkLemmas
 pub mod PathLemmas
+pub mod PartLemmas
 pub mod DistinctLemmas
 pub mod MentionLemmas
 pub mod MethodLemmas

@@ -28,7 +28,7 @@ use Rattle.ds2_recorded_walk.specs.RecordedWalks.{of_those, past_effect, effect_
 use Rattle.ds2_local.specs.declared.judged.JudgedBodies.{JudgedBodies}
 use Rattle.ds2_local.specs.EffectSteps.{EffectTells, EffectsAtDepth}
 use Rattle.ds2_local.specs.JudgedBodies.{HoldsJudged, cycle_effect, effect_of_mentions, AreCycleEffects}
-use Rattle.ds2_local.specs.SettledEffects.{is_left, unless_settled, waits_for, with_found, CoversCycles, FoundTells, HaveCycleEffects, IsFoundBy, IsRound, Settles}
+use Rattle.ds2_local.specs.SettledEffects.{is_left, unless_settled, waits_for, with_found, with_one_settled, CoversCycles, FoundTells, HaveCycleEffects, IsFoundBy, IsRound, IsSettledTo, Settles}
 use Rattle.ds2_local.proofs.AlikeLemmas.{method_alike}
 use Rattle.ds2_local.proofs.DepthLemmas.{held_count, held_deeds, all_tell}
 use Rattle.ds2_local.proofs.FirstLemmas.{method_at}
@@ -436,6 +436,62 @@ module _ (t : JudgedThread) (b : JudgedBodies) (holds : HoldsJudged t b) (known 
           let effect = effect_of_mentions (length b.numbers.locations.now) (with_called b.deeds.now (length b.deeds.now + CALL_DEPTH) (deeds_numbered b.deeds.now k)) in
           let cycle : slice_get b.cycles.now k ≡ Some (Some effect) = holds.cycles.each k (deeds_numbered b.deeds.now k) own ∙ ap (λ (c : Bool). Some (if c then Some effect else None)) e in
           absurd (true≢false (sym (ap (λ o. or_off o) (covers.cycle k effect cycle)) ∙ off))
+
+  -- ---- one method after the other
+
+  deeper : (depth more : ℕ) → depth + suc more ≡ suc depth + more
+  deeper depth more = omega arith
+
+  -- what is found tells of deeper calls too
+  pub still_settle : (settled : List Bool) (effects : List CallEffect) (depth : ℕ) → IsSettledTo t b known settled effects depth → IsSettledTo t b known settled effects (suc depth)
+  still_settle settled effects depth before = record {
+    as_many = before.as_many;
+    covers = before.covers;
+    settles = λ m k effect named on have more. subst (λ j. EffectTells n effect (walk_at j m)) (deeper depth more) (before.settles m k effect named on have (suc more));
+  }
+
+  -- the effect of one more is found
+  one_found : (settled : List Bool) (effects : List CallEffect) (depth number : ℕ) (x : CallEffect) (method : MethodAt) → slice_get n.methods number ≡ Some method
+      → (number_among_methods n.methods method ≡ Some number → FoundTells t b known depth method (Some x)) → Settles t b known settled effects depth
+      → Settles t b known (slice_set settled number true) (slice_set effects number x) (suc depth)
+  one_found settled effects depth number x method here tells old m k effect named on have more = by (k == number) refl
+    where
+      by : (c : Bool) → (k == number) ≡ c → EffectTells n effect (walk_at (suc depth + more) m)
+      by true g =
+          let same : k ≡ number = (Decides-eqb k number).0 g in
+          let one : method ≡ m = same_Some method m (sym here ∙ ap (λ j. slice_get n.methods j) (sym same) ∙ method_at n.methods m k named) in
+          let is_x : x ≡ effect = set_here effects number x effect (ap (λ j. slice_get (slice_set effects number x) j) (sym same) ∙ have) in
+          let told = tells (ap (λ y. number_among_methods n.methods y) one ∙ named ∙ ap (λ j. Some j) same) more in
+          subst (λ j. EffectTells n effect (walk_at j m)) (deep depth more) (subst (λ y. EffectTells n y (walk_at (suc (depth + more)) m)) is_x (subst (λ y. EffectTells n x (walk_at (suc (depth + more)) y)) one told))
+      by false g =
+          let apart : k ≡ number → ⊥ = λ h. true≢false (sym ((Decides-eqb k number).1 h) ∙ g) in
+          subst (λ j. EffectTells n effect (walk_at j m)) (deeper depth more)
+          (old m k effect named (sym (set_there settled number k true apart) ∙ on) (sym (set_there effects number k x apart) ∙ have) (suc more))
+
+  still_marked : (settled : List Bool) (number k : ℕ) → slice_get settled k ≡ Some true → slice_get (slice_set settled number true) k ≡ Some true
+  still_marked settled number k e = by (k == number) refl
+    where
+      by : (c : Bool) → (k == number) ≡ c → slice_get (slice_set settled number true) k ≡ Some true
+      by true g =
+          let same : k ≡ number = (Decides-eqb k number).0 g in
+          let lt : k < length (slice_set settled number true) = subst (λ j. k < j) (sym (set_long settled number true)) (slice_get_within settled k true e) in
+          let there = there_is (slice_set settled number true) k lt in
+          there.1 ∙ ap (λ c. Some c) (sym (set_here settled number true there.0 (ap (λ j. slice_get (slice_set settled number true) j) (sym same) ∙ there.1)))
+      by false g = set_there settled number k true (λ h. true≢false (sym ((Decides-eqb k number).1 h) ∙ g)) ∙ e
+
+  -- one more method has been looked at
+  pub one_settled : (settled : List Bool) (effects : List CallEffect) (depth number : ℕ) (found : Option CallEffect) (method : MethodAt) → slice_get n.methods number ≡ Some method
+      → (number_among_methods n.methods method ≡ Some number → FoundTells t b known depth method found) → IsSettledTo t b known settled effects depth
+      → IsSettledTo t b known (with_one_settled settled number found) (with_found effects number found) (suc depth)
+  one_settled settled effects depth number None method here tells before = still_settle settled effects depth before
+  one_settled settled effects depth number (Some x) method here tells before = record {
+    as_many = set_long effects number x ∙ before.as_many ∙ sym (set_long settled number true);
+    covers = record {
+      as_many = set_long settled number true ∙ before.covers.as_many;
+      cycle = λ k effect e. still_marked settled number k (before.covers.cycle k effect e);
+    };
+    settles = one_found settled effects depth number x method here tells before.settles;
+  }
 
   -- ---- rounds
 

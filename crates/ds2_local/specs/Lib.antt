@@ -1,5 +1,6 @@
 pub mod JudgedTrees
 pub mod MarkedLocations
+pub mod CallParts
 pub mod JudgedBodies
 pub mod RunGrounds
 pub mod EffectSteps

@@ -40,6 +40,11 @@ abbrev pub with_found : List CallEffect → ℕ → Option CallEffect → List C
 with_found effects number None = effects
 with_found effects number (Some effect) = slice_set effects number effect
 
+-- marks with that of the method of a number, where its effect was found
+abbrev pub with_one_settled : List Bool → ℕ → Option CallEffect → List Bool
+with_one_settled settled number None = settled
+with_one_settled settled number (Some effect) = slice_set settled number true
+
 -- the effects of the methods on cycles, and any others
 pub record HaveCycleEffects (cycles : List (Option CallEffect)) (effects : List CallEffect) : Type 0 where
   pub as_many : length effects ≡ length cycles
@@ -56,6 +61,13 @@ Settles t b known settled effects depth =
     (m : MethodAt) (number : ℕ) (effect : CallEffect) → number_among_methods (methods_named b.numbers.methods.now) m ≡ Some number
     → slice_get settled number ≡ Some true → slice_get effects number ≡ Some effect
     → (more : ℕ) → EffectTells (numbers_of b.numbers) effect (walk_method t (first_flags known) (depth + more) m)
+
+-- there is an effect for each method, those of the methods on cycles are found, and those that are found tell how calls are walked that are
+-- so many deep or deeper
+pub record IsSettledTo (t : JudgedThread) (b : JudgedBodies) (known : List ByVariable) (settled : List Bool) (effects : List CallEffect) (depth : ℕ) : Type 0 where
+  pub as_many : length effects ≡ length settled
+  pub covers : CoversCycles b.cycles.now settled
+  pub settles : Settles t b known settled effects depth
 
 -- an effect that is found tells how calls of a method are walked that are one deeper or more
 abbrev pub FoundTells : JudgedThread → JudgedBodies → List ByVariable → (depth : ℕ) → MethodAt → Option CallEffect → Type 0

@@ -1,13 +1,14 @@
 //! Whether the groups of a thread program may be spread over workers, and by how fine a group.
 //!
 //! [`judge`] gives the verdict that `ds2_locality` defines. `effects` has what a call of a method does, and `settled` finds that of all
-//! methods, each body walked once however often it is called; `marks` has sets of locations by deeds, `reading` what a program's loads set,
+//! methods, each body walked once however often it is called, both by the `parts` of methods that call each other; `marks` has sets of locations by deeds, `reading` what a program's loads set,
 //! `runs` the two walks over `run`, and `verdict` the rules.
 #![tactic(auto)]
 
 mod effects;
 mod judged;
 mod marks;
+mod parts;
 mod reading;
 mod runs;
 mod settled;

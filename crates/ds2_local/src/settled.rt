@@ -1,18 +1,20 @@
-//! The effects of all methods, bottom-up: each body is walked once, when the effects of all methods that it calls are found.
+//! The effects of all methods, bottom-up: each body is walked once, when the effects of all methods that it calls are found, in an order
+//! that is held of them, or else in rounds over all methods.
 ghost use Rattle.std.specs.List.{list_all, list_any};
 ghost use Rattle.std.specs.Option.{is_some};
-ghost use Rattle.std.specs.Prelude.{◌≡◌, ◌||◌, ℕ, suc, Some, IfOk, length, map, slice_get};
+ghost use Rattle.std.specs.Prelude.{◌≡◌, ◌||◌, ℕ, suc, Some, IfOk, OnOk, length, map, slice_get};
 ghost use Rattle.ds2_deeds.specs.NamedMethods.{method_of_name, methods_named, number_among_methods};
 ghost use Rattle.ds2_deeds.specs.NumberedCalls.{deeds_numbered};
 ghost use Rattle.ds2_local.specs.EffectSteps.{EffectsAtDepth};
 ghost use Rattle.ds2_local.specs.JudgedBodies.{HoldsJudged};
-ghost use Rattle.ds2_local.specs.SettledEffects.{is_left, waits_for, with_found, CoversCycles, FoundTells, HaveCycleEffects, IsFoundBy, IsRound, Settles};
+ghost use Rattle.ds2_local.specs.SettledEffects.{is_left, waits_for, with_found, with_one_settled, CoversCycles, FoundTells, HaveCycleEffects, IsFoundBy, IsRound, IsSettledTo, Settles};
 ghost use Rattle.ds2_locality.specs.Verdict.{JudgedThread};
 ghost use Rattle.ds2_recorded_walk.specs.declared.record.CallEffect.{CallEffect as CallEffectModel};
 ghost use Rattle.ds2_recorded_walk.specs.LocationBits.{is_on};
 
 use crate::effects::plain_effect;
 use crate::judged::JudgedBodies;
+use crate::parts::number_at;
 use ds2_base::{List, OutOfMemory};
 use ds2_deeds::{MethodName, NumberedDeed};
 use ds2_meaning::ByVariable;
@@ -177,8 +179,68 @@ fn are_all_on(bits: &[bool]) -> bool
     true
 }
 
-/// The effects of calls of the methods of a program, where `first` flags of these BY variables are known to be 1.
-pub fn call_effects(
+// Notes that the effect of the method of a number is found, where it was.
+fn mark_found(settled: &mut List<bool>, number: usize, found: &Option<CallEffect>)
+    ensures { settled.new ≡ with_one_settled settled.old number found.now }
+{
+    if found.is_some() {
+        if number < settled.len() {
+            settled.replace(number, true);
+        }
+    }
+}
+
+// Finds the effect of the method of a number, where it waits for no other one.
+fn settle_one(
+    bodies: &JudgedBodies<'_>,
+    known: &[ByVariable],
+    effects: &mut List<CallEffect>,
+    settled: &mut List<bool>,
+    number: usize,
+) -> Result<(), OutOfMemory>
+    ensures { (t : JudgedThread) (depth : ℕ) → HoldsJudged t bodies.now → IsSettledTo t bodies.now known.now settled.old effects.old depth → OnOk result (IsSettledTo t bodies.now known.now settled.new effects.new (suc depth)) }
+{
+    match bodies.numbers.methods.get(number) {
+        None => Ok(()),
+        Some(method) => {
+            let found = found_effect(
+                bodies,
+                known,
+                effects.as_slice(),
+                settled.as_slice(),
+                number,
+                *method,
+            )?;
+            mark_found(settled, number, &found);
+            put_found(effects, number, found);
+            Ok(())
+        }
+    }
+}
+
+// Finds the effects of methods in the order that is held of them.
+fn settle_in_order(
+    bodies: &JudgedBodies<'_>,
+    known: &[ByVariable],
+    effects: &mut List<CallEffect>,
+    settled: &mut List<bool>,
+) -> Result<(), OutOfMemory>
+    ensures { (t : JudgedThread) → HoldsJudged t bodies.now → IsSettledTo t bodies.now known.now settled.old effects.old 0 → OnOk result (IsSettledTo t bodies.now known.now settled.new effects.new (length bodies.now.deeds.now)) }
+{
+    'turns: for turn in 0..bodies.deeds.len() {
+        settle_one(
+            bodies,
+            known,
+            effects,
+            settled,
+            number_at(bodies.order, turn),
+        )?;
+    }
+    Ok(())
+}
+
+// The effects of calls of methods, round by round, where they are not found in order.
+fn effects_by_rounds(
     bodies: &JudgedBodies<'_>,
     known: &[ByVariable],
 ) -> Result<List<CallEffect>, OutOfMemory>
@@ -193,4 +255,20 @@ pub fn call_effects(
         settled = settle_round(bodies, known, &mut effects, settled.as_slice())?;
     }
     Ok(effects)
+}
+
+/// The effects of calls of the methods of a program, where `first` flags of these BY variables are known to be 1.
+pub fn call_effects(
+    bodies: &JudgedBodies<'_>,
+    known: &[ByVariable],
+) -> Result<List<CallEffect>, OutOfMemory>
+    ensures { (t : JudgedThread) → HoldsJudged t bodies.now → IfOk result (λ effects. EffectsAtDepth t bodies.now known.now effects (length bodies.now.deeds.now)) }
+{
+    let mut effects = first_effects(bodies.alloc, bodies.cycles)?;
+    let mut settled = first_settled(bodies.alloc, bodies.cycles)?;
+    settle_in_order(bodies, known, &mut effects, &mut settled)?;
+    if are_all_on(settled.as_slice()) {
+        return Ok(effects);
+    }
+    effects_by_rounds(bodies, known)
 }

@@ -19,6 +19,7 @@ ghost use Rattle.ds2_local.specs.Verdicts.{earlier_of_places, ground_of_place, f
 
 use crate::effects::{call_rounds, cycle_effects};
 use crate::judged::JudgedBodies;
+use crate::parts::{CallParts, call_parts};
 use crate::reading::bys_read;
 use crate::runs::{cells, failing_at_grain, record_later_loads};
 use ds2_base::{Name, OutOfMemory, Place};
@@ -235,13 +236,16 @@ fn verdict_by_numbers(
     ds2_deeds::laws::callees_are_found();
     ds2_deeds::laws::reached_are_found();
     let deeds = all_method_deeds(alloc, numbers, program)?;
-    let cycles = cycle_effects(alloc, numbers.locations.len(), deeds.as_slice())?;
+    let CallParts { order, parts } = call_parts(alloc, deeds.as_slice())?;
+    let count = numbers.locations.len();
+    let cycles = cycle_effects(alloc, count, deeds.as_slice(), parts.as_slice())?;
     verdict_on(&JudgedBodies {
         alloc,
         program,
         numbers,
         deeds: deeds.as_slice(),
         cycles: cycles.as_slice(),
+        order: order.as_slice(),
     })
 }
 

@@ -3,7 +3,7 @@ use Rattle.ds2_locality.specs.Verdict.{JudgedThread}
 use Rattle.ds2_local.specs.JudgedBodies.{HoldsJudged}
 use Rattle.ds2_local.specs.SettledEffects.{CoversCycles, Settles}
 use Rattle.ds2_local.proofs.SettleLemmas.{IsDeep}
-use Rattle.ds2_local.proofs.settled.call_effects.Given as goal
+use Rattle.ds2_local.proofs.settled.effects_by_rounds.Given as goal
 
 abbrev pub invariant-rounds : goal.invariant-rounds
 invariant-rounds l = (t : JudgedThread) → HoldsJudged t l.bodies → record {
