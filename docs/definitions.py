@@ -23,7 +23,7 @@ CHAIN = [
         "What the top call promises",
         "`ds2` and `ds2_alone` take a line of words, a store of files and a log. Their contract is `Headline`, over what is seen before\n"
         "the call and after it. A store or a log that tells nothing of its contents is `None` there.",
-        "Headline Outside Files HoldsFiles LogGains Gained",
+        "Headline answer_of_words WhereNoCallFailed Outside Files HoldsFiles LogGains Gained",
     ),
     (
         "What is left at each status",

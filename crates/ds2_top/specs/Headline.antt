@@ -29,12 +29,19 @@ pub record IsAnswered (answer : Plan) (files : Files) (before now : Outside) (st
   pub did : Did answer files before now status
   pub gained : LogGains (text_logged (steps_of answer)) before now
 
+-- the answer of a line of words, as a plan: over what sources are read as and objects decoded to, the object that is stored, and the files that are there
+abbrev pub answer_of_words : SourcesRead → ObjectReading → (object : List StagedParts) → (words : List (List ℕ)) → Files → Presence → Plan
+answer_of_words sources object_for object words files there = plan_of_command sources object_for object (command_line_of words) files there
+
+-- this holds where no call of the store or of the log has failed
+abbrev pub WhereNoCallFailed : (before now : Outside) → Type 0 → Type 0
+WhereNoCallFailed before now Holds = (ReadsRose before now → ⊥) → (WritesRose before now → ⊥) → (LogRose before now → ⊥) → Holds
+
 -- what a command leaves that ends with this status: the tables, the log and the status of the one-thread meaning of its source or of its
 -- object, and the object of its source
 pub record Headline (words : List (List ℕ)) (before now : Outside) (status : Status) : Type 0 where
-  -- what sources are read as: each text has exactly one answer
+  -- what the answer is told over: what sources are read as, each text having exactly one answer, and what object files are decoded to
   pub sources : SourcesRead
-  -- what object files are decoded to
   pub object_for : ObjectReading
   -- the files that the store tells or, where it tells none, some files, and which are there
   pub files : Files
@@ -44,21 +51,20 @@ pub record Headline (words : List (List ℕ)) (before now : Outside) (status : S
   -- the object that the command stores, where it stores one
   pub object : List StagedParts
   -- files and log are those of the answer, or of the answer up to a call that failed
-  pub leaves : Leaves (plan_of_command sources object_for object (command_line_of words) files there) files before now status
+  pub leaves : Leaves (answer_of_words sources object_for object words files there) files before now status
+  -- where no call has failed, all is as in the answer, but for want of memory
+  pub answered : WhereNoCallFailed before now (IsAnswered (answer_of_words sources object_for object words files there) files before now status ⊎ (status ≡ ended.Memory))
   -- the stored object is valid code that means the same as the source, and its file is decoded to it
   pub stores : StoresObject sources (command_line_of words) files object before now status
   -- the object that is run is what its file is decoded to, or the command has ended before
   pub decodes : DecodesObject object_for (command_line_of words) files before now status
   -- a runtime fault is the first of the one-thread meaning, and its program has written nothing
-  pub fault : status ≡ ended.Fault → FaultLeft sources object (command_line_of words) (plan_of_command sources object_for object (command_line_of words) files there) files before now
+  pub fault : status ≡ ended.Fault → FaultLeft sources object (command_line_of words) (answer_of_words sources object_for object words files there) files before now
   -- a refusal leaves each file as it was, and its line in the log
-  pub refused : IsRefusal status → LeavesRefusal (plan_of_command sources object_for object (command_line_of words) files there) files before now status
+  pub refused : IsRefusal status → LeavesRefusal (answer_of_words sources object_for object words files there) files before now status
   -- words that are no command are refused, and no others
   pub usage : (status ≡ ended.Usage → command_line_of words ≡ None) × (command_line_of words ≡ None → (status ≡ ended.Usage) ⊎ (status ≡ ended.Memory))
   -- a fault of the outside has a cause
   pub read_fault : status ≡ ended.Read → ReadsRose before now
   pub write_fault : status ≡ ended.Write → WritesRose before now
   pub log_fault : status ≡ ended.Log → LogRose before now
-  -- where no call has failed, all is as in the answer, but for want of memory
-  pub answered : (ReadsRose before now → ⊥) → (WritesRose before now → ⊥) → (LogRose before now → ⊥)
-      → IsAnswered (plan_of_command sources object_for object (command_line_of words) files there) files before now status ⊎ (status ≡ ended.Memory)
