@@ -17,6 +17,7 @@ pub mod CellLemmas
 pub mod GrainLemmas
 pub mod OutputLemmas
 pub mod SettleLemmas
+pub mod ReachLemmas
 pub mod RunLemmas
 pub mod FinestLemmas
 pub mod WriteLemmas

@@ -1,7 +1,7 @@
 -- Methods that are on no cycle of calls, by the numbers of their parts.
 use Rattle.std.proofs.Common.{◌≡◌, ◌⊎◌, inl, inr, ◌<◌, ◌≤◌, ℕ, zero, suc, ◌+◌, Bool, true, false, true≢false, List, [], ◌∷◌, ◌++◌, length, Option, Some, None, refl, sym, ap, ◌∙◌, subst, arith, eqb-true, eq-eqb, ltb-true, get_or}
 use Rattle.std.specs.List.{list_all}
-use Rattle.std.specs.Prelude.{◌||◌, ◌&&◌, ◌==◌, if◌then◌else◌, flat_map, slice_get}
+use Rattle.std.specs.Prelude.{◌||◌, ◌&&◌, ◌==◌, nat_lt, if◌then◌else◌, flat_map, slice_get}
 use Rattle.std.proofs.lemmas.Bool.{or_cases, or_left, or_right}
 use Rattle.std.proofs.lemmas.Bool.Decides.{Decides-eqb}
 use Rattle.std.proofs.lemmas.List.Folds.{list_any-append}
@@ -83,18 +83,20 @@ both true b e = (refl, e)
 both false b e = absurd (true≢false (sym e))
 
 -- the methods that such deeds call
-pub called_below : (parts : List ℕ) (bound : ℕ) (deeds : List NumberedDeed) → all_lead_below parts bound deeds ≡ true → (called : ℕ) → is_one_of_numbers (numbers_called deeds) called ≡ true → number_at parts called < bound
+pub called_below : (parts : List ℕ) (bound : ℕ) (deeds : List NumberedDeed) → all_lead_below parts bound deeds ≡ true → (called : ℕ) → is_one_of_numbers (numbers_called deeds) called ≡ true → (called < length parts) × (number_at parts called < bound)
 called_below parts bound [] e called f = absurd cc
 called_below parts bound (d ∷ deeds) e called f =
     let p = both (leads_below parts bound d) (all_lead_below parts bound deeds) e in by d p.0 f (called_below parts bound deeds p.1 called)
   where
     this : (k : ℕ) → leads_below parts bound (numbered.Call k) ≡ true → ((k == called) ≡ true) ⊎ (is_one_of_numbers (numbers_called deeds) called ≡ true)
-        → (is_one_of_numbers (numbers_called deeds) called ≡ true → number_at parts called < bound) → number_at parts called < bound
-    this k p (inl same) go = subst (λ j. number_at parts j < bound) (eqb-true k called same) (ltb-true (number_at parts k) bound p)
+        → (is_one_of_numbers (numbers_called deeds) called ≡ true → (called < length parts) × (number_at parts called < bound)) → (called < length parts) × (number_at parts called < bound)
+    this k p (inl same) go =
+        let tests = both (nat_lt k (length parts)) (nat_lt (number_at parts k) bound) p in
+        subst (λ j. (j < length parts) × (number_at parts j < bound)) (eqb-true k called same) (ltb-true k (length parts) tests.0, ltb-true (number_at parts k) bound tests.1)
     this k p (inr h) go = go h
 
     by : (x : NumberedDeed) → leads_below parts bound x ≡ true → is_one_of_numbers (numbers_called (x ∷ deeds)) called ≡ true
-        → (is_one_of_numbers (numbers_called deeds) called ≡ true → number_at parts called < bound) → number_at parts called < bound
+        → (is_one_of_numbers (numbers_called deeds) called ≡ true → (called < length parts) × (number_at parts called < bound)) → (called < length parts) × (number_at parts called < bound)
     by (numbered.Mention k) p g go = go g
     by (numbered.Change k) p g go = go g
     by (numbered.Write place) p g go = go g
@@ -109,7 +111,7 @@ no_cycle_by_parts all parts rounds k deeds never lower = by (is_one_of_numbers (
     by false e = refl
     by true e =
         let less : number_at parts k < number_at parts k =
-        kept_called all (λ j. number_at parts j < number_at parts k) (λ i j h g. let le = never i j g in omega (arith, le, h)) rounds deeds (called_below parts (number_at parts k) deeds lower) k e in
+        kept_called all (λ j. number_at parts j < number_at parts k) (λ i j h g. let le = never.rises i j g in omega (arith, le, h)) rounds deeds (λ j g. (called_below parts (number_at parts k) deeds lower j g).1) k e in
         absurd (omega (arith, less))
 
 pub no_effect_by_parts : (count : ℕ) (all : List (List NumberedDeed)) (parts : List ℕ) (k : ℕ) (deeds : List NumberedDeed) → NeverRises parts all → all_lead_below parts (number_at parts k) deeds ≡ true
@@ -121,7 +123,7 @@ no_effect_by_parts count all parts k deeds never lower =
 
 -- they do not along the calls of so many methods
 pub record NeverRisesTo (parts : List ℕ) (all : List (List NumberedDeed)) (number : ℕ) : Type 0 where
-  pub each : (k called : ℕ) → k < number → is_one_of_numbers (calls_by_number all k) called ≡ true → number_at parts called ≤ number_at parts k
+  pub each : (k called : ℕ) → k < number → is_one_of_numbers (calls_by_number all k) called ≡ true → (called < length parts) × (number_at parts called ≤ number_at parts k)
 
 pub none_rise : (parts : List ℕ) (all : List (List NumberedDeed)) → NeverRisesTo parts all 0
 none_rise parts all = record { each = λ k called lt e. absurd (omega (arith, lt)) }
@@ -130,23 +132,27 @@ pub one_rises_not : (parts : List ℕ) (all : List (List NumberedDeed)) (number 
     → NeverRisesTo parts all number → NeverRisesTo parts all (number + 1)
 one_rises_not parts all number deeds here lower before = record { each = λ k called lt e. each k called lt e }
   where
-    each : (k called : ℕ) → k < number + 1 → is_one_of_numbers (calls_by_number all k) called ≡ true → number_at parts called ≤ number_at parts k
+    each : (k called : ℕ) → k < number + 1 → is_one_of_numbers (calls_by_number all k) called ≡ true → (called < length parts) × (number_at parts called ≤ number_at parts k)
     each k called lt e = by (k == number) refl
       where
-        by : (b : Bool) → (k == number) ≡ b → number_at parts called ≤ number_at parts k
+        by : (b : Bool) → (k == number) ≡ b → (called < length parts) × (number_at parts called ≤ number_at parts k)
         by true g =
             let same : k ≡ number = (Decides-eqb k number).0 g in
             let own : calls_by_number all k ≡ numbers_called deeds = ap (λ j. calls_by_number all j) same ∙ ap (λ o. numbers_called (deeds_or_none o)) here in
             let less = called_below parts (number_at parts number + 1) deeds lower called (ap (λ l. is_one_of_numbers l called) (sym own) ∙ e) in
-            subst (λ j. number_at parts called ≤ number_at parts j) (sym same) (omega (arith, less))
+            let no_more : number_at parts called ≤ number_at parts number = omega (arith, less.1) in
+            (less.0, subst (λ j. number_at parts called ≤ number_at parts j) (sym same) no_more)
         by false g =
             let apart : k ≡ number → ⊥ = λ h. true≢false (sym ((Decides-eqb k number).1 h) ∙ g) in
             let less : k < number = omega (arith, lt, apart) in before.each k called less e
 
-pub all_rise_not : (parts : List ℕ) (all : List (List NumberedDeed)) (number : ℕ) → number ≡ length all → NeverRisesTo parts all number → NeverRises parts all
-all_rise_not parts all number end' before k called e = by (slice_get all k) refl
+pub all_rise_not : (parts : List ℕ) (all : List (List NumberedDeed)) (number : ℕ) → length parts ≡ length all → number ≡ length all → NeverRisesTo parts all number → NeverRises parts all
+all_rise_not parts all number long end' before = record {
+  within = λ k called e. subst (λ n. called < n) long (by k called e (slice_get all k) refl).0;
+  rises = λ k called e. (by k called e (slice_get all k) refl).1;
+}
   where
-    by : (o : Option (List NumberedDeed)) → slice_get all k ≡ o → number_at parts called ≤ number_at parts k
-    by None f =
+    by : (k called : ℕ) → is_one_of_numbers (calls_by_number all k) called ≡ true → (o : Option (List NumberedDeed)) → slice_get all k ≡ o → (called < length parts) × (number_at parts called ≤ number_at parts k)
+    by k called e None f =
         let none : true ≡ false = sym e ∙ ap (λ x. is_one_of_numbers (numbers_called (deeds_or_none x)) called) f in absurd (true≢false none)
-    by (Some deeds) f = before.each k called (subst (λ j. k < j) (sym end') (slice_get_within all k deeds f)) e
+    by k called e (Some deeds) f = before.each k called (subst (λ j. k < j) (sym end') (slice_get_within all k deeds f)) e

@@ -35,7 +35,7 @@ added_by numbers n true e = e
 added_by numbers n false e =
     list_any-append (λ other. other == n) numbers (n ∷ []) ∙ or_right (is_one_of_numbers numbers n) (is_one_of_numbers (n ∷ []) n) (or_left (n == n) false (eq-eqb n n refl))
 
-added : (numbers more : List ℕ) (n : ℕ) → is_one_of_numbers more n ≡ true → is_one_of_numbers (with_numbers numbers more) n ≡ true
+pub added : (numbers more : List ℕ) (n : ℕ) → is_one_of_numbers more n ≡ true → is_one_of_numbers (with_numbers numbers more) n ≡ true
 added numbers [] n e = absurd cc
 added numbers (y ∷ more) n e =
     elim (or_cases (y == n) (is_one_of_numbers more n) e) [
@@ -45,7 +45,7 @@ added numbers (y ∷ more) n e =
     ]
 
 -- what one of them brings is among what all bring
-brought : (of : ℕ → List ℕ) (numbers : List ℕ) (x y : ℕ) → is_one_of_numbers numbers x ≡ true → is_one_of_numbers (of x) y ≡ true → is_one_of_numbers (flat_map of numbers) y ≡ true
+pub brought : (of : ℕ → List ℕ) (numbers : List ℕ) (x y : ℕ) → is_one_of_numbers numbers x ≡ true → is_one_of_numbers (of x) y ≡ true → is_one_of_numbers (flat_map of numbers) y ≡ true
 brought of [] x y e f = absurd cc
 brought of (z ∷ numbers) x y e f =
     let here = is_one_of_numbers (of z) y in
@@ -58,7 +58,7 @@ brought of (z ∷ numbers) x y e f =
 
 module _ (all : List (List NumberedDeed)) where
   -- numbers stay among what is reached
-  stays_reached : (rounds : ℕ) (numbers : List ℕ) (n : ℕ) → is_one_of_numbers numbers n ≡ true → is_one_of_numbers (numbers_reached all rounds numbers) n ≡ true
+  pub stays_reached : (rounds : ℕ) (numbers : List ℕ) (n : ℕ) → is_one_of_numbers numbers n ≡ true → is_one_of_numbers (numbers_reached all rounds numbers) n ≡ true
   stays_reached zero numbers n e = e
   stays_reached (suc rounds) numbers n e =
       let more = flat_map (calls_by_number all) numbers in stays_reached rounds (with_numbers numbers more) n (stays numbers more n e)

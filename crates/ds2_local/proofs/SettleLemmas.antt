@@ -64,7 +64,7 @@ there_is [] k lt = absurd (omega (arith, lt))
 there_is (x ∷ xs) zero lt = (x, refl)
 there_is (x ∷ xs) (suc k) lt = let less : k < length xs = omega (arith, lt) in there_is xs k less
 
-last_at : {A : Type 0} (xs : List A) (x y : A) (k : ℕ) → slice_get (xs ++ x ∷ []) k ≡ Some y → (slice_get xs k ≡ Some y) ⊎ ((k ≡ length xs) × (x ≡ y))
+pub last_at : {A : Type 0} (xs : List A) (x y : A) (k : ℕ) → slice_get (xs ++ x ∷ []) k ≡ Some y → (slice_get xs k ≡ Some y) ⊎ ((k ≡ length xs) × (x ≡ y))
 last_at [] x y zero e = inr (refl, same_Some x y e)
 last_at [] x y (suc k) e = absurd cc
 last_at (z ∷ xs) x y zero e = inl e

@@ -1,7 +1,7 @@
 pub mod JudgedTrees
 pub mod MarkedLocations
-pub mod CallParts
 pub mod JudgedBodies
+pub mod CallParts
 pub mod RunGrounds
 pub mod EffectSteps
 pub mod SettledEffects

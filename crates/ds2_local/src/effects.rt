@@ -1,14 +1,13 @@
 //! The effect of a call of a method on the walks that come by.
-ghost use Rattle.std.specs.Prelude.{◌≡◌, ◌+◌, true, IfOk, Some, length, map, slice_get};
+ghost use Rattle.std.specs.Prelude.{◌≡◌, ◌+◌, IfOk, length, map, slice_get};
 ghost use Rattle.ds2_value.specs.declared.fault.TheConstants.{CALL_DEPTH};
 ghost use Rattle.ds2_locality.specs.Verdict.{JudgedThread, walk_body as body_walk};
 ghost use Rattle.ds2_locality.specs.Walk.{CallWalks};
 ghost use Rattle.ds2_meaning.specs.ProgramTree.{methods_of};
 ghost use Rattle.ds2_meaning.specs.View.{typed_statements};
 ghost use Rattle.ds2_recorded_walk.specs.declared.record.RecordedRead.{RecordedRead as RecordedReadModel};
-ghost use Rattle.ds2_local.specs.CallParts.{all_lead_below, leads_below, number_at, NeverRises};
 ghost use Rattle.ds2_local.specs.EffectSteps.{EffectTells, BodyTells};
-ghost use Rattle.ds2_local.specs.JudgedBodies.{HoldsJudged, cycle_effect, effect_of_mentions, effect_of_walk, AreCycleEffects};
+ghost use Rattle.ds2_local.specs.JudgedBodies.{HoldsJudged, effect_of_mentions, effect_of_walk};
 ghost use Rattle.ds2_recorded_walk.specs.KnownFlags.{first_flags};
 ghost use Rattle.ds2_deeds.specs.NamedMethods.{method_of_name};
 ghost use Rattle.ds2_deeds.specs.NumberedDeeds.{numbers_of};
@@ -16,18 +15,15 @@ ghost use Rattle.ds2_recorded_walk.specs.RecordedWalks.{EffectsTell};
 
 use crate::judged::JudgedBodies;
 use crate::marks::numbers_mentioned;
-use crate::parts::number_at;
 use ds2_base::{List, OutOfMemory};
-use ds2_deeds::{
-    MethodName, NumberedDeed, is_among, may_call, method_at, method_scope, with_called,
-};
+use ds2_deeds::{MethodName, NumberedDeed, method_at, method_scope};
 use ds2_meaning::{ByVariable, Method};
 use ds2_recorded_walk::{CallEffect, RecordScope, RecordedRead, RecordedWalk, all_on, walk_body};
 use ds2_value::CALL_DEPTH;
 use std::alloc::Global;
 
-// A call that reads all that deeds mention, and makes nothing clean.
-fn mention_effect(
+/// A call that reads all that deeds mention, and makes nothing clean.
+pub fn mention_effect(
     alloc: Global,
     count: usize,
     deeds: &[NumberedDeed],
@@ -73,114 +69,14 @@ pub fn call_rounds(deeds: &[List<NumberedDeed>]) -> Result<usize, OutOfMemory>
     }
 }
 
-// The effect of the method of a number, which has these deeds, where it is on a cycle of calls: it reads all that it and the methods that it
-// may call mention.
-fn cycle_effect(
-    alloc: Global,
-    count: usize,
-    all: &[List<NumberedDeed>],
-    number: usize,
-    deeds: &[NumberedDeed],
-) -> Result<Option<CallEffect>, OutOfMemory>
-    ensures { IfOk result (λ effect. effect ≡ cycle_effect count all.now number deeds.now) }
+/// Another effect like this one.
+pub fn copy_effect(alloc: Global, effect: &CallEffect) -> Result<CallEffect, OutOfMemory>
+    ensures { IfOk result (λ copy. copy ≡ effect.now) }
 {
-    let rounds = call_rounds(all)?;
-    let called = may_call(alloc, all, rounds, deeds)?;
-    if !is_among(called.as_slice(), number) {
-        return Ok(None);
-    }
-    let whole = with_called(alloc, all, rounds, deeds)?;
-    Ok(Some(mention_effect(alloc, count, whole.as_slice())?))
-}
-
-// Whether a deed calls no method but of a part whose number is below a bound.
-fn leads_below(parts: &[usize], bound: usize, deed: NumberedDeed) -> bool
-    ensures { result ≡ leads_below parts.now bound deed }
-{
-    match deed {
-        NumberedDeed::Call(number) => number_at(parts, number) < bound,
-        NumberedDeed::Mention(_) => true,
-        NumberedDeed::Change(_) => true,
-        NumberedDeed::Write(_) => true,
-    }
-}
-
-// Whether so do all of these deeds.
-fn all_lead_below(parts: &[usize], bound: usize, deeds: &[NumberedDeed]) -> bool
-    ensures { result ≡ all_lead_below parts.now bound deeds.now }
-{
-    'deeds: for deed in deeds {
-        if !leads_below(parts, bound, *deed) {
-            return false;
-        }
-    }
-    true
-}
-
-// Whether the deeds of the method of a number call none but of its own part and of those with lower numbers.
-fn never_rises_from(parts: &[usize], number: usize, deeds: &[NumberedDeed]) -> bool
-    ensures { result ≡ true → all_lead_below parts.now (number_at parts.now number + 1) deeds.now ≡ true }
-{
-    match number_at(parts, number).checked_add(1) {
-        None => false,
-        Some(bound) => all_lead_below(parts, bound, deeds),
-    }
-}
-
-// Whether the number of the part rises along no call.
-fn never_rises(parts: &[usize], all: &[List<NumberedDeed>]) -> bool
-    ensures { result ≡ true → NeverRises parts.now all.now }
-{
-    let mut number: usize = 0;
-    'methods: for deeds in all {
-        if !never_rises_from(parts, number, deeds.as_slice()) {
-            return false;
-        }
-        number += 1;
-    }
-    true
-}
-
-// The effect of the method of a number, which has these deeds, where it is on a cycle of calls. Where the numbers of parts rise along no
-// call, which `ranked` tells, one that calls into lower ones alone is on none.
-fn effect_by_parts(
-    alloc: Global,
-    count: usize,
-    all: &[List<NumberedDeed>],
-    parts: &[usize],
-    ranked: bool,
-    number: usize,
-    deeds: &[NumberedDeed],
-) -> Result<Option<CallEffect>, OutOfMemory>
-    ensures { (ranked ≡ true → NeverRises parts.now all.now) → slice_get all.now number ≡ Some deeds.now → IfOk result (λ effect. effect ≡ cycle_effect count all.now number deeds.now) }
-{
-    if ranked {
-        if all_lead_below(parts, number_at(parts, number), deeds) {
-            return Ok(None);
-        }
-    }
-    cycle_effect(alloc, count, all, number, deeds)
-}
-
-/// The effects of the methods that are on a cycle of calls, in the order of the methods, which have these deeds; none for the others.
-/// `parts` are the numbers of the methods' parts.
-pub fn cycle_effects(
-    alloc: Global,
-    count: usize,
-    all: &[List<NumberedDeed>],
-    parts: &[usize],
-) -> Result<List<Option<CallEffect>>, OutOfMemory>
-    ensures { IfOk result (AreCycleEffects count all.now) }
-{
-    let ranked = never_rises(parts, all);
-    let mut effects = List::new(alloc);
-    let mut number: usize = 0;
-    'methods: for deeds in all {
-        let effect = effect_by_parts(alloc, count, all, parts, ranked, number, deeds.as_slice())?;
-        effects.push(effect)?;
-        number += 1;
-    }
-    Ok(effects)
+    Ok(CallEffect {
+        reads: effect.reads.copy(alloc)?,
+        keeps: effect.keeps.copy(alloc)?,
+    })
 }
 
 // The effect of a method whose body is walked, where its calls have these effects.

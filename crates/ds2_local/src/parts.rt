@@ -1,19 +1,27 @@
 //! Parts of methods that call each other, the called ones first.
 //!
 //! Nothing is promised of them: who goes by them looks whether they serve, and finds the same in another way where they do not.
-ghost use Rattle.std.specs.Prelude.{◌≡◌};
+ghost use Rattle.std.specs.Prelude.{◌≡◌, IfOk, replicate, slice_get, slice_set};
+ghost use Rattle.ds2_deeds.specs.NumberedCalls.{deeds_numbered};
 ghost use Rattle.ds2_local.specs.CallParts.{number_at};
 
 use ds2_base::{List, OutOfMemory};
 use ds2_deeds::NumberedDeed;
 use std::alloc::Global;
 
-/// The methods of a program, part by part, and the number of each one's part in the order of the methods, from 1 on. A call leads into its
-/// own part or into an earlier one.
+/// The methods of a program, by the parts of those that reach each other by calls. A call leads into its own part or into an earlier one.
 #[derive(Drop)]
 pub struct CallParts {
+    /// The methods, part by part. The last one of each part is its head, and each other one is called by one that stands behind it.
     pub order: List<usize>,
+    /// For each method the number of its part, from 1 on, and one more than the number of the part's head.
     pub parts: List<usize>,
+    pub heads: List<usize>,
+    /// For each method but the heads one of its part that calls it, by which the head reaches it, and the place of that deed.
+    pub callers: List<usize>,
+    pub places: List<usize>,
+    /// For each method but the heads the place of its deed that calls one of its part, by which it reaches the head.
+    pub homeward: List<usize>,
 }
 
 /// The number at a place, and 0 where there is none.
@@ -26,15 +34,19 @@ pub fn number_at(numbers: &[usize], place: usize) -> usize
     }
 }
 
-// Puts a number in its place, where there is such a place.
-fn put(numbers: &mut List<usize>, place: usize, number: usize) {
+/// Puts a number in its place, where there is such a place.
+pub fn put(numbers: &mut List<usize>, place: usize, number: usize)
+    ensures { numbers.new ≡ slice_set numbers.old place number }
+{
     if place < numbers.len() {
         numbers.replace(place, number);
     }
 }
 
-// So many numbers.
-fn zeros(alloc: Global, count: usize) -> Result<List<usize>, OutOfMemory> {
+/// So many numbers, each 0.
+pub fn zeros(alloc: Global, count: usize) -> Result<List<usize>, OutOfMemory>
+    ensures { IfOk result (λ numbers. numbers ≡ replicate count 0) }
+{
     let mut numbers = List::new(alloc);
     'numbers: for _ in 0..count {
         numbers.push(0)?;
@@ -42,8 +54,10 @@ fn zeros(alloc: Global, count: usize) -> Result<List<usize>, OutOfMemory> {
     Ok(numbers)
 }
 
-// The deed of a method at a place.
-fn deed_at(all: &[List<NumberedDeed>], method: usize, place: usize) -> Option<NumberedDeed> {
+/// The deed of a method at a place.
+pub fn deed_at(all: &[List<NumberedDeed>], method: usize, place: usize) -> Option<NumberedDeed>
+    ensures { result ≡ slice_get (deeds_numbered all.now method) place }
+{
     match all.get(method) {
         None => None,
         Some(deeds) => deeds.get(place).copied(),
@@ -78,11 +92,18 @@ impl Search {
         self.path.push(method)
     }
 
-    // Calls from a method lead to an open one of this turn.
+    // The place of the deed of a method that was followed last.
+    fn place_of(&self, method: usize) -> usize {
+        number_at(self.followed.as_slice(), method).saturating_sub(1)
+    }
+
+    // Calls from a method, by way of the deed that was followed last, lead to an open one of this turn.
     fn lower(&mut self, method: usize, turn: usize) {
         let low = number_at(self.low.as_slice(), method);
         if turn < low {
             put(&mut self.low, method, turn);
+            let place = self.place_of(method);
+            put(&mut self.found.homeward, method, place);
         }
     }
 
@@ -90,6 +111,9 @@ impl Search {
     fn call(&mut self, method: usize, called: usize) -> Result<(), OutOfMemory> {
         let turn = number_at(self.met.as_slice(), called);
         if turn == 0 {
+            put(&mut self.found.callers, called, method);
+            let place = self.place_of(method);
+            put(&mut self.found.places, called, place);
             return self.enter(called);
         }
         let part = number_at(self.found.parts.as_slice(), called);
@@ -99,12 +123,13 @@ impl Search {
         Ok(())
     }
 
-    // The open method that was met last is one of a part.
-    fn take_last(&mut self, part: usize) -> Result<Option<usize>, OutOfMemory> {
+    // The open method that was met last is one of the part that has this head.
+    fn take_last(&mut self, part: usize, head: usize) -> Result<Option<usize>, OutOfMemory> {
         match self.open.pop() {
             None => Ok(None),
             Some(last) => {
                 put(&mut self.found.parts, last, part);
+                put(&mut self.found.heads, last, head.saturating_add(1));
                 self.found.order.push(last)?;
                 Ok(Some(last))
             }
@@ -116,7 +141,7 @@ impl Search {
         let part = self.part.saturating_add(1);
         self.part = part;
         'open: for _ in 0..self.open.len() {
-            if self.take_last(part)? == Some(method) {
+            if self.take_last(part, method)? == Some(method) {
                 return Ok(());
             }
         }
@@ -171,12 +196,29 @@ impl Search {
     }
 }
 
+// Parts that hold no method yet.
+fn no_parts(alloc: Global, count: usize) -> Result<CallParts, OutOfMemory> {
+    let parts = zeros(alloc, count)?;
+    let heads = zeros(alloc, count)?;
+    let callers = zeros(alloc, count)?;
+    let places = zeros(alloc, count)?;
+    let homeward = zeros(alloc, count)?;
+    Ok(CallParts {
+        order: List::new(alloc),
+        parts,
+        heads,
+        callers,
+        places,
+        homeward,
+    })
+}
+
 // A search that has met no method.
 fn begun(alloc: Global, count: usize) -> Result<Search, OutOfMemory> {
     let met = zeros(alloc, count)?;
     let low = zeros(alloc, count)?;
     let followed = zeros(alloc, count)?;
-    let parts = zeros(alloc, count)?;
+    let found = no_parts(alloc, count)?;
     Ok(Search {
         met,
         low,
@@ -185,10 +227,7 @@ fn begun(alloc: Global, count: usize) -> Result<Search, OutOfMemory> {
         path: List::new(alloc),
         turn: 0,
         part: 0,
-        found: CallParts {
-            order: List::new(alloc),
-            parts,
-        },
+        found,
     })
 }
 

@@ -12,7 +12,7 @@ ghost use Rattle.ds2_locality.specs.Verdict.{JudgedThread};
 ghost use Rattle.ds2_recorded_walk.specs.declared.record.CallEffect.{CallEffect as CallEffectModel};
 ghost use Rattle.ds2_recorded_walk.specs.LocationBits.{is_on};
 
-use crate::effects::plain_effect;
+use crate::effects::{copy_effect, plain_effect};
 use crate::judged::JudgedBodies;
 use crate::parts::number_at;
 use ds2_base::{List, OutOfMemory};
@@ -30,10 +30,10 @@ fn first_effect(alloc: Global, cycle: &Option<CallEffect>) -> Result<CallEffect,
             reads: List::new(alloc),
             keeps: List::new(alloc),
         }),
-        Some(effect) => Ok(CallEffect {
-            reads: effect.reads.copy(alloc)?,
-            keeps: effect.keeps.copy(alloc)?,
-        }),
+        Some(effect) => {
+            let copy = copy_effect(alloc, effect)?;
+            Ok(copy)
+        }
     }
 }
 

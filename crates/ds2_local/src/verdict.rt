@@ -17,9 +17,10 @@ ghost use Rattle.ds2_local.specs.JudgedTrees.{judged_thread, place_of_system};
 ghost use Rattle.ds2_local.specs.RunGrounds.{ground_of_read, IsNotLocalBy};
 ghost use Rattle.ds2_local.specs.Verdicts.{earlier_of_places, ground_of_place, first_write_numbered, place_written, IsSoundAt, TellsCells};
 
-use crate::effects::{call_rounds, cycle_effects};
+use crate::cycles::cycle_effects;
+use crate::effects::call_rounds;
 use crate::judged::JudgedBodies;
-use crate::parts::{CallParts, call_parts};
+use crate::parts::call_parts;
 use crate::reading::bys_read;
 use crate::runs::{cells, failing_at_grain, record_later_loads};
 use ds2_base::{Name, OutOfMemory, Place};
@@ -236,16 +237,16 @@ fn verdict_by_numbers(
     ds2_deeds::laws::callees_are_found();
     ds2_deeds::laws::reached_are_found();
     let deeds = all_method_deeds(alloc, numbers, program)?;
-    let CallParts { order, parts } = call_parts(alloc, deeds.as_slice())?;
+    let parts = call_parts(alloc, deeds.as_slice())?;
     let count = numbers.locations.len();
-    let cycles = cycle_effects(alloc, count, deeds.as_slice(), parts.as_slice())?;
+    let cycles = cycle_effects(alloc, count, deeds.as_slice(), &parts)?;
     verdict_on(&JudgedBodies {
         alloc,
         program,
         numbers,
         deeds: deeds.as_slice(),
         cycles: cycles.as_slice(),
-        order: order.as_slice(),
+        order: parts.order.as_slice(),
     })
 }
 

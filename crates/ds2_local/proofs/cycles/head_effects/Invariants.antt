@@ -1,9 +1,9 @@
 use Rattle.std.proofs.Common.{◌≡◌}
-use Rattle.ds2_local.proofs.PartLemmas.{NeverRisesTo}
-use Rattle.ds2_local.proofs.effects.never_rises.Given as goal
+use Rattle.ds2_local.proofs.ReachLemmas.{HasCycles}
+use Rattle.ds2_local.proofs.cycles.head_effects.Given as goal
 
 abbrev pub invariant-methods : goal.invariant-methods
 invariant-methods l = record {
   number : l.number ≡ l.deeds-index;
-  to : NeverRisesTo l.parts l.all l.number;
+  has : HasCycles l.count l.all l.effects l.number;
 }

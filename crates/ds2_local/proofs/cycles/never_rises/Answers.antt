@@ -3,7 +3,7 @@ use Rattle.std.specs.Prelude.{slice_get}
 use Rattle.std.proofs.lemmas.Option.{slice_get_read}
 use Rattle.ds2_local.specs.CallParts.{all_lead_below, number_at}
 use Rattle.ds2_local.proofs.PartLemmas.{all_rise_not, one_rises_not}
-use Rattle.ds2_local.proofs.effects.never_rises.Goals as goal
+use Rattle.ds2_local.proofs.cycles.never_rises.Goals as goal
 
 pub methods-preserved : goal.methods-preserved
 methods-preserved c =
@@ -27,4 +27,5 @@ returns c = λ is.
     let over = c.methods-test.false in
     let few = c.methods.auto.deeds-index-end in
     let end' : c.methods.deeds-index ≡ length all = omega (arith, over, few) in
-    all_rise_not c.args.parts.now all c.methods.number (c.methods.invariant.number ∙ end') c.methods.invariant.to
+    let long : length c.args.parts.now ≡ length all = omega (arith, c.if-parts-all.false) in
+    all_rise_not c.args.parts.now all c.methods.number long (c.methods.invariant.number ∙ end') c.methods.invariant.to

@@ -1,6 +1,6 @@
 use Rattle.std.proofs.Common.{◌≡◌}
 use Rattle.ds2_local.proofs.SettleLemmas.{HasCycleEffects}
-use Rattle.ds2_local.proofs.effects.cycle_effects.Given as goal
+use Rattle.ds2_local.proofs.cycles.cycle_effects.Given as goal
 
 abbrev pub invariant-methods : goal.invariant-methods
 invariant-methods l = record {
