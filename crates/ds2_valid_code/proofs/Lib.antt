@@ -1,4 +1,5 @@
 pub mod JumpLemmas
+pub mod KeyLemmas
 pub mod NameLemmas
 pub mod OwnerLemmas
 pub mod ProgramExact

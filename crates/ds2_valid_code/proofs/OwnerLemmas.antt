@@ -1,8 +1,9 @@
 -- Whose code it is: one number for methods with equal signatures, and another one for others.
-use Rattle.std.proofs.Common.{◌≡◌, ℕ, zero, suc, ◌+◌, ◌<◌, ◌≤◌, Bool, true, false, ◌&&◌, List, [], ◌∷◌, ◌++◌, length, get_or, take, drop, Option, Some, None, refl, sym, ap, ap₂, ◌∙◌, subst, arith}
+use Rattle.std.proofs.Common.{◌≡◌, ℕ, zero, suc, ◌+◌, ◌^◌, ◌<◌, ◌≤◌, Bool, true, false, ◌&&◌, List, [], ◌∷◌, ◌++◌, length, get_or, take, drop, Option, Some, None, refl, sym, ap, ap₂, ◌∙◌, subst, arith}
 use Rattle.std.specs.Prelude.{◌==◌, slice_get, slice_set, unwrap_or, Vec, if◌then◌else◌}
+use Rattle.std.specs.List.{list_all}
 use Rattle.std.specs.Option.{option_map}
-use Rattle.std.proofs.lemmas.Bool.{eq-eqb, eqb-true, eqb-false}
+use Rattle.std.proofs.lemmas.Bool.{ltb-true, eq-eqb, eqb-true, eqb-false}
 use Rattle.std.proofs.lemmas.List.{length-set, take_more, drop_more, length-take-le, append_assoc}
 use Rattle.std.specs.declared.alloc.Global.{Global}
 use Rattle.std.specs.Ordering.{is_eq, nat_cmp}
@@ -11,9 +12,10 @@ use Rattle.std.specs.BTreeMap.{BTreeMap, get}
 use Rattle.std.specs.Map.{lookup}
 use Rattle.ds2_code.specs.declared.instr.Instr.{Instr}
 use Rattle.ds2_code.specs.declared.parts.MethodPart.{MethodPart}
+use Rattle.ds2_code.specs.declared.parts.OutputPart.{OutputPart}
 use Rattle.ds2_code.specs.declared.parts.ProgramParts.{ProgramParts}
 use Rattle.ds2_code.specs.OperandTypes.{CodeRole, OfUnit, OfMethod, signature_of}
-use Rattle.ds2_code.specs.ValidCode.{unit_entries, unit_entry_role, method_entry_role, entry_role}
+use Rattle.ds2_code.specs.ValidCode.{parts_in_range, is_short, own_lists_short, hash_short, method_short, reading_short, lists_short, values_allowed, unit_entries, unit_entry_role, method_entry_role, entry_role}
 use Rattle.ds2_valid_code.specs.declared.owner.CodeOwner.{CodeOwner}
 use Rattle.ds2_valid_code.specs.declared.owner.CodeOwner.TheVariants.{Unit as UnitCode, Method as MethodCode}
 use Rattle.ds2_valid_code.specs.declared.owner.EntryPoint.{EntryPoint}
@@ -38,6 +40,20 @@ split false b h = absurd cc
 pub join : (a b : Bool) → a ≡ true → b ≡ true → (if a then b else false) ≡ true
 join true b g h = h
 join false b g h = absurd cc
+
+-- ---- how many methods
+
+-- code whose lists are short has few methods
+pub few_methods : (code : ProgramParts) → (parts_in_range code && (lists_short code && values_allowed code)) ≡ true → length code.methods < 2 ^ 32
+few_methods code h =
+    let all = both (parts_in_range code) (lists_short code && values_allowed code) h in
+    let lists = both (lists_short code) (values_allowed code) all.1 in
+    let own = both (own_lists_short code)
+    ((list_all hash_short code.hashes && list_all method_short code.methods) && (reading_short code.reading && list_all (λ (o : OutputPart). is_short o.columns) code.outputs)) lists.0 in
+    let late = both (is_short code.slots && (is_short code.constants && (is_short code.hashes && is_short code.iterators)))
+    (is_short code.parameters && (is_short code.methods && (is_short code.outputs && is_short code.instrs))) own.0 in
+    let methods = both (is_short code.parameters) (is_short code.methods && (is_short code.outputs && is_short code.instrs)) late.1 in
+    ltb-true (length code.methods) (2 ^ 32) (both (is_short code.methods) (is_short code.outputs && is_short code.instrs) methods.1).0
 
 -- ---- the first method
 

@@ -12,9 +12,8 @@ use Rattle.ds2_code.specs.OperandTypes.{OperandTypes, CodeRole, OfUnit, OfMethod
 use Rattle.ds2_code.specs.ValidCode.{CodePoint, point, unit_entries, Arrives, behind_instruction, AlongList, HasOperandTypes}
 use Rattle.ds2_valid_code.specs.declared.owner.CodeOwner.{CodeOwner}
 use Rattle.ds2_valid_code.specs.declared.owner.CodeOwner.TheVariants.{Unit as UnitCode}
-use Rattle.ds2_valid_code.specs.declared.scan.CodeMark.{CodeMark}
 use Rattle.ds2_valid_code.specs.OperandStack.{stands_empty}
-use Rattle.ds2_valid_code.specs.CodeScan.{owner_role, owner_of, same_owner, entry_table, entry_found, Standing, standing, arriving, types_onward, mark_of, on_standing, on_types, with_mark, scan_code, is_clear_for, lands_clear, jumps_land, units_clear, methods_clear, is_entered_clear, types_suffice}
+use Rattle.ds2_valid_code.specs.CodeScan.{CodeMark, owner_role, owner_of, same_owner, entry_table, entry_found, Standing, standing, arriving, types_onward, mark_of, on_standing, on_types, with_mark, scan_code, is_clear_for, lands_clear, jumps_land, units_clear, methods_clear, is_entered_clear, types_suffice}
 use Rattle.ds2_valid_code.proofs.OwnerLemmas.{both, and_so, split, join, IsKnown, owner_same, owner_is, one_owner, owner_known, entries_agree, entries_known}
 
 empty_is : (ts : OperandTypes) → stands_empty ts ≡ true → ts ≡ []

@@ -8,8 +8,7 @@ use Rattle.ds2_code.specs.CodeBound.{falls_through}
 use Rattle.ds2_code.specs.InstructionTable.{kind_of}
 use Rattle.ds2_code.specs.OperandTypes.{types_behind}
 use Rattle.ds2_valid_code.specs.declared.owner.CodeOwner.{CodeOwner}
-use Rattle.ds2_valid_code.specs.declared.scan.CodeMark.{CodeMark}
-use Rattle.ds2_valid_code.specs.CodeScan.{owner_role, Standing, standing, arriving, entry_found, types_onward, mark_of, on_standing, on_types, with_mark, scan_code}
+use Rattle.ds2_valid_code.specs.CodeScan.{CodeMark, owner_role, Standing, standing, arriving, entry_found, types_onward, mark_of, on_standing, on_types, with_mark, scan_code}
 
 -- marks in front of those that are still to come
 abbrev pub marks_joined : List CodeMark → Option (List CodeMark) → Option (List CodeMark)

@@ -14,7 +14,6 @@ use Rattle.ds2_code.specs.ValidCode.{unit_entries}
 use Rattle.ds2_valid_code.specs.declared.owner.CodeOwner.{CodeOwner}
 use Rattle.ds2_valid_code.specs.declared.owner.CodeOwner.TheVariants.{Unit as UnitCode, Method as MethodCode}
 use Rattle.ds2_valid_code.specs.declared.owner.EntryPoint.{EntryPoint}
-use Rattle.ds2_valid_code.specs.declared.scan.CodeMark.{CodeMark}
 use Rattle.ds2_valid_code.specs.OperandStack.{stands_empty}
 use Rattle.ds2_valid_code.specs.SignatureCodes.{signature_code, same_code}
 
@@ -120,7 +119,12 @@ abbrev pub types_onward : Bool → OperandTypes → OperandTypes
 types_onward true types = types
 types_onward false types = []
 
--- what is kept of an instruction
+-- what is kept of an instruction: whose code it is, and whether no operand stands before it
+pub record CodeMark : Type 0 where
+  pub owner : CodeOwner
+  pub is_empty : Bool
+
+-- the mark of an instruction at which this stands
 abbrev pub mark_of : Standing → CodeMark
 mark_of s = record { owner = s.owner; is_empty = stands_empty s.types }
 

@@ -1,14 +1,14 @@
 //! Names that differ.
 ghost use Rattle.std.specs.Prelude.{◌≡◌, ◌||◌, not, ℕ, List as Items, IfOk, OnOk, bytes_eq, map};
-ghost use Rattle.std.specs.HashSet.{contains_text};
 ghost use Rattle.ds2_value.specs.Schema.{distinct_names};
 ghost use Rattle.ds2_code.specs.ValidCode.{names_differ};
+ghost use Rattle.ds2_valid_code.specs.SeenNames.{has_name};
 
 use ds2_base::{Name, OutOfMemory};
 use ds2_code::OutputPart;
 use ds2_value::Column;
 use std::alloc::Global;
-use std::collections::HashSet;
+use std::collections::BTreeSet;
 
 // What has a name.
 pub(crate) trait Named {
@@ -43,12 +43,12 @@ impl Named for (Name, u32) {
 }
 
 // Adds a name to those that were seen, and tells whether it is a new one.
-fn is_new(alloc: Global, seen: &mut HashSet<String>, name: &Name) -> Result<bool, OutOfMemory>
-    ensures new { IfOk result (λ new. new ≡ not (contains_text seen.old name.now)) }
-    ensures seen { OnOk result ((other : Items ℕ) → contains_text seen.new other ≡ (bytes_eq name.now other || contains_text seen.old other)) }
+fn is_new<'p>(seen: &mut BTreeSet<&'p str>, name: &'p Name) -> Result<bool, OutOfMemory>
+    ensures new { IfOk result (λ new. new ≡ not (has_name seen.old name.now)) }
+    ensures seen { OnOk result ((other : Items ℕ) → has_name seen.new other ≡ (bytes_eq name.now other || has_name seen.old other)) }
 {
-    let key = String::from_str(alloc, name.as_str())?;
-    let new = seen.insert(key)?;
+    let text = name.as_str();
+    let new = seen.insert(text)?;
     Ok(new)
 }
 
@@ -56,9 +56,9 @@ fn is_new(alloc: Global, seen: &mut HashSet<String>, name: &Name) -> Result<bool
 pub(crate) fn names_differ<T: Named>(alloc: Global, items: &[T]) -> Result<bool, OutOfMemory>
     ensures { IfOk result (λ differ. differ ≡ names_differ (map T.own_name items.now)) }
 {
-    let mut seen: HashSet<String> = HashSet::new(alloc);
+    let mut seen: BTreeSet<&str> = BTreeSet::new(alloc);
     'items: for item in items {
-        if !is_new(alloc, &mut seen, item.name())? {
+        if !is_new(&mut seen, item.name())? {
             return Ok(false);
         }
     }

@@ -1,5 +1,5 @@
 //! Whose code an instruction is.
-ghost use Rattle.std.specs.Prelude.{◌≡◌, ◌++◌, ℕ, Vec, Some, None, OnOk, IfOk, if◌then◌else◌};
+ghost use Rattle.std.specs.Prelude.{◌≡◌, ◌<◌, ◌^◌, ◌++◌, length, ℕ, Vec, Some, None, OnOk, IfOk, if◌then◌else◌};
 ghost use Rattle.std.specs.declared.alloc.Global.{Global as Heap};
 ghost use Rattle.ds2_code.specs.OperandTypes.{signature_of};
 ghost use Rattle.ds2_valid_code.specs.CodeScan.{method_points, same_owner};
@@ -15,7 +15,7 @@ use std::collections::BTreeMap;
 #[derive(Clone, Copy, PartialEq, Eq)]
 pub(crate) enum CodeOwner {
     Unit,
-    Method(usize),
+    Method(u32),
 }
 
 /// Where code may be entered, and whose it is.
@@ -94,10 +94,10 @@ fn signature_code(alloc: Global, method: &MethodPart) -> Result<List<u16>, OutOf
 
 // The number of a signature; where it has none yet, it gets the next one.
 fn number_of(
-    numbers: &mut BTreeMap<Vec<u16>, usize>,
+    numbers: &mut BTreeMap<Vec<u16>, u32>,
     signature: Vec<u16>,
-    next: usize,
-) -> Result<usize, OutOfMemory>
+    next: u32,
+) -> Result<u32, OutOfMemory>
     ensures number { IfOk result (λ number. Some number ≡ found_or (number_of_code numbers.old signature.items) (Some next)) }
     ensures numbers { OnOk result ((other : Vec ℕ Heap) → number_of_code numbers.new other.items ≡ found_or (number_of_code numbers.old other.items) (if same_code signature.items other.items then Some next else None)) }
 {
@@ -113,11 +113,12 @@ pub(crate) fn method_points(
     alloc: Global,
     methods: &[MethodPart],
 ) -> Result<Vec<EntryPoint>, OutOfMemory>
+    requires { length methods.now < 2 ^ 32 }
     ensures { IfOk result (λ points. points.items ≡ method_points methods.now methods.now) }
 {
-    let mut numbers: BTreeMap<Vec<u16>, usize> = BTreeMap::new(alloc);
+    let mut numbers: BTreeMap<Vec<u16>, u32> = BTreeMap::new(alloc);
     let mut points: Vec<EntryPoint> = Vec::new(alloc);
-    let mut next: usize = 0;
+    let mut next: u32 = 0;
     'methods: for method in methods {
         let signature = signature_code(alloc, method)?.into_vec();
         let number = number_of(&mut numbers, signature, next)?;

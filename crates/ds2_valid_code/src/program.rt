@@ -9,15 +9,21 @@ use crate::layout::{layout_is_fit, outputs_are_named_apart};
 use crate::scan::types_suffice;
 use crate::values::values_are_allowed;
 use ds2_base::OutOfMemory;
-use ds2_code::{ProgramParts, StagedParts};
+use ds2_code::{Instr, ProgramParts, Slot, StagedParts};
 use std::alloc::Global;
 use std::marker::Model;
+use std::mem::size_of;
 
 /// Valid code of a program, and of the thread program that it may read from. A contract sees its parts.
 #[derive(Drop)]
 pub struct ProgramCode {
     parts: StagedParts,
 }
+
+// An object may have many of both. A list of slots may have room for as many again.
+const _: () = prove!(size_of::<Instr>() <= 16);
+
+const _: () = prove!(size_of::<Slot>() <= 32);
 
 impl Model for ProgramCode {
     ghost use Rattle.std.specs.Prelude.{IsTrue};

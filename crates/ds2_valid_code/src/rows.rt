@@ -43,7 +43,7 @@ fn local_type(methods: &[MethodPart], owner: CodeOwner, n: u32) -> Option<Ty>
 {
     match owner {
         CodeOwner::Unit => None,
-        CodeOwner::Method(k) => match methods.get(k) {
+        CodeOwner::Method(k) => match methods.get(k as usize) {
             None => None,
             Some(method) => method_local_type(method, n as usize),
         },
@@ -110,7 +110,7 @@ fn return_alone(types: &TypeStack, methods: &[MethodPart], owner: CodeOwner) -> 
 {
     match owner {
         CodeOwner::Unit => false,
-        CodeOwner::Method(k) => match methods.get(k) {
+        CodeOwner::Method(k) => match methods.get(k as usize) {
             None => false,
             Some(method) => return_from(types, method),
         },
@@ -131,7 +131,7 @@ fn return_result(types: &mut TypeStack, methods: &[MethodPart], owner: CodeOwner
 {
     match owner {
         CodeOwner::Unit => false,
-        CodeOwner::Method(k) => match methods.get(k) {
+        CodeOwner::Method(k) => match methods.get(k as usize) {
             None => false,
             Some(method) => result_from(types, method),
         },
@@ -143,7 +143,7 @@ fn unit_end(types: &TypeStack, methods: &[MethodPart], owner: CodeOwner) -> bool
 {
     match owner {
         CodeOwner::Unit => nothing(types),
-        CodeOwner::Method(k) => match methods.get(k) {
+        CodeOwner::Method(k) => match methods.get(k as usize) {
             None => nothing(types),
             Some(_) => false,
         },

@@ -1,10 +1,11 @@
 //! Operand types along the list of instructions.
-ghost use Rattle.std.specs.Prelude.{◌≡◌, [], false, Some, None, List as Items, Option, OnOk, IfOk, MatchOption, slice_get, slice_set, if◌then◌else◌};
+ghost use Rattle.std.specs.Prelude.{◌≡◌, ◌<◌, ◌^◌, [], length, false, Some, None, List as Items, Option, OnOk, IfOk, MatchOption, slice_get, slice_set, if◌then◌else◌};
 ghost use Rattle.ds2_code.specs.ValidCode.{stage_parameters, unit_entries};
 ghost use Rattle.ds2_valid_code.specs.declared.owner.CodeOwner.{CodeOwner as Owner};
 ghost use Rattle.ds2_valid_code.specs.declared.owner.CodeOwner.TheVariants.{Unit as UnitCode};
 ghost use Rattle.ds2_valid_code.specs.CodeScan.{arriving, standing, entry_found, types_onward, scan_code, is_clear_for, lands_clear, jumps_land, entry_point, unit_points, method_points, points_clear, entry_table, is_entered_clear, with_entries, HasEntries, types_suffice};
 
+use crate::marks::CodeMark;
 use crate::owner::{CodeOwner, EntryPoint, method_points, same_owner};
 use crate::rows::types_behind;
 use crate::stack::TypeStack;
@@ -12,13 +13,6 @@ use ds2_base::OutOfMemory;
 use ds2_code::{Instr, ProgramParts};
 use std::alloc::Global;
 use std::collections::BTreeMap;
-
-/// What is kept of an instruction: whose code it is, and whether no operand stands before it.
-#[derive(Clone, Copy, PartialEq, Eq)]
-pub(crate) struct CodeMark {
-    pub(crate) owner: CodeOwner,
-    pub(crate) is_empty: bool,
-}
 
 fn write(entries: &mut BTreeMap<usize, CodeOwner>, point: EntryPoint) -> Result<(), OutOfMemory>
     ensures { OnOk result ((table : Items (Option Owner)) → HasEntries entries.old table → HasEntries entries.new (slice_set table point.at (Some point.owner))) }
@@ -133,7 +127,7 @@ fn scan(
     ensures { IfOk result (λ found. MatchOption found (scan_code code.now (stage_parameters (slice_get stages.now 0)) (entry_table code.now) 0 false (standing UnitCode []) code.now.instrs ≡ None) (λ marks. scan_code code.now (stage_parameters (slice_get stages.now 0)) (entry_table code.now) 0 false (standing UnitCode []) code.now.instrs ≡ Some marks.items)) }
 {
     let instrs = code.instrs.as_slice();
-    let mut marks: Vec<CodeMark> = Vec::new(alloc);
+    let mut marks: Vec<CodeMark> = Vec::with_capacity(alloc, instrs.len())?;
     let mut types = TypeStack::new(alloc);
     let mut owner = CodeOwner::Unit;
     let mut came = false;
@@ -142,8 +136,7 @@ fn scan(
         if !arrives(entry_at(code, entries, at), came, &mut owner, &mut types) {
             return Ok(None);
         }
-        let is_empty = types.is_empty();
-        marks.push(CodeMark { owner, is_empty })?;
+        marks.push(CodeMark::new(owner, types.is_empty()))?;
         if !types_behind(&mut types, owner, *instr, code, stages)? {
             return Ok(None);
         }
@@ -162,7 +155,7 @@ fn is_clear_for(marks: &[CodeMark], at: usize, owner: CodeOwner) -> bool
 {
     match marks.get(at) {
         None => false,
-        Some(mark) => same_owner(mark.owner, owner) && mark.is_empty,
+        Some(mark) => same_owner(mark.owner(), owner) && mark.is_empty(),
     }
 }
 
@@ -174,7 +167,7 @@ fn lands_clear(marks: &[CodeMark], at: usize, target: Option<u32>) -> bool
     };
     match marks.get(at) {
         None => false,
-        Some(mark) => is_clear_for(marks, to as usize, mark.owner),
+        Some(mark) => is_clear_for(marks, to as usize, mark.owner()),
     }
 }
 
@@ -218,6 +211,7 @@ pub(crate) fn types_suffice(
     code: &ProgramParts,
     stages: &[ProgramParts],
 ) -> Result<bool, OutOfMemory>
+    requires { length code.now.methods < 2 ^ 32 }
     ensures { IfOk result (λ suffice. suffice ≡ types_suffice code.now (stage_parameters (slice_get stages.now 0))) }
 {
     let methods = method_points(alloc, code.methods.as_slice())?;

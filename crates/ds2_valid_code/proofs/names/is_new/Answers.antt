@@ -1,14 +1,11 @@
-use Rattle.std.proofs.Common.{◌≡◌, true, ap, ◌∙◌, bytes_eq, string_bytes}
-use Rattle.std.specs.Prelude.{◌||◌}
-use Rattle.std.specs.HashSet.{contains_text}
-use Rattle.std.proofs.lemmas.Map.Text.{hash_set_updates_text}
-use Rattle.ds2_valid_code.proofs.NameLemmas.{cond_or}
+use Rattle.std.proofs.Common.{ℕ, List, ap, ◌∙◌}
+use Rattle.std.specs.Prelude.{◌||◌, bytes_eq}
+use Rattle.std.specs.Borrow.{Bor}
+use Rattle.ds2_valid_code.specs.SeenNames.{has_name}
+use Rattle.ds2_valid_code.proofs.KeyLemmas.{key_added}
 use Rattle.ds2_valid_code.proofs.names.is_new.Goals as goal
 
 pub returns-clause-seen : goal.returns-clause-seen
 returns-clause-seen c = λ other.
-    let key = c.in_ok-key.key in
-    let spelled : string_bytes key ≡ c.args.name.now = c.in_ok-key.ensures.ok ∙ c.as_str.ensures.bytes in
-    hash_set_updates_text (string_bytes key) c.args.seen.now c.insert.new.self true c.in_ok-new.ensures.updates other
-    ∙ cond_or (bytes_eq (string_bytes key) other) (contains_text c.args.seen.now other)
-    ∙ ap (λ z. bytes_eq z other || contains_text c.args.seen.now other) spelled
+    key_added (λ (key : Bor (List ℕ)). key.now) c.as_str-text.result.now c.args.seen.now c.insert.new.self c.in_ok-new.ensures.updates other
+    ∙ ap (λ z. bytes_eq z other || has_name c.args.seen.now other) c.as_str-text.ensures.bytes
