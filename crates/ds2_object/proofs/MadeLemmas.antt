@@ -1,8 +1,6 @@
 -- Tables that programs make: their columns, their spellings, sets of these.
-use Rattle.std.proofs.Common.{◌≡◌, ℕ, zero, suc, ◌-◌, ◌^◌, ◌==◌, ◌<◌, ◌≤◌, Bool, true, false, ◌&&◌, ◌||◌, IsTrue, List, [], ◌∷◌, ◌++◌, length, map, take, drop, get_or, slice_get, nat_lt, nat_eq, Option, Some, None, option_map, refl, sym, ap, subst, ◌∙◌, eqb-true, eq-eqb, arith}
+use Rattle.std.proofs.Common.{◌≡◌, ℕ, zero, suc, ◌-◌, ◌^◌, ◌==◌, ◌<◌, ◌≤◌, Bool, true, false, ◌&&◌, ◌||◌, IsTrue, List, [], ◌∷◌, ◌++◌, length, map, take, drop, get_or, slice_get, nat_lt, Option, Some, None, option_map, refl, sym, ap, subst, ◌∙◌, eqb-true, eq-eqb, arith}
 use Rattle.std.specs.Prelude.{bytes_eq}
-use Rattle.std.specs.Cmp.Lexicographic.{pointwise}
-use Rattle.std.specs.HashSet.{HashSet, contains}
 use Rattle.std.specs.List.{list_all, list_any}
 use Rattle.std.specs.Option.{option_map_or}
 use Rattle.std.proofs.lemmas.Bool.{ltb-true}
@@ -30,7 +28,7 @@ use Rattle.ds2_object_words.proofs.CodePartLemmas.{reference_law}
 use Rattle.ds2_object_words.proofs.ListSteps.{ItemsLeft, first_ruled, none_written, one_written, all_written}
 use Rattle.ds2_object_words.proofs.PartLemmas.{both, and_true, begins_no_other}
 use Rattle.ds2_object_words.proofs.WriteSteps.{column_written, reference_written, list_written, any_items}
-use Rattle.ds2_object.specs.MadeTables.{has_spelled_slot, made_table_column, is_spelled_output, made_table, is_output_of, is_among_outputs, has_spelling, AddsTables, HasMade}
+use Rattle.ds2_object.specs.MadeTables.{has_spelled_slot, made_table_column, is_spelled_output, made_table, is_output_of, is_among_outputs, SpellingSet, has_bytes, has_spelling, AddsTables, HasMade}
 use Rattle.ds2_object.specs.ObjectSpelling.{is_slot_of, column_is, columns_are, output_is, has_maker}
 
 -- ---- truth
@@ -207,23 +205,23 @@ key_is maker slots o r key written spelled allowed =
 -- ---- sets
 
 -- an output whose spelling was put into a set
-pub output_added : {S : Type 0} (maker : ℕ) (slots : List Slot) (o : OutputPart) (key : Bytes) (before after : HashSet Bytes S) → Writes reference_line [] (made_table slots maker o) key
-    → IsTrue (is_spelled_output slots o) → ((other : Bytes) → contains (pointwise nat_eq) after other ≡ (bytes_eq key other || contains (pointwise nat_eq) before other))
+pub output_added : (maker : ℕ) (slots : List Slot) (o : OutputPart) (key : Bytes) (before after : SpellingSet) → Writes reference_line [] (made_table slots maker o) key
+    → IsTrue (is_spelled_output slots o) → ((other : Bytes) → has_bytes after other ≡ (bytes_eq key other || has_bytes before other))
     → AddsTables before (is_output_of maker slots o) after
 output_added maker slots o key before after written spelled added = λ r allowed.
     added (reference_line.spelled r) ∙ ap (λ (b : Bool). b || has_spelling before r) (key_is maker slots o r key written spelled allowed)
 
 -- how far outputs are put into a set
-pub record OutputsLeft {S : Type 0} (before : HashSet Bytes S) (maker : ℕ) (slots : List Slot) (outputs : List OutputPart) (made : HashSet Bytes S) (rest : List OutputPart) : Type 0 where
+pub record OutputsLeft (before : SpellingSet) (maker : ℕ) (slots : List Slot) (outputs : List OutputPart) (made : SpellingSet) (rest : List OutputPart) : Type 0 where
   pub tables : (r : TableReference) → IsTrue (reference_line.allows r)
       → (is_among_outputs maker slots rest r || has_spelling made r) ≡ (is_among_outputs maker slots outputs r || has_spelling before r)
   pub spelled : IsTrue (list_all (is_spelled_output slots) rest)
 
-pub outputs_begun : {S : Type 0} (before : HashSet Bytes S) (maker : ℕ) (slots : List Slot) (outputs : List OutputPart) → IsTrue (list_all (is_spelled_output slots) outputs)
+pub outputs_begun : (before : SpellingSet) (maker : ℕ) (slots : List Slot) (outputs : List OutputPart) → IsTrue (list_all (is_spelled_output slots) outputs)
     → OutputsLeft before maker slots outputs before outputs
 outputs_begun before maker slots outputs h = record { tables = λ r allowed. refl; spelled = h }
 
-pub output_first : {S : Type 0} (before : HashSet Bytes S) (maker : ℕ) (slots : List Slot) (outputs : List OutputPart) (made : HashSet Bytes S) (o : OutputPart) (whole rest : List OutputPart)
+pub output_first : (before : SpellingSet) (maker : ℕ) (slots : List Slot) (outputs : List OutputPart) (made : SpellingSet) (o : OutputPart) (whole rest : List OutputPart)
     → whole ≡ o ∷ rest → OutputsLeft before maker slots outputs made whole → IsTrue (is_spelled_output slots o)
 output_first before maker slots outputs made o whole rest e left = first_ruled (is_spelled_output slots) o whole rest e left.spelled
 
@@ -234,7 +232,7 @@ regrouped true true false old = refl
 regrouped true false true old = refl
 regrouped true false false old = refl
 
-pub output_more : {S : Type 0} (before : HashSet Bytes S) (maker : ℕ) (slots : List Slot) (outputs : List OutputPart) (made after : HashSet Bytes S) (o : OutputPart) (whole rest : List OutputPart)
+pub output_more : (before : SpellingSet) (maker : ℕ) (slots : List Slot) (outputs : List OutputPart) (made after : SpellingSet) (o : OutputPart) (whole rest : List OutputPart)
     → whole ≡ o ∷ rest → OutputsLeft before maker slots outputs made whole → AddsTables made (is_output_of maker slots o) after → OutputsLeft before maker slots outputs after rest
 output_more before maker slots outputs made after o whole rest e left added = record {
   tables = λ r allowed.
@@ -244,7 +242,7 @@ output_more before maker slots outputs made after o whole rest e left added = re
   spelled = (both (is_spelled_output slots o) (list_all (is_spelled_output slots) rest) (ap (list_all (is_spelled_output slots)) (sym e) ∙ left.spelled)).1;
 }
 
-pub outputs_all : {S : Type 0} (before : HashSet Bytes S) (maker : ℕ) (slots : List Slot) (outputs : List OutputPart) (made : HashSet Bytes S) (rest : List OutputPart) → rest ≡ []
+pub outputs_all : (before : SpellingSet) (maker : ℕ) (slots : List Slot) (outputs : List OutputPart) (made : SpellingSet) (rest : List OutputPart) → rest ≡ []
     → OutputsLeft before maker slots outputs made rest → AddsTables before (is_among_outputs maker slots outputs) made
 outputs_all before maker slots outputs made rest e left = λ r allowed.
     sym (ap (λ (b : Bool). b || has_spelling made r) (and-false (r.maker == maker)))
@@ -308,12 +306,12 @@ valid_outputs s v = chain_outputs s.program s.stages v.chain
 -- ---- look-ups
 
 -- a table of the store
-pub stored : {S : Type 0} (r : TableReference) (set : HashSet Bytes S) (earlier : List StagedParts) → r.maker ≡ 0 → HasMade set earlier → true ≡ has_maker earlier r
+pub stored : (r : TableReference) (set : SpellingSet) (earlier : List StagedParts) → r.maker ≡ 0 → HasMade set earlier → true ≡ has_maker earlier r
 stored r set earlier e has = rw e refl
 
 -- a table that was looked up
-pub looked_up : {S : Type 0} (r : TableReference) (set : HashSet Bytes S) (empty key : Bytes) (is : Bool) (earlier : List StagedParts) → (r.maker == 0) ≡ false → empty ≡ []
-    → Writes reference_line empty r key → is ≡ contains (pointwise nat_eq) set key → HasMade set earlier → is ≡ has_maker earlier r
+pub looked_up : (r : TableReference) (set : SpellingSet) (empty key : Bytes) (is : Bool) (earlier : List StagedParts) → (r.maker == 0) ≡ false → empty ≡ []
+    → Writes reference_line empty r key → is ≡ has_bytes set key → HasMade set earlier → is ≡ has_maker earlier r
 looked_up r set empty key is earlier e begun written found has =
     let spelled : key ≡ reference_line.spelled r = written.bytes ∙ ap (λ (z : Bytes). z ++ reference_line.spelled r) begun in
-    found ∙ ap (contains (pointwise nat_eq) set) spelled ∙ sym (ap (λ (b : Bool). b || has_spelling set r) e) ∙ has r written.allowed
+    found ∙ ap (has_bytes set) spelled ∙ sym (ap (λ (b : Bool). b || has_spelling set r) e) ∙ has r written.allowed

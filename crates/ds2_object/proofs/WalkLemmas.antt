@@ -1,8 +1,7 @@
 -- Walks over the tables that programs name, each looked up in a set.
-use Rattle.std.proofs.Common.{◌≡◌, ℕ, zero, suc, ◌+◌, ◌-◌, ◌==◌, Bool, true, false, ◌&&◌, ◌||◌, IsTrue, List, [], ◌∷◌, ◌++◌, length, take, drop, slice_get, nat_eq, Option, Some, None, Result, Ok, Err, refl, sym, ap, ◌∙◌, arith}
+use Rattle.std.proofs.Common.{◌≡◌, ℕ, zero, suc, ◌+◌, ◌-◌, ◌==◌, Bool, true, false, ◌&&◌, ◌||◌, IsTrue, List, [], ◌∷◌, ◌++◌, length, take, drop, slice_get, Option, Some, None, Result, Ok, Err, refl, sym, ap, ◌∙◌, arith}
 use Rattle.std.specs.Prelude.{IfOk}
-use Rattle.std.specs.Cmp.Lexicographic.{pointwise}
-use Rattle.std.specs.HashSet.{HashSet, contains}
+use Rattle.std.specs.BTreeSet.{IsEmpty}
 use Rattle.std.specs.List.{list_all}
 use Rattle.std.specs.Option.{option_map_or}
 use Rattle.std.proofs.Math.Bool.{or-false}
@@ -23,7 +22,7 @@ use Rattle.ds2_object_words.proofs.ListSteps.{first_ruled}
 use Rattle.ds2_object_words.proofs.PartLemmas.{both, and_true, some_is}
 use Rattle.ds2_object_programs.specs.ProgramRules.{program_spelled, reading_spelled}
 use Rattle.ds2_object_programs.proofs.WriteSteps.{part_rules}
-use Rattle.ds2_object.specs.MadeTables.{parts_spelled, has_spelling, AddsTables, HasMade}
+use Rattle.ds2_object.specs.MadeTables.{parts_spelled, SpellingSet, has_spelling, AddsTables, HasMade}
 use Rattle.ds2_object.specs.ObjectSpelling.{makes_reference, has_maker, reading_linked, hash_linked, parts_linked, has_no_name, program_linked, linked_behind}
 use Rattle.ds2_object.proofs.LinkSteps.{link_more, link_broken}
 use Rattle.ds2_object.proofs.ValidLemmas.{program_is_spelled, valid_reading}
@@ -31,18 +30,18 @@ use Rattle.ds2_object.proofs.ValidLemmas.{program_is_spelled, valid_reading}
 -- ---- walks
 
 -- how far items are looked up
-pub record WalkLeft {A S : Type 0} (set : HashSet Bytes S) (test : List StagedParts → A → Bool) (rules : A → Bool) (items rest : List A) : Type 0 where
+pub record WalkLeft {A : Type 0} (set : SpellingSet) (test : List StagedParts → A → Bool) (rules : A → Bool) (items rest : List A) : Type 0 where
   pub linked : (earlier : List StagedParts) → HasMade set earlier → list_all (test earlier) rest ≡ list_all (test earlier) items
   pub ruled : IsTrue (list_all rules rest)
 
-pub walk_begun : {A S : Type 0} (set : HashSet Bytes S) (test : List StagedParts → A → Bool) (rules : A → Bool) (items : List A) → IsTrue (list_all rules items) → WalkLeft set test rules items items
+pub walk_begun : {A : Type 0} (set : SpellingSet) (test : List StagedParts → A → Bool) (rules : A → Bool) (items : List A) → IsTrue (list_all rules items) → WalkLeft set test rules items items
 walk_begun set test rules items h = record { linked = λ earlier has. refl; ruled = h }
 
-pub walk_first : {A S : Type 0} (set : HashSet Bytes S) (test : List StagedParts → A → Bool) (rules : A → Bool) (items : List A) (x : A) (whole rest : List A) → whole ≡ x ∷ rest
+pub walk_first : {A : Type 0} (set : SpellingSet) (test : List StagedParts → A → Bool) (rules : A → Bool) (items : List A) (x : A) (whole rest : List A) → whole ≡ x ∷ rest
     → WalkLeft set test rules items whole → IsTrue (rules x)
 walk_first set test rules items x whole rest e left = first_ruled rules x whole rest e left.ruled
 
-pub walk_more : {A S : Type 0} (set : HashSet Bytes S) (test : List StagedParts → A → Bool) (rules : A → Bool) (items : List A) (x : A) (whole rest : List A) (is : Bool) → whole ≡ x ∷ rest
+pub walk_more : {A : Type 0} (set : SpellingSet) (test : List StagedParts → A → Bool) (rules : A → Bool) (items : List A) (x : A) (whole rest : List A) (is : Bool) → whole ≡ x ∷ rest
     → is ≡ true → ((earlier : List StagedParts) → HasMade set earlier → is ≡ test earlier x) → WalkLeft set test rules items whole → WalkLeft set test rules items rest
 walk_more {A} set test rules items x whole rest is e holds same left = record {
   linked = λ earlier has.
@@ -50,13 +49,13 @@ walk_more {A} set test rules items x whole rest is e holds same left = record {
   ruled = (both (rules x) (list_all rules rest) (ap (list_all rules) (sym e) ∙ left.ruled)).1;
 }
 
-pub walk_broken : {A S : Type 0} (set : HashSet Bytes S) (test : List StagedParts → A → Bool) (rules : A → Bool) (items : List A) (x : A) (whole rest : List A) (is : Bool) → whole ≡ x ∷ rest
+pub walk_broken : {A : Type 0} (set : SpellingSet) (test : List StagedParts → A → Bool) (rules : A → Bool) (items : List A) (x : A) (whole rest : List A) (is : Bool) → whole ≡ x ∷ rest
     → is ≡ false → ((earlier : List StagedParts) → HasMade set earlier → is ≡ test earlier x) → WalkLeft set test rules items whole
     → (earlier : List StagedParts) → HasMade set earlier → false ≡ list_all (test earlier) items
 walk_broken {A} set test rules items x whole rest is e fails same left = λ earlier has.
     ap (λ (b : Bool). b && list_all (test earlier) rest) (sym fails ∙ same earlier has) ∙ ap (λ (xs : List A). list_all (test earlier) xs) (sym e) ∙ left.linked earlier has
 
-pub walk_done : {A S : Type 0} (set : HashSet Bytes S) (test : List StagedParts → A → Bool) (rules : A → Bool) (items rest : List A) → rest ≡ [] → WalkLeft set test rules items rest
+pub walk_done : {A : Type 0} (set : SpellingSet) (test : List StagedParts → A → Bool) (rules : A → Bool) (items rest : List A) → rest ≡ [] → WalkLeft set test rules items rest
     → (earlier : List StagedParts) → HasMade set earlier → true ≡ list_all (test earlier) items
 walk_done {A} set test rules items rest e left = λ earlier has. ap (λ (xs : List A). list_all (test earlier) xs) (sym e) ∙ left.linked earlier has
 
@@ -91,14 +90,14 @@ pub merge_reads : (r : ReadingPart) (tables : List ReadPart) (bys : List ByPart)
 merge_reads r tables bys retains e h = tables_of tables bys (ap reading_spelled (sym e) ∙ h)
 
 -- the tables of a reading were looked up
-pub set_made : {S E : Type 0} (set : HashSet Bytes S) (r : ReadingPart) (tables slice : List ReadPart) (bys : List ByPart) (result : Result Bool E) → r ≡ reading.Set tables bys → slice ≡ tables
+pub set_made : {E : Type 0} (set : SpellingSet) (r : ReadingPart) (tables slice : List ReadPart) (bys : List ByPart) (result : Result Bool E) → r ≡ reading.Set tables bys → slice ≡ tables
     → IfOk result (λ are. (earlier : List StagedParts) → HasMade set earlier → are ≡ list_all (λ (t : ReadPart). has_maker earlier t.table) slice)
     → IfOk result (λ is. (earlier : List StagedParts) → HasMade set earlier → is ≡ reading_linked earlier r)
 set_made set r tables slice bys (Ok are) e s h = λ earlier has.
     h earlier has ∙ ap (λ (ts : List ReadPart). list_all (λ (t : ReadPart). has_maker earlier t.table) ts) s ∙ ap (λ (z : ReadingPart). reading_linked earlier z) (sym e)
 set_made set r tables slice bys (Err x) e s h = tt
 
-pub merge_made : {S E : Type 0} (set : HashSet Bytes S) (r : ReadingPart) (tables slice : List ReadPart) (bys : List ByPart) (retains : Bool) (result : Result Bool E)
+pub merge_made : {E : Type 0} (set : SpellingSet) (r : ReadingPart) (tables slice : List ReadPart) (bys : List ByPart) (retains : Bool) (result : Result Bool E)
     → r ≡ reading.Merge tables bys retains → slice ≡ tables
     → IfOk result (λ are. (earlier : List StagedParts) → HasMade set earlier → are ≡ list_all (λ (t : ReadPart). has_maker earlier t.table) slice)
     → IfOk result (λ is. (earlier : List StagedParts) → HasMade set earlier → is ≡ reading_linked earlier r)
@@ -130,7 +129,7 @@ valid_stages s v = (chain_spelled s.program s.stages v.chain).1
 
 -- ---- programs
 
-pub parts_made : {S : Type 0} (set : HashSet Bytes S) (p : ProgramParts) (hashes reads : Bool) → ((earlier : List StagedParts) → HasMade set earlier → hashes ≡ list_all (hash_linked earlier) p.hashes)
+pub parts_made : (set : SpellingSet) (p : ProgramParts) (hashes reads : Bool) → ((earlier : List StagedParts) → HasMade set earlier → hashes ≡ list_all (hash_linked earlier) p.hashes)
     → ((earlier : List StagedParts) → HasMade set earlier → reads ≡ reading_linked earlier p.reading) → (earlier : List StagedParts) → HasMade set earlier → (hashes && reads) ≡ parts_linked earlier p
 parts_made set p hashes reads h r = λ earlier has. rw (h earlier has, r earlier has) refl
 
@@ -138,7 +137,7 @@ regrouped_and : (a b c : Bool) → ((a && b) && c) ≡ (a && (b && c))
 regrouped_and true b c = refl
 regrouped_and false b c = refl
 
-pub program_made : {S : Type 0} (set : HashSet Bytes S) (s : StagedParts) (own stages : Bool) → ((earlier : List StagedParts) → HasMade set earlier → own ≡ parts_linked earlier s.program)
+pub program_made : (set : SpellingSet) (s : StagedParts) (own stages : Bool) → ((earlier : List StagedParts) → HasMade set earlier → own ≡ parts_linked earlier s.program)
     → ((earlier : List StagedParts) → HasMade set earlier → stages ≡ list_all (parts_linked earlier) s.stages) → (earlier : List StagedParts) → HasMade set earlier
     → ((has_no_name s && own) && stages) ≡ program_linked earlier s
 program_made set s own stages h k = λ earlier has.
@@ -174,7 +173,7 @@ swapped false false true = refl
 swapped false false false = refl
 
 -- a set to which the tables of one more program were added
-made_more : {S : Type 0} (earlier : List StagedParts) (p : StagedParts) (before after : HashSet Bytes S) → HasMade before earlier
+made_more : (earlier : List StagedParts) (p : StagedParts) (before after : SpellingSet) → HasMade before earlier
     → AddsTables before (λ (r : TableReference). (r.maker == length earlier + 1) && makes_reference p.program r) after → HasMade after (earlier ++ p ∷ [])
 made_more earlier p before after has adds = λ r allowed.
     ap (λ (b : Bool). (r.maker == 0) || b) (adds r allowed)
@@ -183,14 +182,14 @@ made_more earlier p before after has adds = λ r allowed.
     ∙ sym (maker_more r.maker earlier p (λ (q : StagedParts). makes_reference q.program r))
 
 -- how far programs are linked
-pub record LinksLeft {S : Type 0} (programs : List StagedParts) (i : ℕ) (set : HashSet Bytes S) : Type 0 where
+pub record LinksLeft (programs : List StagedParts) (i : ℕ) (set : SpellingSet) : Type 0 where
   pub made : HasMade set (take i programs)
   pub linked : linked_behind (take i programs) (drop i programs) ≡ linked_behind [] programs
 
-pub links_begun : {S : Type 0} (programs : List StagedParts) (set : HashSet Bytes S) → ((other : Bytes) → contains (pointwise nat_eq) set other ≡ false) → LinksLeft programs 0 set
-links_begun programs set empty = record { made = λ r allowed. ap (λ (b : Bool). (r.maker == 0) || b) (empty (reference_line.spelled r)); linked = refl }
+pub links_begun : (programs : List StagedParts) (set : SpellingSet) → IsEmpty set → LinksLeft programs 0 set
+links_begun programs set empty = record { made = λ r allowed. rw empty refl; linked = refl }
 
-pub links_more : {S : Type 0} (programs : List StagedParts) (i : ℕ) (p : StagedParts) (is : Bool) (set after : HashSet Bytes S) → slice_get programs i ≡ Some p
+pub links_more : (programs : List StagedParts) (i : ℕ) (p : StagedParts) (is : Bool) (set after : SpellingSet) → slice_get programs i ≡ Some p
     → ((earlier : List StagedParts) → HasMade set earlier → is ≡ program_linked earlier p) → is ≡ true
     → AddsTables set (λ (r : TableReference). (r.maker == i + 1) && makes_reference p.program r) after → LinksLeft programs i set → LinksLeft programs (i + 1) after
 links_more programs i p is set after at same holds adds left =
@@ -203,6 +202,6 @@ links_more programs i p is set after at same holds adds left =
       linked = link_more programs i p is (linked_behind [] programs) at (same (take i programs) left.made) holds left.linked;
     }
 
-pub links_broken : {S : Type 0} (programs : List StagedParts) (i : ℕ) (p : StagedParts) (is : Bool) (set : HashSet Bytes S) → slice_get programs i ≡ Some p
+pub links_broken : (programs : List StagedParts) (i : ℕ) (p : StagedParts) (is : Bool) (set : SpellingSet) → slice_get programs i ≡ Some p
     → ((earlier : List StagedParts) → HasMade set earlier → is ≡ program_linked earlier p) → is ≡ false → LinksLeft programs i set → linked_behind [] programs ≡ false
 links_broken programs i p is set at same fails left = link_broken programs i p is (linked_behind [] programs) at (same (take i programs) left.made) fails left.linked

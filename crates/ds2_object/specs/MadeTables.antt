@@ -1,9 +1,9 @@
 -- The tables that programs make, as later programs name them, and sets of the spellings of tables.
-use Rattle.std.specs.Prelude.{◌≡◌, IsTrue, ℕ, ◌==◌, Bool, false, ◌&&◌, ◌||◌, List, map, slice_get, nat_eq}
-use Rattle.std.specs.Cmp.Lexicographic.{pointwise}
-use Rattle.std.specs.HashSet.{HashSet, contains}
+use Rattle.std.specs.Prelude.{◌≡◌, IsTrue, ℕ, ◌==◌, Bool, false, ◌&&◌, ◌||◌, List, map, slice_get, Vec}
+use Rattle.std.specs.BTreeSet.{BTreeSet}
 use Rattle.std.specs.List.{list_all, list_any}
 use Rattle.std.specs.Option.{option_map_or}
+use Rattle.std.specs.declared.alloc.Global.{Global as Heap}
 use Rattle.ds2_base.specs.Bytes.{Bytes}
 use Rattle.ds2_token.specs.Words.{is_table_name}
 use Rattle.ds2_value.specs.Types.{in_bounds}
@@ -15,6 +15,7 @@ use Rattle.ds2_code.specs.declared.parts.ProgramParts.{ProgramParts}
 use Rattle.ds2_code.specs.declared.parts.Slot.{Slot}
 use Rattle.ds2_code.specs.declared.parts.StagedParts.{StagedParts}
 use Rattle.ds2_code.specs.declared.parts.TableReference.{TableReference}
+use Rattle.ds2_valid_code.specs.SeenNames.{has_key_of}
 use Rattle.ds2_object_words.specs.CodeParts.{reference_line}
 use Rattle.ds2_object_programs.specs.ProgramRules.{program_spelled, reading_spelled}
 use Rattle.ds2_object.specs.ObjectSpelling.{output_is, has_maker}
@@ -51,14 +52,22 @@ parts_spelled p = program_spelled p && reading_spelled p.reading
 
 -- ---- sets of spellings
 
+-- a set of spellings
+abbrev pub SpellingSet : Type 0
+SpellingSet = BTreeSet (Vec ℕ Heap)
+
+-- a set has these bytes
+abbrev pub has_bytes : SpellingSet → Bytes → Bool
+has_bytes set bytes = has_key_of (λ (key : Vec ℕ Heap). key.items) set bytes
+
 -- a set has the spelling of a table
-abbrev pub has_spelling : {S : Type 0} → HashSet Bytes S → TableReference → Bool
-has_spelling set r = contains (pointwise nat_eq) set (reference_line.spelled r)
+abbrev pub has_spelling : SpellingSet → TableReference → Bool
+has_spelling set r = has_bytes set (reference_line.spelled r)
 
 -- of all tables with a spelling, those that pass a test are put into a set
-abbrev pub AddsTables : {S : Type 0} → HashSet Bytes S → (TableReference → Bool) → HashSet Bytes S → Type 0
+abbrev pub AddsTables : SpellingSet → (TableReference → Bool) → SpellingSet → Type 0
 AddsTables before test after = (r : TableReference) → IsTrue (reference_line.allows r) → has_spelling after r ≡ (test r || has_spelling before r)
 
 -- of all tables with a spelling, a set has those that programs make
-abbrev pub HasMade : {S : Type 0} → HashSet Bytes S → List StagedParts → Type 0
+abbrev pub HasMade : SpellingSet → List StagedParts → Type 0
 HasMade set earlier = (r : TableReference) → IsTrue (reference_line.allows r) → ((r.maker == 0) || has_spelling set r) ≡ has_maker earlier r

@@ -13,7 +13,7 @@ use ds2_base::OutOfMemory;
 use ds2_code::{HashPart, ProgramParts, ReadPart, ReadingPart, StagedParts};
 use ds2_valid_code::ProgramCode;
 use std::alloc::Global;
-use std::collections::HashSet;
+use std::collections::BTreeSet;
 
 fn tables_are_made(
     alloc: Global,
@@ -155,7 +155,7 @@ pub(crate) fn links_hold(alloc: Global, programs: &[ProgramCode]) -> Result<bool
     if programs.len() >= 0x1_0000_0000 {
         return Ok(false);
     }
-    let mut made: MadeTables = HashSet::new(alloc);
+    let mut made: MadeTables = BTreeSet::new(alloc);
     'programs: for i in 0..programs.len() {
         if !code_is_made(alloc, &made, &programs[i])? {
             return Ok(false);

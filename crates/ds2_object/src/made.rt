@@ -1,24 +1,22 @@
 //! The tables that programs make, as a set of their spellings: whether one has a maker is one look-up.
-ghost use Rattle.std.specs.Prelude.{◌≡◌, ◌∷◌, [], ◌==◌, ◌&&◌, ◌||◌, IsTrue, IfOk, OnOk, List as Items, ℕ, map, nat_eq, bytes_eq};
-ghost use Rattle.std.specs.Cmp.Lexicographic.{pointwise};
-ghost use Rattle.std.specs.HashSet.{contains};
+ghost use Rattle.std.specs.Prelude.{◌≡◌, ◌∷◌, [], ◌==◌, ◌&&◌, ◌||◌, IsTrue, IfOk, OnOk, List as Items, ℕ, map, bytes_eq};
 ghost use Rattle.std.specs.List.{list_all};
 ghost use Rattle.ds2_code.specs.declared.parts.StagedParts.{StagedParts as Staged};
 ghost use Rattle.ds2_object_words.specs.CodeParts.{reference_line, reference_spelled};
 ghost use Rattle.ds2_object_words.specs.Parts.{Writes, ItemsWritten};
 ghost use Rattle.ds2_object_words.specs.Words.{column_part};
 ghost use Rattle.ds2_object.specs.ObjectSpelling.{has_maker, makes_reference};
-ghost use Rattle.ds2_object.specs.MadeTables.{has_spelled_slot, made_table_column, is_spelled_output, made_table, is_output_of, is_among_outputs, AddsTables, HasMade};
+ghost use Rattle.ds2_object.specs.MadeTables.{has_spelled_slot, made_table_column, is_spelled_output, made_table, is_output_of, is_among_outputs, has_bytes, AddsTables, HasMade};
 
 use ds2_base::{Bytes, List, Name, OutOfMemory};
 use ds2_code::{OutputPart, Slot, TableReference};
 use ds2_object_words::{Spelled, write_table_name};
 use ds2_valid_code::ProgramCode;
 use std::alloc::Global;
-use std::collections::HashSet;
+use std::collections::BTreeSet;
 
 /// The spellings of the tables that programs make.
-pub(crate) type MadeTables = HashSet<Bytes>;
+pub(crate) type MadeTables = BTreeSet<Vec<u8>>;
 
 // ---- outputs as tables
 
@@ -78,9 +76,9 @@ fn made_spelling(
 // ---- the set
 
 fn add_spelling(made: &mut MadeTables, key: Bytes) -> Result<(), OutOfMemory>
-    ensures { OnOk result ((other : Items ℕ) → contains (pointwise nat_eq) made.new other ≡ (bytes_eq key other || contains (pointwise nat_eq) made.old other)) }
+    ensures { OnOk result ((other : Items ℕ) → has_bytes made.new other ≡ (bytes_eq key other || has_bytes made.old other)) }
 {
-    made.insert(key)?;
+    made.insert(key.into_vec())?;
     Ok(())
 }
 
@@ -157,5 +155,5 @@ pub(crate) fn is_made(
     }
     let mut key = List::new(alloc);
     table.write(&mut key)?;
-    Ok(made.contains(&key))
+    Ok(made.contains(key.as_slice()))
 }

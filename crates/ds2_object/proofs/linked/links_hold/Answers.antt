@@ -5,8 +5,11 @@ use Rattle.ds2_code.specs.declared.parts.TableReference.{TableReference}
 use Rattle.ds2_object_words.proofs.PartLemmas.{some_is}
 use Rattle.ds2_object.specs.MadeTables.{AddsTables}
 use Rattle.ds2_object.specs.ObjectSpelling.{makes_reference}
-use Rattle.ds2_object.proofs.WalkLemmas.{links_more}
+use Rattle.ds2_object.proofs.WalkLemmas.{links_begun, links_more}
 use Rattle.ds2_object.proofs.linked.links_hold.Goals as goal
+
+pub programs-init : goal.programs-init
+programs-init c = links_begun c.args.programs.now c.new-made.result c.new-made.ensures.empty
 
 pub programs-preserved : goal.programs-preserved
 programs-preserved c =
