@@ -180,7 +180,7 @@ module _ (p : UnitTree) where
       listed_by at c (number_of_location (slot_locations p) at) (number_of_location (hash_locations p) at) (number_of_location (iterator_locations p) at) (number_of_location (parameter_locations p) at) refl refl refl refl is
 
   -- data of the code hold what they keep
-  data_hold : (d : ProgramData) → is_data_of_code p d ≡ true → HoldsProgram p (kept_by_code p d) d
+  pub data_hold : (d : ProgramData) → is_data_of_code p d ≡ true → HoldsProgram p (kept_by_code p d) d
   data_hold d is =
       let parts = and_parts (list_all (λ at. has_cell d (program_cell p at)) (cell_locations p)) (list_all (λ n. is_some (slice_get d.slots n)) (range_with_len (layout_size p) (length (code_slots p) - layout_size p))) is in
       record {

@@ -243,10 +243,10 @@ module _ (p : UnitTree) where
 
   -- ---- the loads of a group
 
-  abbrev IsTableLoad : LocatedLoad → Type 0
+  abbrev pub IsTableLoad : LocatedLoad → Type 0
   IsTableLoad load = (tables : InputTables) × (l : Load) × (settings_at load ≡ table_load p tables l)
 
-  abbrev IsRowLoad : LocatedLoad → Type 0
+  abbrev pub IsRowLoad : LocatedLoad → Type 0
   IsRowLoad load = (row : Row) × (settings_at load ≡ stage_load p row)
 
   settings_back : (settings : Settings) → settings_at (located settings) ≡ settings
@@ -262,12 +262,12 @@ module _ (p : UnitTree) where
   table_loads tables [] = tt
   table_loads tables (l ∷ group) = ((tables, l.load, settings_back (table_load p tables l.load)), table_loads tables group)
 
-  over_tables : (grain : ℕ) (loads : List LocatedLoad) → IsTableGroup p grain loads → AllByRecursion IsTableLoad loads
+  pub over_tables : (grain : ℕ) (loads : List LocatedLoad) → IsTableGroup p grain loads → AllByRecursion IsTableLoad loads
   over_tables grain loads g =
       let found = mapped_at (located_group p g.tables) (groups grain (loads_of_tables p g.tables)) g.among.0 loads g.among.1 in
       subst (AllByRecursion IsTableLoad) found.1 (table_loads (input_tables g.tables (inputs_of p.reading)) found.0)
 
-  of_row : (loads : List LocatedLoad) → IsRowGroup p loads → AllByRecursion IsRowLoad loads
+  pub of_row : (loads : List LocatedLoad) → IsRowGroup p loads → AllByRecursion IsRowLoad loads
   of_row loads g = subst (AllByRecursion IsRowLoad) (sym g.is) ((g.row, settings_back (stage_load p g.row)), tt)
 
   module _ (runs : UnitsRunAsMeant p) (counts : CountsByWay p (program_code p)) where

@@ -1,6 +1,8 @@
 //! Laws of the code of local thread programs, over the definitions alone.
 ghost use Rattle.ds2_code_locality.specs.CodeIndependence.{LocalCodeIsIndependent};
 ghost use Rattle.ds2_code_locality.specs.CodeStates.{LocalCodeMakesStage};
+ghost use Rattle.ds2_code_locality.specs.FixedInCode.{RunsLeaveFixedInCode};
+ghost use Rattle.ds2_code_locality.specs.IndependenceInCode.{FixedIsFixedInCode, IndependenceHoldsInCode, LocalCodeIsIndependentInCode};
 ghost use Rattle.ds2_code_locality.specs.LocalGroups.{LocalCodeHasIndependentGroups};
 
 /// The code of a typed thread program that the verdict calls local at a grain gives for each group there the same rows, lines, ending and
@@ -29,4 +31,34 @@ pub fn local_code_has_independent_groups()
     local_code_makes_stage();
     ds2_program_code::laws::typed_units_run_as_meant();
     ds2_same_answer::laws::typed_loads_are_alike();
+}
+
+/// `run` of any code, where it ends normally, leaves as it was what is kept from one load to the next and what no instruction changes that can be
+/// reached from its entry.
+pub fn runs_leave_fixed_in_code()
+    ensures { RunsLeaveFixedInCode }
+{}
+
+/// What is fixed in the tree of a typed program is fixed in its code: no instruction that can be reached from the entry of `run` changes its cell.
+pub fn fixed_is_fixed_in_code()
+    ensures { FixedIsFixedInCode }
+{
+    ds2_program_code::laws::typed_programs_have_code();
+    ds2_gen::laws::bodies_stay_in_list();
+}
+
+/// Where the code of a typed program is group independent by the locations that are fixed in its tree, it is so by what is fixed in the code.
+pub fn independence_holds_in_code()
+    ensures { IndependenceHoldsInCode }
+{
+    fixed_is_fixed_in_code();
+    ds2_program_code::laws::typed_loads_have_slots();
+}
+
+/// The code of a typed thread program that the verdict calls local at a grain is group independent there by what is fixed in the code.
+pub fn local_code_is_independent_in_code()
+    ensures { LocalCodeIsIndependentInCode }
+{
+    local_code_is_independent();
+    independence_holds_in_code();
 }
