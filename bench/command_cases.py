@@ -38,19 +38,35 @@ class Given:
     """What holds for the cases that follow: files, and the other lines by their first words."""
 
     def __init__(self):
-        self.files, self.lines = {}, {}
+        self.files, self.lines, self.tears = {}, {}, []
 
 
 class Case:
     def __init__(self, title, heading, given):
         self.title, self.heading, self.given, self.files, self.lines = title, heading, given, dict(given.files), {}
-        # The answer: the lines of the log, the status, and the log and the files that were made or changed as their bytes.
-        self.log, self.status, self.answer = [], None, {}
-        self.without = set()
+        # The answer: the lines of the log, the status, the calls of the store where they are shown, and the log and the files that were made or
+        # changed as their bytes.
+        self.log, self.status, self.calls, self.answer = [], None, [], {}
+        # Of a case that is run for each byte of a file the first and the last byte of each answer, its status, its calls and the answer.
+        self.parts = []
+        # Its own lines but for those of failing calls, and its tears.
+        self.without, self.own_lines, self.own_tears = set(), [], []
 
     def line(self, word):
         """What the case's own line of this word says, or else the given one; None where neither is."""
         return self.lines.get(word, self.given.lines.get(word))
+
+    def tears(self):
+        """What each line on a torn call says, its own ones or else the given ones."""
+        return self.own_tears or self.given.tears
+
+    def needs_failure(self):
+        """Whether a call of the store or of the log fails."""
+        return bool(self.line("fail store") or self.line("fail log") or self.tears())
+
+    def is_damaged(self):
+        """Whether the case is run for each byte of a file that is damaged there."""
+        return self.line("spoil") is not None or self.line("cut") is not None
 
     def source(self):
         """The text of the source; None where it is none, or long."""
@@ -79,6 +95,8 @@ def read_cases(most=MOST):
     for line in (FOLDER / "stdin").read_text(encoding="utf-8").splitlines():
         word, _, rest = line.partition(" ")
         block = here or given
+        if here and word and word not in ("#", "given", "case", "fail", "tear", "spoil", "cut"):
+            here.own_lines.append(line)
         if word == "#":
             heading = rest
         elif word == "given":
@@ -94,6 +112,8 @@ def read_cases(most=MOST):
         elif word == "without" and here:
             here.files.pop(rest, None)
             here.without.add(rest)
+        elif word == "tear":
+            (here.own_tears if here else given.tears).append(rest)
         elif word in ("fail", "show"):
             kind, _, rest = rest.partition(" ")
             block.lines[f"{word} {kind}"] = rest
@@ -113,6 +133,12 @@ def read_answers(cases, most):
             assert here.title == rest, (here.title, rest)
         elif word == "status":
             here.status, here.answer = int(rest), {}
+        elif word == "from":
+            first, last, here.status = map(int, re.fullmatch(r"(\d+) to (\d+): status (\d+)", rest).groups())
+            here.calls, here.answer = [], {}
+            here.parts.append((first, last, here.status, here.calls, here.answer))
+        elif word == "call":
+            here.calls.append(rest)
         elif word in ("log", "file"):
             part = line
             here.answer[part] = b""

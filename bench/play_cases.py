@@ -75,16 +75,35 @@ def answer_of(case, status, log, written):
 
 def play(case, program):
     """What went another way; None where nothing did."""
+    return play_over(case, program, files_before(case, program), case.status, case.answer)
+
+
+def play_damaged(case, program):
+    """What went another way at the first byte where something did; None where nothing did."""
     before = files_before(case, program)
+    name, _, byte = (case.line("spoil") or case.line("cut")).partition(" ")
+    whole = before[name]
+    if [it for first, last, *_ in case.parts for it in range(first, last + 1)] != list(range(len(whole))):
+        return f"the answers are not those of {len(whole)} bytes"
+    for first, last, status, _, answer in case.parts:
+        for n in range(first, last + 1):
+            damaged = whole[:n] + (bytes([int(byte)]) + whole[n + 1 :] if byte else b"")
+            if way := play_over(case, program, {**before, name: damaged}, status, answer):
+                return f"at byte {n}: {way}"
+    return None
+
+
+def play_over(case, program, before, status, answer):
+    """What went another way over these files than to this status and this answer; None where nothing did."""
     with tempfile.TemporaryDirectory() as folder:
         folder = pathlib.Path(folder)
         put(folder, before)
         try:
-            status, log = run(program, case.line("words"), folder)
+            ended, log = run(program, case.line("words"), folder)
         except subprocess.TimeoutExpired:
             return f"no end in {SECONDS} s"
-        found = answer_of(case, status, log, changed(before, files_in(folder)))
-    wanted = {"status": case.status, **case.answer}
+        found = answer_of(case, ended, log, changed(before, files_in(folder)))
+    wanted = {"status": status, **answer}
     ways = [f"{part}: {shown(found, part)} and not {shown(wanted, part)}" for part in sorted({*found, *wanted}) if found.get(part, "") != wanted.get(part, "")]
     return "; ".join(ways) or None
 
@@ -93,16 +112,12 @@ def shown(answer, part):
     return repr(answer[part])[:200] if part in answer else "nothing"
 
 
-def needs_failure(case):
-    return case.line("fail store") is not None or case.line("fail log") is not None
-
-
 def main():
     program = os.path.abspath(sys.argv[1])
     cases = read_cases(most=1 << 40)
-    played = [it for it in cases if not needs_failure(it)]
+    played = [it for it in cases if not it.needs_failure()]
     with concurrent.futures.ThreadPoolExecutor(os.cpu_count()) as pool:
-        ways = list(pool.map(lambda case: play(case, program), played))
+        ways = list(pool.map(lambda case: (play_damaged if case.is_damaged() else play)(case, program), played))
     failed = [(case, way) for case, way in zip(played, ways) if way]
     for case, way in failed[:SHOWN]:
         print(f"case {case.title}: {way}")

@@ -1,10 +1,12 @@
 //! A block of a file of cases: a case, or what is given for the cases that follow.
 
 use crate::contents::{CaseFile, Piece};
+use crate::damage::{Damage, Damaged, spoiled_by};
 use crate::escape::unescape_text;
 use crate::meeting::Meeting;
 use crate::mistake::Mistake;
 use ds2_base::{Stop, Text};
+use ds2_outside::Tear;
 use std::alloc::Global;
 
 /// The command, the files and the calls that fail.
@@ -20,6 +22,10 @@ pub(crate) struct Setting {
     /// The calls of the store and of the log that fail, counted from 1.
     pub(crate) failing: Vec<u64>,
     pub(crate) failing_logs: Vec<u64>,
+    /// The calls of the store that are torn.
+    pub(crate) tears: Vec<Tear>,
+    /// The file for each of whose bytes the case is run, where there is one.
+    pub(crate) damaged: Option<Damaged>,
     /// Whether the answer tells the calls of the store.
     pub(crate) shows_calls: bool,
     /// Whether the answer tells the numbers of instructions and the lengths of objects.
@@ -75,6 +81,20 @@ fn calls_of(alloc: Global, line: &str) -> Result<Vec<u64>, Stop<Mistake>> {
     Ok(calls)
 }
 
+// The tear that a line `store CALL BYTES` tells.
+fn tear_of(line: &str) -> Result<Tear, Mistake> {
+    let Some(numbers) = line.strip_prefix("store ") else {
+        return Err(Mistake::BadTear);
+    };
+    let Some((call, keep)) = numbers.split_once(' ') else {
+        return Err(Mistake::BadTear);
+    };
+    match (call.parse::<u64>(), keep.parse::<u64>()) {
+        (Ok(call), Ok(keep)) if call > 0 => Ok(Tear { call, keep }),
+        _ => Err(Mistake::BadTear),
+    }
+}
+
 // A text and how often it is repeated.
 fn repeat_of(alloc: Global, line: &str) -> Result<Piece, Stop<Mistake>> {
     let Some((times, text)) = line.split_once(' ') else {
@@ -95,6 +115,8 @@ impl Setting {
             without: Vec::new(alloc),
             failing: Vec::new(alloc),
             failing_logs: Vec::new(alloc),
+            tears: Vec::new(alloc),
+            damaged: None,
             shows_calls: false,
             shows_counts: false,
             shows_objects: false,
@@ -131,6 +153,32 @@ impl Setting {
             "log" => self.failing_logs = calls,
             _ => return Err(Stop::Refused(Mistake::BadFail)),
         }
+        Ok(())
+    }
+
+    fn add_tear(&mut self, line: &str) -> Result<(), Stop<Mistake>> {
+        match tear_of(line) {
+            Ok(tear) => self.tears.push(tear)?,
+            Err(mistake) => return Err(Stop::Refused(mistake)),
+        }
+        Ok(())
+    }
+
+    fn set_spoiled(&mut self, alloc: Global, line: &str) -> Result<(), Stop<Mistake>> {
+        match spoiled_by(line) {
+            Ok((name, byte)) => self.set_damaged(alloc, name, Damage::Spoiled(byte)),
+            Err(mistake) => Err(Stop::Refused(mistake)),
+        }
+    }
+
+    fn set_damaged(
+        &mut self,
+        alloc: Global,
+        name: &str,
+        damage: Damage,
+    ) -> Result<(), Stop<Mistake>> {
+        let name = name_of(alloc, name)?;
+        self.damaged = Some(Damaged { name, damage });
         Ok(())
     }
 
@@ -176,6 +224,9 @@ impl Setting {
             "file" => self.add_file(alloc, rest)?,
             "without" => self.without.push(name_of(alloc, rest)?)?,
             "fail" => self.set_failing(alloc, rest)?,
+            "tear" => self.add_tear(rest)?,
+            "spoil" => self.set_spoiled(alloc, rest)?,
+            "cut" => self.set_damaged(alloc, rest, Damage::Cut)?,
             "show" => self.set_shown(rest)?,
             "alone" => self.is_alone = true,
             "gate" => self.set_meeting(rest)?,

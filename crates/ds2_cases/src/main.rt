@@ -10,6 +10,7 @@
 
 mod block;
 mod contents;
+mod damage;
 mod escape;
 mod meeting;
 mod mistake;
@@ -21,7 +22,7 @@ mod watched;
 use crate::block::{Block, Setting};
 use crate::mistake::CaseError;
 use crate::reading::read_blocks;
-use crate::running::{Case, answer};
+use crate::running::answer;
 use crate::telling::add_named;
 use std::alloc::{AllocError, Global};
 use std::io;
@@ -45,7 +46,7 @@ fn run_case(
     given: &Setting,
     own: &Setting,
 ) -> anyhow::Result<()> {
-    let answer = answer(rt, alloc, Case { given, own })?;
+    let answer = answer(rt, alloc, given, own)?;
     let text = told(alloc, title, answer.as_str())?;
     print!(rt; "{text}")?;
     Ok(())

@@ -6,7 +6,7 @@ use thiserror::Error;
 /// Why a line of cases can't be read.
 #[derive(Clone, Copy, Debug, PartialEq, Eq, Error)]
 pub enum Mistake {
-    #[error("a line begins with case, given, words, first, file, without, fail, show, alone, gate, |, +, repeat or #")]
+    #[error("a line begins with case, given, words, first, file, without, fail, tear, spoil, cut, show, alone, gate, |, +, repeat or #")]
     UnknownWord,
     #[error("a title, a name or a word is missing")]
     Missing,
@@ -20,6 +20,12 @@ pub enum Mistake {
     BadRepeat,
     #[error("`fail` is followed by `store` or `log` and the numbers of the calls that fail, from 1")]
     BadFail,
+    #[error("`tear` is followed by `store`, the number of a call, from 1, and how many bytes stand")]
+    BadTear,
+    #[error("`spoil` is followed by a file and a byte, 0 to 255")]
+    BadSpoil,
+    #[error("the file that is spoiled or cut is not there")]
+    NoDamaged,
     #[error("`calls`, `counts` and `objects` are all that can be shown beside the answer")]
     BadShow,
     #[error("`gate` is followed by two groups and a number of workers")]
@@ -33,8 +39,8 @@ pub enum Mistake {
 pub enum CaseError {
     #[error("line {line} of the cases: {mistake}")]
     Line { line: usize, mistake: Mistake },
-    #[error("a text that is repeated: {0}")]
-    Repeated(Mistake),
+    #[error("a case: {0}")]
+    Case(Mistake),
     #[error("there was no memory")]
     OutOfMemory,
 }

@@ -10,6 +10,9 @@
 //!   many times. Texts and words may have escapes.
 //! - `without NAME` leaves out a given file, or one that the first command has written.
 //! - `fail store N N ..` and `fail log N N ..` let these calls fail, counted from 1.
+//! - `tear store N K` lets this call fail, and where it is a write, the first `K` bytes stand behind it.
+//! - `spoil NAME BYTE` runs the case once for each byte of the file, which becomes `BYTE`, and `cut NAME` once for each byte of the file,
+//!   which ends before it. The answer has a line for bytes behind each other, counted from 0, that end alike.
 //! - `show calls` lets the answer tell the calls of the store, `show counts` the numbers of instructions and the lengths of
 //!   objects, for which a letter stands otherwise, and `show objects` their bytes. `alone` leaves out the run by the call with
 //!   threads.

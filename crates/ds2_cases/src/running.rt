@@ -2,23 +2,36 @@
 
 use crate::block::Setting;
 use crate::contents::{CaseFile, contents};
+use crate::damage::Damaged;
 use crate::meeting::Meeting;
 use crate::mistake::{CaseError, Mistake};
 use crate::telling::{add_contents, add_named, without_counts};
 use crate::watched::{Asked, Call, Watched};
 use ds2_base::{Bytes, List, OutOfMemory, Stop, Text};
 use ds2_case_gate::WaitingGate;
-use ds2_outside::{Gate, MemSink, MemStore, NoGate};
+use ds2_outside::{Gate, MemSink, MemStore, NoGate, Tear};
 use ds2_top::{Status, ds2, ds2_alone};
 use std::alloc::{AllocError, Global};
 use std::sync::Wait;
 use std::thread::Threads;
 
-/// A case: what is given, and what is its own.
+// A case: what is given, what is its own, and the byte of its damaged file at which the damage is, where there is one.
 #[derive(Clone, Copy)]
-pub(crate) struct Case<'a> {
-    pub(crate) given: &'a Setting,
-    pub(crate) own: &'a Setting,
+struct Case<'a> {
+    given: &'a Setting,
+    own: &'a Setting,
+    place: Option<usize>,
+}
+
+// The file of a case that is damaged, where one is.
+fn damaged_of<'a>(case: Case<'a>) -> Option<&'a Damaged> {
+    if let Some(damaged) = &case.own.damaged {
+        return Some(damaged);
+    }
+    match &case.given.damaged {
+        Some(damaged) => Some(damaged),
+        None => None,
+    }
 }
 
 fn words_of<'a>(case: Case<'a>) -> &'a [Text] {
@@ -60,6 +73,14 @@ fn own_or_given(alloc: Global, own: &[u64], given: &[u64]) -> Result<List<u64>, 
 
 fn is_named(names: &[Text], name: &Text) -> bool {
     names.iter().any(|other| *other == *name)
+}
+
+// The tears of a case's calls: its own, or the given ones where it has none.
+fn tears_of(alloc: Global, case: Case) -> Result<List<Tear>, OutOfMemory> {
+    if case.own.tears.is_empty() {
+        return List::from_slice(alloc, case.given.tears.as_slice());
+    }
+    List::from_slice(alloc, case.own.tears.as_slice())
 }
 
 // Puts files into a store, but for those of these names.
@@ -117,6 +138,18 @@ fn put_first(alloc: Global, case: Case, store: &mut MemStore) -> Result<(), Stop
     Ok(())
 }
 
+// Damages the file of a case that is damaged, where it is.
+fn put_damaged(alloc: Global, case: Case, store: &mut MemStore) -> Result<(), OutOfMemory> {
+    let (Some(damaged), Some(place)) = (damaged_of(case), case.place) else {
+        return Ok(());
+    };
+    let Some(whole) = store.file(&damaged.name) else {
+        return Ok(());
+    };
+    let bytes = damaged.damage.at(alloc, whole.as_slice(), place)?;
+    store.put(alloc, &damaged.name, bytes)
+}
+
 // The store of a case.
 fn store_of(alloc: Global, case: Case) -> Result<MemStore, Stop<Mistake>> {
     let mut store = MemStore::new(alloc);
@@ -128,6 +161,8 @@ fn store_of(alloc: Global, case: Case) -> Result<MemStore, Stop<Mistake>> {
     )?;
     put_first(alloc, case, &mut store)?;
     put_files(alloc, case.own.files.as_slice(), &[], &mut store)?;
+    put_damaged(alloc, case, &mut store)?;
+    store.tear_at(tears_of(alloc, case)?);
     store.fail_at(own_or_given(
         alloc,
         case.own.failing.as_slice(),
@@ -384,15 +419,80 @@ fn both_answers(
     Ok(answer)
 }
 
-/// The answer to a case: status, calls where they are to be shown, log, the files that were made or changed, and what was seen at a gate.
-pub(crate) fn answer(
+// Adds an answer that is alike for the bytes from the first one up to the end, where there are such.
+fn add_places(first: usize, end: usize, answer: &str, out: &mut String) -> Result<(), AllocError> {
+    if first >= end {
+        return Ok(());
+    }
+    let last = end - 1;
+    write!(out, "from {first} to {last}: {answer}")
+}
+
+// How many bytes a file of a case's store has.
+fn length_of(alloc: Global, case: Case, name: &Text) -> Result<usize, Stop<Mistake>> {
+    let store = store_of(alloc, case)?;
+    match store.file(name) {
+        Some(bytes) => Ok(bytes.len()),
+        None => Err(Stop::Refused(Mistake::NoDamaged)),
+    }
+}
+
+// The answers with the damage at each byte of a file in turn; what is alike for bytes behind each other is told once.
+fn answers_at_bytes(
     rt: &(impl Threads + Wait + Sync),
     alloc: Global,
     case: Case,
+    name: &Text,
+) -> Result<String, Stop<Mistake>> {
+    let end = length_of(alloc, case, name)?;
+    let mut out = String::new(alloc);
+    let mut alike = String::new(alloc);
+    let mut first = 0usize;
+    for place in 0..end {
+        let place_of_case = Case {
+            given: case.given,
+            own: case.own,
+            place: Some(place),
+        };
+        let answer = both_answers(rt, alloc, place_of_case)?;
+        if answer.as_str() != alike.as_str() {
+            add_places(first, place, alike.as_str(), &mut out)?;
+            first = place;
+            alike = answer;
+        }
+    }
+    add_places(first, end, alike.as_str(), &mut out)?;
+    Ok(out)
+}
+
+// The answer to a case, once or for each byte of its damaged file.
+fn answers(
+    rt: &(impl Threads + Wait + Sync),
+    alloc: Global,
+    case: Case,
+) -> Result<String, Stop<Mistake>> {
+    match damaged_of(case) {
+        None => both_answers(rt, alloc, case),
+        Some(damaged) => answers_at_bytes(rt, alloc, case, &damaged.name),
+    }
+}
+
+/// The answer to a case: status, calls where they are to be shown, log, the files that were made or changed, and what was seen at a gate;
+/// where a file is damaged, the answers for bytes behind each other that are alike, with the first and the last of these bytes.
+pub(crate) fn answer(
+    rt: &(impl Threads + Wait + Sync),
+    alloc: Global,
+    given: &Setting,
+    own: &Setting,
 ) -> Result<String, CaseError> {
-    match both_answers(rt, alloc, case) {
+    let case = Case {
+        given,
+        own,
+        place: None,
+    };
+    match answers(rt, alloc, case) {
         Ok(answer) => Ok(answer),
-        Err(Stop::Refused(mistake)) => Err(CaseError::Repeated(mistake)),
+        Err(Stop::Refused(mistake)) => Err(CaseError::Case(mistake)),
         Err(Stop::OutOfMemory) => Err(CaseError::OutOfMemory),
     }
 }
