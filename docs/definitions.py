@@ -69,6 +69,11 @@ CHAIN = [
         "ObjectReading IsDecoding DecodesTo DecodesObject DecodesFile EndsBeforeDecoding EndsInFileRead exec_plan object_plan object_over code_answer",
     ),
     (
+        "The job of `demo`",
+        "`demo` tells what the run of a source that it has tells over a table that it makes up, without the lines that count instructions.",
+        "demo_plan told_of_run demo_end demo_run demo_files lines_without_counts is_count_line sales_table sale_in_row drawn next_drawn",
+    ),
+    (
         "A runtime fault",
         "A fault is the first one of the meaning, and its program has written nothing.",
         "FaultLeft LeavesFault FirstFault",

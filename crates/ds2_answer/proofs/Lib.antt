@@ -2,3 +2,4 @@ pub mod Numbers
 pub mod StoredPlans
 pub mod OptionSteps
 pub mod ProgramEndings
+pub mod TextLines

@@ -1,5 +1,5 @@
 -- Numbers that a word writes, and what `parse` makes of them.
-use Rattle.std.proofs.Common.{◌≡◌, ◌<◌, ◌≤◌, ◌^◌, ◌==◌, ◌&&◌, not, nat_lt, nat_le, ℕ, Bool, true, false, cond, List, length, get_or, Some, None, Ok, Err, refl, sym, subst, arith, rules}
+use Rattle.std.proofs.Common.{◌≡◌, ◌+◌, ◌-◌, ◌*◌, ◌<◌, ◌≤◌, ◌^◌, ◌==◌, ◌&&◌, not, nat_lt, nat_le, ℕ, Bool, true, false, cond, List, [], ◌∷◌, length, get_or, IfSome, Option, Some, None, Ok, Err, refl, sym, subst, arith, rules}
 use Rattle.std.specs.Char.{is_ascii_digit}
 use Rattle.std.specs.List.{list_all}
 use Rattle.std.specs.Str.Parse.{ParsesUnsigned}
@@ -56,3 +56,34 @@ pub number_wrong : (most : ℕ) (word : List ℕ) → ParsesUnsigned {E = ℕ} 6
 number_wrong most word parsed is fits =
     missed (is_number word) (nat_le (decimal_from 0 word) most) (decimal_from 0 word)
     (too_large (decimal_from 0 word) most fits (λ small. parse_digits digits {E = ℕ} 64 word (Err 0) parsed (are_digits word is) (is_long word is, small)))
+
+-- ---- a number that a word writes is at least 1
+
+left : (b c : Bool) → (b && c) ≡ true → b ≡ true
+left true c p = refl
+left false c p = absurd (cc)
+
+-- more digits make no smaller number
+no_smaller : (number : ℕ) (ds : List ℕ) → number ≤ decimal_from number ds
+no_smaller number [] = omega arith
+no_smaller number (d ∷ ds) = let more : 10 * number + (d - 48) ≤ decimal_from (10 * number + (d - 48)) ds = no_smaller (10 * number + (d - 48)) ds in omega (arith, more)
+
+above_zero : (d : ℕ) → is_ascii_digit d ≡ true → not (d == 48) ≡ true → 48 < d
+above_zero d digit other = grind (arith, nat_tests)
+
+from_one : (word : List ℕ) → is_number word ≡ true → 1 ≤ decimal_from 0 word
+from_one [] is = absurd (cc)
+from_one (d ∷ ds) is =
+    let first : not (d == 48) ≡ true = right (nat_lt 0 (length (d ∷ ds))) (not (d == 48)) (left (nat_lt 0 (length (d ∷ ds)) && not (d == 48)) (list_all is_ascii_digit (d ∷ ds)) is) in
+    let digit : is_ascii_digit d ≡ true = left (is_ascii_digit d) (list_all is_ascii_digit ds) (are_digits (d ∷ ds) is) in
+    let more : 10 * 0 + (d - 48) ≤ decimal_from (10 * 0 + (d - 48)) ds = no_smaller (10 * 0 + (d - 48)) ds in
+    let some : 48 < d = above_zero d digit first in
+    omega (arith, more, some)
+
+pub some_written : (most number : ℕ) (word : List ℕ) → Some number ≡ number_within most word → 1 ≤ number
+some_written most number word e = by (is_number word) (nat_le (decimal_from 0 word) most) (from_one word) e
+  where
+    by : (is small : Bool) → (is ≡ true → 1 ≤ decimal_from 0 word) → Some number ≡ cond (is && small) (Some (decimal_from 0 word)) None → 1 ≤ number
+    by true true some e = subst (λ (o : Option ℕ). IfSome o (λ n. 1 ≤ n)) (sym e) (some refl)
+    by true false some e = absurd (cc e)
+    by false small some e = absurd (cc e)

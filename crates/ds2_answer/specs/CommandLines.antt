@@ -1,9 +1,10 @@
--- The words of the four commands.
+-- The words of the five commands.
 use Rattle.std.specs.Prelude.{ℕ, ◌&&◌, ◌≤◌, IfSome, List, [], ◌∷◌, codes, bytes_eq, if◌then◌else◌, is_none, nat_eq, unwrap_or, Bool, Option, Some, None}
 use Rattle.std.specs.List.{ends_with}
 use Rattle.std.specs.Option.{option_map}
+use Rattle.ds2_sales.specs.declared.sales_table.TheConstants.{MOST_SALES}
 use Rattle.ds2_answer.specs.declared.command_line.CommandLine.{CommandLine}
-use Rattle.ds2_answer.specs.declared.command_line.CommandLine.TheVariants.{Run, Compile, Exec, Check}
+use Rattle.ds2_answer.specs.declared.command_line.CommandLine.TheVariants.{Run, Compile, Exec, Check, Demo}
 use Rattle.ds2_answer.specs.declared.command_line.GivenOptions.{GivenOptions}
 use Rattle.ds2_answer.specs.declared.command_line.TheConstants.{MOST_THREADS}
 use Rattle.ds2_answer.specs.declared.words.TheConstants.{DEFAULT_BUDGET, MOST_BUDGET}
@@ -81,9 +82,18 @@ file_command word file options =
     else if is_object_name file then object_command word file options
     else None
 
--- the command of a line of words, where it is one: its word, its file and its options
+-- how many rows a word asks for, where it is a number that a table of sales may have
+abbrev pub rows_asked : List ℕ → Option ℕ
+rows_asked number = number_within MOST_SALES number
+
+-- `demo` and its number of rows are the whole line
+abbrev pub demo_command : (number : List ℕ) → List (List ℕ) → Option CommandLine
+demo_command number [] = option_map (λ n. Demo n) (rows_asked number)
+demo_command number (word ∷ words) = None
+
+-- the command of a line of words, where it is one: its word, its file and its options, or `demo` and a number
 abbrev pub command_line_of : List (List ℕ) → Option CommandLine
-command_line_of (word ∷ file ∷ options) = file_command word file options
+command_line_of (word ∷ next ∷ words) = if bytes_eq word (codes "demo") then demo_command next words else file_command word next words
 command_line_of words = None
 
 -- ---- what is read of a line
@@ -92,9 +102,18 @@ command_line_of words = None
 abbrev pub IsBudgetWithin : GivenOptions → Type 0
 IsBudgetWithin given = IfSome given.budget (λ budget. budget ≤ MOST_BUDGET)
 
--- the budget with which a line runs programs; the other commands run none
+-- the budget with which a line runs programs; `compile` and `check` run none
 abbrev pub budget_on_line : CommandLine → ℕ
 budget_on_line (Run source threads budget) = budget
 budget_on_line (Compile source) = 0
 budget_on_line (Exec object budget) = budget
 budget_on_line (Check source) = 0
+budget_on_line (Demo n) = DEFAULT_BUDGET
+
+-- the rows that a line asks for, where it is `demo`, are as many as a table of sales may have
+abbrev pub HasRowsWithin : CommandLine → Type 0
+HasRowsWithin (Run source threads budget) = Unit {0}
+HasRowsWithin (Compile source) = Unit {0}
+HasRowsWithin (Exec object budget) = Unit {0}
+HasRowsWithin (Check source) = Unit {0}
+HasRowsWithin (Demo n) = (1 ≤ n) × (n ≤ MOST_SALES)

@@ -2,6 +2,7 @@
 pub mod Status
 pub mod Words
 pub mod Lines
+pub mod CountLines
 pub mod Load
 pub mod Answer
 pub mod CommandLines
@@ -13,6 +14,7 @@ pub mod ProgramPlans
 pub mod TablePlans
 pub mod ObjectPlans
 pub mod SourcePlans
+pub mod DemoPlans
 pub mod CommandPlans
 pub mod StoredCodes
 pub mod ProgramEndings

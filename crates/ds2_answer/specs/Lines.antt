@@ -200,3 +200,7 @@ line_put line = line ++ 10 ∷ []
 -- lines that a program has put, one behind the other
 abbrev pub lines_put : List (List ℕ) → List ℕ
 lines_put lines = flat_map line_put lines
+
+-- `demo` is done: the number of its rows, and the total of their amounts
+abbrev pub demo_line : ℕ → (total : List ℕ) → List ℕ
+demo_line rows total = codes "NOTE: Demo, " ++ (decimal rows ++ (codes " rows, total " ++ (total ++ codes ".\n")))

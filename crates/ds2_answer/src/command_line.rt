@@ -1,16 +1,17 @@
-//! The words of the four commands.
+//! The words of the five commands.
 ghost use Rattle.std.specs.Prelude.{◌≡◌, ◌≤◌, IfOk, IfSome, unwrap_or};
 ghost use Rattle.ds2_answer.specs.declared.words.TheConstants.{DEFAULT_BUDGET, MOST_BUDGET};
-ghost use Rattle.ds2_answer.specs.CommandLines.{IsBudgetWithin, budget_on_line, command_line_of, file_command, exec_with_options, is_object_name, no_options, object_command, options_behind, run_with_options, source_command, with_option};
+ghost use Rattle.ds2_answer.specs.CommandLines.{HasRowsWithin, IsBudgetWithin, budget_on_line, command_line_of, demo_command, file_command, exec_with_options, is_object_name, no_options, object_command, options_behind, run_with_options, source_command, with_option};
 
 use crate::words::{DEFAULT_BUDGET, MOST_BUDGET, is_file_name, is_source, number_within};
 use ds2_base::{OutOfMemory, Text};
+use ds2_sales::MOST_SALES;
 use std::alloc::Global;
 
 /// The most workers that a line may ask for.
 pub const MOST_THREADS: u64 = 64;
 
-/// What a line of words asks for. Each names its file; a budget is the number of steps that each call of a system method may take.
+/// What a line of words asks for. Each but `demo` names its file; a budget is the number of steps that each call of a system method may take.
 /// A new one touches the files that docs/ARCHITECTURE.md lists under 'To add a command'.
 #[derive(Drop)]
 pub enum CommandLine {
@@ -33,6 +34,10 @@ pub enum CommandLine {
     /// `check SOURCE`: tells whether the source is refused, and which of its thread programs are local.
     Check {
         source: Text,
+    },
+    /// `demo N`: runs a job of its own over N rows, 1 to [`MOST_SALES`], in files of its own.
+    Demo {
+        n: u32,
     },
 }
 
@@ -116,6 +121,7 @@ fn run_with_options(
 ) -> Result<Option<CommandLine>, OutOfMemory>
     ensures command { IfOk result (λ command. command ≡ run_with_options source.now (options_behind no_options options.now)) }
     ensures within { IfOk result (λ command. IfSome command (λ line. budget_on_line line ≤ MOST_BUDGET)) }
+    ensures rows { IfOk result (λ command. IfSome command HasRowsWithin) }
 {
     match options_of(options) {
         None => Ok(None),
@@ -135,6 +141,7 @@ fn exec_with_options(
 ) -> Result<Option<CommandLine>, OutOfMemory>
     ensures command { IfOk result (λ command. command ≡ exec_with_options object.now (options_behind no_options options.now)) }
     ensures within { IfOk result (λ command. IfSome command (λ line. budget_on_line line ≤ MOST_BUDGET)) }
+    ensures rows { IfOk result (λ command. IfSome command HasRowsWithin) }
 {
     match options_of(options) {
         None => Ok(None),
@@ -159,6 +166,7 @@ fn source_command(
 ) -> Result<Option<CommandLine>, OutOfMemory>
     ensures command { IfOk result (λ command. command ≡ source_command word.now source.now options.now) }
     ensures within { IfOk result (λ command. IfSome command (λ line. budget_on_line line ≤ MOST_BUDGET)) }
+    ensures rows { IfOk result (λ command. IfSome command HasRowsWithin) }
 {
     if word == "run" {
         run_with_options(alloc, source, options)
@@ -182,6 +190,7 @@ fn object_command(
 ) -> Result<Option<CommandLine>, OutOfMemory>
     ensures command { IfOk result (λ command. command ≡ object_command word.now object.now options.now) }
     ensures within { IfOk result (λ command. IfSome command (λ line. budget_on_line line ≤ MOST_BUDGET)) }
+    ensures rows { IfOk result (λ command. IfSome command HasRowsWithin) }
 {
     if word == "exec" {
         exec_with_options(alloc, object, options)
@@ -199,6 +208,7 @@ fn file_command(
 ) -> Result<Option<CommandLine>, OutOfMemory>
     ensures command { IfOk result (λ command. command ≡ file_command word.now file.now options.now) }
     ensures within { IfOk result (λ command. IfSome command (λ line. budget_on_line line ≤ MOST_BUDGET)) }
+    ensures rows { IfOk result (λ command. IfSome command HasRowsWithin) }
 {
     if is_source(file.as_str()) {
         source_command(alloc, word, file, options)
@@ -209,13 +219,36 @@ fn file_command(
     }
 }
 
-/// The command of a line of words, or None where it is no line. A budget is at most [`MOST_BUDGET`].
+// `demo` with its number of rows, behind which no word stands.
+fn demo_command(number: &Text, more: &[Text]) -> Option<CommandLine>
+    ensures command { result ≡ demo_command number.now more.now }
+    ensures within { IfSome result (λ line. budget_on_line line ≤ MOST_BUDGET) }
+    ensures rows { IfSome result HasRowsWithin }
+{
+    match more {
+        [_, ..] => None,
+        [] => match number_within(number.as_str(), MOST_SALES as u64) {
+            None => None,
+            Some(n) => Some(CommandLine::Demo { n: n as u32 }),
+        },
+    }
+}
+
+/// The command of a line of words, or None where it is no line. A budget is at most [`MOST_BUDGET`], and `demo` has 1 to [`MOST_SALES`]
+/// rows.
 pub fn read_command_line(alloc: Global, words: &[Text]) -> Result<Option<CommandLine>, OutOfMemory>
     ensures command { IfOk result (λ command. command ≡ command_line_of words.now) }
     ensures within { IfOk result (λ command. IfSome command (λ line. budget_on_line line ≤ MOST_BUDGET)) }
+    ensures rows { IfOk result (λ command. IfSome command HasRowsWithin) }
 {
     match words {
-        [word, file, options @ ..] => file_command(alloc, word.as_str(), file, options),
+        [word, next, more @ ..] => {
+            if word.as_str() == "demo" {
+                Ok(demo_command(next, more))
+            } else {
+                file_command(alloc, word.as_str(), next, more)
+            }
+        }
         [_] => Ok(None),
         [] => Ok(None),
     }

@@ -1,15 +1,17 @@
 //! The lines of the log. Each ends with a line feed. A new line touches the files that docs/ARCHITECTURE.md lists under 'To add a
 //! log line'.
 ghost use Rattle.std.specs.Prelude.{◌≡◌, ◌++◌, IfOk, OnOk, Some, None, string_bytes};
-ghost use Rattle.ds2_answer.specs.Lines.{checked_thread_line, count_line, error_line, exists_line, fault_line, fault_text, file_line, lex_kind_text, parse_kind_text, line_put, lines_put, local_text, not_local_text, object_line, object_refused_line, scope_kind_text, source_kind_text, source_line, table_kind_text, table_line, thread_line, type_kind_text, usage_line, verdict_text};
+ghost use Rattle.ds2_decimal.specs.Text.{decimal_text};
+ghost use Rattle.ds2_answer.specs.Lines.{checked_thread_line, count_line, demo_line, error_line, exists_line, fault_line, fault_text, file_line, lex_kind_text, parse_kind_text, line_put, lines_put, local_text, not_local_text, object_line, object_refused_line, scope_kind_text, source_kind_text, source_line, table_kind_text, table_line, thread_line, type_kind_text, usage_line, verdict_text};
 
 use crate::FileKind;
 use ds2_base::{Bytes, Name, OutOfMemory, Place, Text};
 use ds2_csv::{CsvKind, CsvRefusal};
+use ds2_decimal::Dec;
 use ds2_locality::{Reason, Verdict};
 use ds2_object::ObjectRefusal;
 use ds2_source::{LexKind, ParseKind, ScopeKind, SourceKind, SourceRefusal, TypeKind};
-use ds2_value::Fault;
+use ds2_value::{Fault, write_dec};
 use std::alloc::{AllocError, Global};
 
 // `ERROR: KIND fault on NAME.`
@@ -436,4 +438,20 @@ pub fn say_lines(lines: &[Text], log: &mut Bytes) -> Result<(), OutOfMemory>
         say_line(line, log)?;
     }
     Ok(())
+}
+
+// `NOTE: Demo, N rows, total T.`
+fn demo_line(alloc: Global, rows: u32, total: &str) -> Result<String, AllocError>
+    ensures { IfOk result (λ line. string_bytes line ≡ demo_line rows total.now) }
+{
+    format!(in alloc; "NOTE: Demo, {rows} rows, total {total}.\n")
+}
+
+/// Adds the last line of `demo`: the number of rows, and the total of their amounts.
+pub fn say_demo(alloc: Global, rows: u32, total: Dec, log: &mut Bytes) -> Result<(), OutOfMemory>
+    ensures { OnOk result (log.new ≡ log.old ++ demo_line rows (decimal_text total)) }
+{
+    let text = write_dec(alloc, total)?;
+    let line = demo_line(alloc, rows, text.as_str())?;
+    log.append(line.as_str().as_bytes())
 }

@@ -22,7 +22,7 @@ fn has_file_chars(word: &[u8]) -> bool
     word.iter().all(|c| is_file_char(*c))
 }
 
-fn has_digits(word: &[u8]) -> bool
+pub(crate) fn has_digits(word: &[u8]) -> bool
     ensures { result ≡ list_all is_ascii_digit word.now }
 {
     word.iter().all(|c| c.is_ascii_digit())
