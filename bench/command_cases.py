@@ -69,8 +69,8 @@ class Case:
         return self.line("spoil") is not None or self.line("cut") is not None
 
     def source(self):
-        """The text of the source; None where it is none, or long."""
-        text = self.files.get("job.ds2")
+        """The text of the source; None where it is none, or long, or where the command is `demo`, which has its own."""
+        text = None if (self.line("words") or "").startswith("demo ") else self.files.get("job.ds2")
         try:
             return text.decode() if text is not None and len(text) < 20_000 else None
         except UnicodeDecodeError:

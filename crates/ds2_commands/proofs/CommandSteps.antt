@@ -5,9 +5,10 @@ use Rattle.ds2_outside.specs.Files.{Files}
 use Rattle.ds2_compile.specs.AnswersOfTexts.{SourcesRead}
 use Rattle.ds2_compile.specs.ProgramTree.{ProgramTree}
 use Rattle.ds2_compile.specs.StagedParts.{StagedParts}
-use Rattle.ds2_answer.specs.declared.command_line.CommandLine.TheVariants.{Run, Compile, Exec, Check}
+use Rattle.ds2_answer.specs.declared.command_line.CommandLine.TheVariants.{Run, Compile, Exec, Check, Demo}
 use Rattle.ds2_answer.specs.declared.status.Status.{Status}
 use Rattle.ds2_answer.specs.declared.status.Status.TheVariants as ended
+use Rattle.ds2_answer.specs.DemoPlans.{demo_files, demo_job}
 use Rattle.ds2_answer.specs.HeldTables.{held_from_store}
 use Rattle.ds2_answer.specs.Lines.{checked_thread_line, verdict_text}
 use Rattle.ds2_answer.specs.ObjectPlans.{outputs_of_code}
@@ -22,9 +23,11 @@ use Rattle.ds2_store_steps.specs.OutputAsks.{AsksOutputs, OverAnswers}
 use Rattle.ds2_store_steps.specs.PlanOutcomes.{CameOfPlan, CutShort}
 use Rattle.ds2_store_steps.specs.declared.halt.Halt.{Halt}
 use Rattle.ds2_store_steps.specs.declared.halt.Halt.TheVariants.{Ended, OutOfMemory}
+use Rattle.ds2_store_steps.proofs.FileSteps.{over_all}
 use Rattle.ds2_store_steps.proofs.Leading.{does_on, leads_none, leads_say}
 use Rattle.ds2_store_steps.proofs.OutputSteps.{answers_all}
 use Rattle.ds2_commands.specs.CommandOutcomes.{DoesCommand, DoesSource, StoringCommand, checks, compiles, runs_with, verdicts_said}
+use Rattle.ds2_commands.specs.DemoOutcomes.{DoesDemo}
 use Rattle.ds2_commands.specs.ObjectRuns.{RunsFile}
 use Rattle.ds2_commands.specs.SourceLoads.{LoadsSource, RunsLoaded, StoresNew, StoresReadable, loaded_plan}
 use Rattle.ds2_commands.specs.SourceObjects.{HaltsUnstored, IsBeforeStoring, IsObjectOf}
@@ -262,3 +265,24 @@ module _ (sources : SourcesRead) (said log : List ℕ) (told now : Option Files)
     decodes = r.decodes;
     follows = r.follows;
   }
+
+-- `demo` leaves any store as it was
+pub shows_line : (sources : SourcesRead) (n : ℕ) (said log : List ℕ) (told : Option Files) (result : Result (Unit {0}) Halt) → DoesDemo sources n said result log → DoesCommand sources (Some (Demo n)) said told result log told
+shows_line sources n said log told result d =
+    let some = over_all told (λ (files : Files). Unit {0}) (λ files. tt) in
+    let answers = answers_all told (λ (there : Presence). Unit {0}) (λ there. tt) in
+    record {
+      object_for = no_objects;
+      files = some.files;
+      there = answers.there;
+      object = d.object;
+      files_told = some.told_is;
+      there_told = answers.told_is;
+      stores = by d.stores;
+      decodes = tt;
+      follows = d.follows told;
+    }
+  where
+    by : IsObjectOf sources demo_job (demo_files n) d.object ⊎ ((before : Option Files) → HaltsUnstored result before before) → IsObjectOf sources demo_job (demo_files n) d.object ⊎ HaltsUnstored result told told
+    by (inl object) = inl object
+    by (inr halts) = inr (halts told)

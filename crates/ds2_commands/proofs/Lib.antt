@@ -6,3 +6,4 @@ pub mod LoadSteps
 pub mod StoreSteps
 pub mod CommandSteps
 pub mod ObjectSteps
+pub mod DemoSteps

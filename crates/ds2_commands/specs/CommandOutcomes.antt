@@ -4,9 +4,10 @@ use Rattle.ds2_outside.specs.Files.{Files}
 use Rattle.ds2_compile.specs.AnswersOfTexts.{SourcesRead}
 use Rattle.ds2_compile.specs.StagedParts.{StagedParts}
 use Rattle.ds2_answer.specs.declared.command_line.CommandLine.{CommandLine}
-use Rattle.ds2_answer.specs.declared.command_line.CommandLine.TheVariants.{Run, Compile, Exec, Check}
-use Rattle.ds2_answer.specs.CommandLines.{is_object_name}
+use Rattle.ds2_answer.specs.declared.command_line.CommandLine.TheVariants.{Run, Compile, Exec, Check, Demo}
+use Rattle.ds2_answer.specs.CommandLines.{HasRowsWithin, is_object_name}
 use Rattle.ds2_answer.specs.CommandPlans.{plan_of_command}
+use Rattle.ds2_answer.specs.DemoPlans.{demo_files, demo_job}
 use Rattle.ds2_answer.specs.ObjectPlans.{ObjectReading}
 use Rattle.ds2_answer.specs.Lines.{checked_thread_line, verdict_text}
 use Rattle.ds2_answer.specs.SourcePlans.{SourceCommand, check_threads, compile_programs_of, run_programs_of, source_plan}
@@ -18,12 +19,13 @@ use Rattle.ds2_store_steps.specs.declared.halt.Halt.{Halt}
 use Rattle.ds2_commands.specs.ObjectRuns.{DecodesFile, HaltsUndecoded}
 use Rattle.ds2_commands.specs.SourceObjects.{HaltsUnstored, IsObjectOf}
 
--- a line names a source, or `exec` an object
+-- a line names a source, or `exec` an object, or `demo` a number of rows
 abbrev pub NamesFile : CommandLine → Type 0
 NamesFile (Run source threads budget) = IsTrue (is_source source)
 NamesFile (Compile source) = IsTrue (is_source source)
 NamesFile (Exec object budget) = IsTrue (is_object_name object)
 NamesFile (Check source) = IsTrue (is_source source)
+NamesFile (Demo n) = HasRowsWithin (Demo n)
 
 -- what a command does with a source: whether it stores the object, and its plan, given the object and which files are there
 pub record StoringCommand : Type 0 where
@@ -64,6 +66,7 @@ StoresUnlessHalted sources (Some (Run source threads budget)) files object resul
 StoresUnlessHalted sources (Some (Compile source)) files object result told now = IsObjectOf sources source files object ⊎ HaltsUnstored result told now
 StoresUnlessHalted sources (Some (Exec name budget)) files object result told now = Unit {0}
 StoresUnlessHalted sources (Some (Check source)) files object result told now = Unit {0}
+StoresUnlessHalted sources (Some (Demo n)) files object result told now = IsObjectOf sources demo_job (demo_files n) object ⊎ HaltsUnstored result told now
 
 -- what a command decodes
 abbrev pub DecodesUnlessHalted : ObjectReading → Option CommandLine → Files → List ℕ → Option Files → Result (Unit {0}) Halt → List ℕ → Option Files → Type 0
@@ -72,6 +75,7 @@ DecodesUnlessHalted object_for (Some (Run source threads budget)) files said tol
 DecodesUnlessHalted object_for (Some (Compile source)) files said told result log now = Unit {0}
 DecodesUnlessHalted object_for (Some (Exec name budget)) files said told result log now = DecodesFile object_for name files ⊎ HaltsUndecoded name said told result log now
 DecodesUnlessHalted object_for (Some (Check source)) files said told result log now = Unit {0}
+DecodesUnlessHalted object_for (Some (Demo n)) files said told result log now = Unit {0}
 
 -- what a line of words leaves: its plan was done, or it has halted in it, over the files of a store, with the object that it stores and the file
 -- that it decodes

@@ -2,6 +2,7 @@
 pub mod SourceObjects
 pub mod SourceLoads
 pub mod ObjectRuns
+pub mod DemoOutcomes
 pub mod CommandOutcomes
 pub use Rattle.ds2_compile.specs.AnswersOfTexts
 pub use Rattle.ds2_compile.specs.ProgramTree

@@ -8,6 +8,7 @@ ghost use Rattle.ds2_commands.specs.CommandOutcomes.{DoesCommand, NamesFile};
 
 use crate::check::check_source;
 use crate::compile::compile_source;
+use crate::demo::{show_demo, show_demo_with};
 use crate::exec::exec_object;
 use crate::run::run_source;
 use crate::workers::run_source_with;
@@ -39,11 +40,13 @@ pub fn do_command<S: Store>(
         CommandLine::Compile { source } => compile_source(alloc, source, log, store),
         CommandLine::Exec { object, budget } => exec_object(alloc, object, *budget, log, store),
         CommandLine::Check { source } => check_source(alloc, source, log, store),
+        CommandLine::Demo { n } => show_demo(alloc, *n, log),
     }
 }
 
 /// Does a command with the same answer as [`do_command`]. The groups of a thread program that is local run on as many workers as the line of
-/// `run` asks for or, where it doesn't, the source; the other commands have no workers. It returns if the threads that it waits for do.
+/// `run` asks for or, where it doesn't, the source; those of `demo` on four; the other commands have no workers. It returns if the threads that
+/// it waits for do.
 pub fn do_command_with<S: Store, G: Gate + Sync, W: Threads + Wait + Sync>(
     rt: &W,
     alloc: Global,
@@ -67,5 +70,6 @@ pub fn do_command_with<S: Store, G: Gate + Sync, W: Threads + Wait + Sync>(
         CommandLine::Compile { .. } => do_command(alloc, line, log, store),
         CommandLine::Exec { .. } => do_command(alloc, line, log, store),
         CommandLine::Check { .. } => do_command(alloc, line, log, store),
+        CommandLine::Demo { n } => show_demo_with(rt, alloc, *n, gate, log),
     }
 }

@@ -14,6 +14,7 @@ mod check;
 mod commands;
 mod compile;
 mod compiling;
+mod demo;
 mod exec;
 mod loaded;
 mod refusals;

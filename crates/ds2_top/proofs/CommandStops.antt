@@ -1,24 +1,27 @@
 -- With which statuses the answers of commands stop.
-use Rattle.std.proofs.Common.{◌≡◌, ◌⊎◌, inl, inr, ◌∙◌, ℕ, List, flat_map, Option, Some, None, refl, sym, ap, subst}
+use Rattle.std.proofs.Common.{◌≡◌, ◌⊎◌, inl, inr, ◌∙◌, ℕ, List, [], ◌∷◌, flat_map, Option, Some, None, refl, sym, ap, subst}
 use Rattle.ds2_outside.specs.Files.{Files}
 use Rattle.ds2_commands.specs.AnswersOfTexts.{SourcesRead}
 use Rattle.ds2_commands.specs.ProgramTree.{ProgramTree}
 use Rattle.ds2_commands.specs.StagedParts.{StagedParts}
 use Rattle.ds2_answer.specs.declared.command_line.CommandLine.{CommandLine}
-use Rattle.ds2_answer.specs.declared.command_line.CommandLine.TheVariants.{Run, Compile, Exec, Check}
+use Rattle.ds2_answer.specs.declared.command_line.CommandLine.TheVariants.{Run, Compile, Exec, Check, Demo}
 use Rattle.ds2_answer.specs.declared.status.Status.{Status}
 use Rattle.ds2_answer.specs.declared.status.Status.TheVariants as ended
 use Rattle.ds2_answer.specs.CommandPlans.{plan_of_command}
+use Rattle.ds2_answer.specs.DemoPlans.{demo_end, demo_files, demo_job, demo_run}
 use Rattle.ds2_answer.specs.HeldTables.{HeldTables}
 use Rattle.ds2_answer.specs.ObjectPlans.{ObjectReading}
-use Rattle.ds2_answer.specs.Plan.{Stops}
-use Rattle.ds2_answer.specs.PlanSteps.{files_behind_all, status_at_end, steps_of}
-use Rattle.ds2_answer.specs.SourcePlans.{check_threads, compile_programs_of, outputs_of_program, runs_of_programs, run_programs_of, store_object}
+use Rattle.ds2_answer.specs.CountLines.{lines_without_counts}
+use Rattle.ds2_answer.specs.Plan.{Plan, Stops, Logs, each_in_turn}
+use Rattle.ds2_answer.specs.PlanSteps.{files_behind_all, status_at_end, steps_of, text_logged}
+use Rattle.ds2_answer.specs.SourcePlans.{check_threads, compile_programs_of, outputs_of_program, runs_of_programs, run_programs_of, source_plan, store_object}
 use Rattle.ds2_answer.specs.ProgramPlans.{programs_plan}
 use Rattle.ds2_answer.specs.Status.{IsRefusal}
 use Rattle.ds2_commands.specs.ThreadVerdicts.{verdict_named}
 use Rattle.ds2_commands.specs.ThreadVerdict.{ThreadVerdict}
-use Rattle.ds2_answer.specs.TablePlans.{Presence, none_made}
+use Rattle.ds2_answer.specs.TablePlans.{Presence, none_made, present_in}
+use Rattle.ds2_answer.specs.declared.words.TheConstants.{DEFAULT_BUDGET}
 use Rattle.ds2_commands.proofs.PlanStops.{StopsAmong, either_way, exec_stop, nothing_written, outputs_stop, programs_stop, source_stop, verdicts_stop}
 
 -- ---- any command
@@ -66,13 +69,41 @@ run_stop P exists source budget object there held verdicts programs =
     outputs_stop P IsEnd exists none_made there (flat_map outputs_of_program programs) (store_object source object (programs_plan (runs_of_programs (verdict_named verdicts) budget programs object) held))
     (programs_stop IsEnd tt tt (runs_of_programs (verdict_named verdicts) budget programs object) held)
 
+-- lines are told one behind the other
+told_stop : (P Q : Status → Type 0) (lines : List (List ℕ)) (rest : Plan) → StopsAmong P Q rest → StopsAmong P Q (each_in_turn Logs lines rest)
+told_stop P Q [] rest s = s
+told_stop P Q (line ∷ lines) rest s = told_stop P Q lines rest s
+
+-- `demo` stops as the plan inside does
+demo_stop : (P Q : Status → Type 0) (n : ℕ) (status : Status) → P status → StopsAmong P Q (demo_end status n)
+demo_stop P Q n ended.Done p = p
+demo_stop P Q n ended.Usage p = p
+demo_stop P Q n ended.Source p = p
+demo_stop P Q n ended.File p = p
+demo_stop P Q n ended.Exists p = p
+demo_stop P Q n ended.Fault p = p
+demo_stop P Q n ended.Read p = p
+demo_stop P Q n ended.Write p = p
+demo_stop P Q n ended.Log p = p
+demo_stop P Q n ended.Object p = p
+demo_stop P Q n ended.Memory p = p
+
+source_stops : (sources : SourcesRead) (source : List ℕ) (budget : ℕ) (object : List StagedParts) (files : Files) (there : Presence) → StopsAmong IsNoUsage IsEnd (source_plan sources source files (run_programs_of source budget object there))
+source_stops sources source budget object files there =
+    source_stop IsNoUsage IsEnd tt tt sources source files (run_programs_of source budget object there) (λ held verdicts programs. run_stop IsNoUsage tt source budget object there held verdicts programs)
+
 module _ (sources : SourcesRead) (object_for : ObjectReading) (object : List StagedParts) (files : Files) (there : Presence) where
   line_stops : (line : CommandLine) → StopsAmong IsNoUsage IsEnd (plan_of_command sources object_for object (Some line) files there)
   line_stops (Run source threads budget) =
-      source_stop IsNoUsage IsEnd tt tt sources source files (run_programs_of source budget object there) (λ held verdicts programs. run_stop IsNoUsage tt source budget object there held verdicts programs)
+      source_stops sources source budget object files there
   line_stops (Compile source) = source_stop IsNoUsage IsEnd tt tt sources source files (λ held verdicts programs. compile_programs_of source object) (λ held verdicts programs. tt)
   line_stops (Exec name budget) = exec_stop IsNoUsage IsEnd tt tt tt tt tt end_is_no_usage object_for name budget files there
   line_stops (Check source) = source_stop IsNoUsage IsEnd tt tt sources source files (λ held verdicts programs. check_threads verdicts) (λ held verdicts programs. verdicts_stop IsNoUsage IsEnd tt verdicts)
+  line_stops (Demo n) =
+      let plan = demo_run sources object (demo_files n) (present_in (demo_files n)) in
+      told_stop IsNoUsage IsEnd (lines_without_counts (text_logged (steps_of plan))) (demo_end (status_at_end plan) n)
+      (demo_stop IsNoUsage IsEnd n (status_at_end plan)
+      (either_way IsNoUsage IsEnd IsNoUsage plan (λ s p. p) end_is_no_usage (source_stops sources demo_job DEFAULT_BUDGET object (demo_files n) (present_in (demo_files n)))))
 
   -- words that are no command are told so, and no others
   pub usage_only : (line : Option CommandLine) → status_at_end (plan_of_command sources object_for object line files there) ≡ ended.Usage → line ≡ None

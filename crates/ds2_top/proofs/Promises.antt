@@ -5,7 +5,7 @@ use Rattle.ds2_outside.specs.Files.{Files}
 use Rattle.ds2_commands.specs.AnswersOfTexts.{SourcesRead}
 use Rattle.ds2_commands.specs.StagedParts.{StagedParts}
 use Rattle.ds2_answer.specs.declared.command_line.CommandLine.{CommandLine}
-use Rattle.ds2_answer.specs.declared.command_line.CommandLine.TheVariants.{Run, Compile, Exec, Check}
+use Rattle.ds2_answer.specs.declared.command_line.CommandLine.TheVariants.{Run, Compile, Exec, Check, Demo}
 use Rattle.ds2_answer.specs.declared.status.Status.{Status}
 use Rattle.ds2_answer.specs.declared.status.Status.TheVariants as ended
 use Rattle.ds2_answer.specs.CommandLines.{command_line_of}
@@ -54,6 +54,7 @@ module _ (sources : SourcesRead) (object_for : ObjectReading) (object : List Sta
   fault_of (Some (Compile source)) (did, gained) stores = compile_faults_never sources object_for object files there source (sym did.status_is)
   fault_of (Some (Exec name budget)) (did, gained) stores = tt
   fault_of (Some (Check source)) (did, gained) stores = check_faults_never sources object_for object files there source (sym did.status_is)
+  fault_of (Some (Demo n)) (did, gained) stores = tt
 
   of_did : (line : Option CommandLine) (status : Status) → Did (answer_of line) files before now status → Gained (text_logged (steps_of (answer_of line))) before now → IsRefusal status
       → LeavesRefusal (answer_of line) files before now status
@@ -133,6 +134,8 @@ module _ (sources : SourcesRead) (object_for : ObjectReading) (object : List Sta
   stores_at (Some (Compile source)) f (inr halts) = inr (f halts)
   stores_at (Some (Exec name budget)) f stores = tt
   stores_at (Some (Check source)) f stores = tt
+  stores_at (Some (Demo n)) f (inl of_source) = inl of_source
+  stores_at (Some (Demo n)) f (inr halts) = inr (f halts)
 
   decodes_at : (said x : List ℕ) (line : Option CommandLine) → ((name : List ℕ) → HaltsUndecoded name said before.files ran x now.files → EndsBeforeDecoding name files before now status)
       → DecodesUnlessHalted object_for line files said before.files ran x now.files → DecodesObject object_for line files before now status
@@ -142,6 +145,7 @@ module _ (sources : SourcesRead) (object_for : ObjectReading) (object : List Sta
   decodes_at said x (Some (Exec name budget)) f (inl decoded) = inl decoded
   decodes_at said x (Some (Exec name budget)) f (inr halts) = inr (f name halts)
   decodes_at said x (Some (Check source)) f decodes = tt
+  decodes_at said x (Some (Demo n)) f decodes = tt
 
 -- ---- what was reported
 

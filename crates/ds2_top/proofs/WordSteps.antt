@@ -3,7 +3,7 @@ use Rattle.std.proofs.Common.{◌≡◌, IsErrAnd, inr, ℕ, List, [], Option, S
 use Rattle.ds2_outside.specs.Files.{Files}
 use Rattle.ds2_commands.specs.AnswersOfTexts.{SourcesRead}
 use Rattle.ds2_answer.specs.declared.command_line.CommandLine.{CommandLine}
-use Rattle.ds2_answer.specs.declared.command_line.CommandLine.TheVariants.{Run, Compile, Exec, Check}
+use Rattle.ds2_answer.specs.declared.command_line.CommandLine.TheVariants.{Run, Compile, Exec, Check, Demo}
 use Rattle.ds2_answer.specs.declared.status.Status.TheVariants as ended
 use Rattle.ds2_answer.specs.CommandPlans.{plan_of_command}
 use Rattle.ds2_answer.specs.Lines.{usage_line}
@@ -69,6 +69,7 @@ module _ (sources : SourcesRead) where
       stores_none (Some (Compile source)) = inr refl
       stores_none (Some (Exec name budget)) = tt
       stores_none (Some (Check source)) = tt
+      stores_none (Some (Demo n)) = inr refl
 
       decodes_none : (l : Option CommandLine) → DecodesUnlessHalted no_objects l (OverSomeFiles.files (over_all told (λ (files : Files). Unit {0}) (λ files. tt))) said told (Err OutOfMemory) log told
       decodes_none None = tt
@@ -76,3 +77,4 @@ module _ (sources : SourcesRead) where
       decodes_none (Some (Compile source)) = tt
       decodes_none (Some (Exec name budget)) = inr refl
       decodes_none (Some (Check source)) = tt
+      decodes_none (Some (Demo n)) = tt

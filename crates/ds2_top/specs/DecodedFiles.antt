@@ -2,7 +2,7 @@
 use Rattle.std.specs.Prelude.{◌≡◌, ◌⊎◌, ℕ, List, codes, Option, Some, None}
 use Rattle.ds2_outside.specs.Files.{Files}
 use Rattle.ds2_answer.specs.declared.command_line.CommandLine.{CommandLine}
-use Rattle.ds2_answer.specs.declared.command_line.CommandLine.TheVariants.{Run, Compile, Exec, Check}
+use Rattle.ds2_answer.specs.declared.command_line.CommandLine.TheVariants.{Run, Compile, Exec, Check, Demo}
 use Rattle.ds2_answer.specs.declared.status.Status.{Status}
 use Rattle.ds2_answer.specs.declared.status.Status.TheVariants as ended
 use Rattle.ds2_answer.specs.Lines.{fault_line, memory_line}
@@ -30,3 +30,4 @@ DecodesObject object_for (Some (Run source threads budget)) files before now sta
 DecodesObject object_for (Some (Compile source)) files before now status = Unit {0}
 DecodesObject object_for (Some (Exec name budget)) files before now status = DecodesFile object_for name files ⊎ EndsBeforeDecoding name files before now status
 DecodesObject object_for (Some (Check source)) files before now status = Unit {0}
+DecodesObject object_for (Some (Demo n)) files before now status = Unit {0}

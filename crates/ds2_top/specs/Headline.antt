@@ -48,13 +48,13 @@ pub record Headline (words : List (List ℕ)) (before now : Outside) (status : S
   pub there : Presence
   pub told : IfSome before.files (λ held. held ≡ files)
   pub there_told : IfSome before.files (λ held. (name : List ℕ) → there name ≡ present_in held name)
-  -- the object that the command stores, where it stores one
+  -- the object that the command stores, where it stores one; `demo` stores its own in files of its own
   pub object : List StagedParts
   -- files and log are those of the answer, or of the answer up to a call that failed
   pub leaves : Leaves (answer_of_words sources object_for object words files there) files before now status
   -- where no call has failed, all is as in the answer, but for want of memory
   pub answered : WhereNoCallFailed before now (IsAnswered (answer_of_words sources object_for object words files there) files before now status ⊎ (status ≡ ended.Memory))
-  -- the stored object is valid code that means the same as the source, and its file is decoded to it
+  -- the stored object is valid code that means the same as the source, and its bytes are decoded to it
   pub stores : StoresObject sources (command_line_of words) files object before now status
   -- the object that is run is what its file is decoded to, or the command has ended before
   pub decodes : DecodesObject object_for (command_line_of words) files before now status

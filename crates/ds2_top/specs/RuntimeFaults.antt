@@ -9,7 +9,7 @@ use Rattle.ds2_commands.specs.ProgramTree.{ProgramTree}
 use Rattle.ds2_commands.specs.StagedParts.{StagedParts}
 use Rattle.ds2_outside.specs.Files.{Files}
 use Rattle.ds2_answer.specs.declared.command_line.CommandLine.{CommandLine}
-use Rattle.ds2_answer.specs.declared.command_line.CommandLine.TheVariants.{Run, Compile, Exec, Check}
+use Rattle.ds2_answer.specs.declared.command_line.CommandLine.TheVariants.{Run, Compile, Exec, Check, Demo}
 use Rattle.ds2_answer.specs.declared.status.Status.TheVariants.{Done}
 use Rattle.ds2_answer.specs.HeldTables.{HeldTables, NamedTable, held_behind, held_from_store}
 use Rattle.ds2_answer.specs.Lines.{error_line, fault_text, line_put}
@@ -74,10 +74,12 @@ pub record LeavesFault (sources : SourcesRead) (object : List StagedParts) (sour
   pub steps_are : steps_of answer ≡ front ++ (steps_of_runs first.earlier (held_from_store stored) ++ steps_of_fault (lines_of_faulting (held_from_store stored) first) fault place)
   pub files_are : HoldsFiles (files_behind_all (front ++ steps_of_runs first.earlier (held_from_store stored)) files) before now
 
--- what `run` leaves that ends in a fault; `exec` ends in the fault of its plan, which the answer says, and the other commands run nothing
+-- what `run` leaves that ends in a fault; `exec` and `demo` end in the fault of their plan, which the answer says, and the other commands run
+-- nothing
 abbrev pub FaultLeft : SourcesRead → (object : List StagedParts) → Option CommandLine → (answer : Plan) → Files → Outside → Outside → Type 0
 FaultLeft sources object None answer files before now = ⊥
 FaultLeft sources object (Some (Run source threads budget)) answer files before now = LeavesFault sources object source budget answer files before now
 FaultLeft sources object (Some (Compile source)) answer files before now = ⊥
 FaultLeft sources object (Some (Exec name budget)) answer files before now = Unit {0}
 FaultLeft sources object (Some (Check source)) answer files before now = ⊥
+FaultLeft sources object (Some (Demo n)) answer files before now = Unit {0}

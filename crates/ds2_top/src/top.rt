@@ -14,9 +14,9 @@ use std::thread::Threads;
 
 /// Does what a line of words says, with one worker, and writes the log at the end in one call.
 ///
-/// The words are those after the program's name: `run`, `compile` or `check` and a source, or `exec` and an object, with their options. A
-/// file of a table has the table's name and the ending `.csv`, and the object of `NAME.ds2` is `NAME.dso`. The first refusal ends the
-/// command. The status tells how it has ended, and the log the kind and the place.
+/// The words are those after the program's name: `run`, `compile` or `check` and a source, or `exec` and an object, with their options, or
+/// `demo` and a number of rows. A file of a table has the table's name and the ending `.csv`, and the object of `NAME.ds2` is `NAME.dso`. The
+/// first refusal ends the command. The status tells how it has ended, and the log the kind and the place.
 pub fn ds2_alone<T: Store, L: Sink>(
     alloc: Global,
     words: &[Text],
@@ -35,7 +35,7 @@ pub fn ds2_alone<T: Store, L: Sink>(
 }
 
 /// Does what a line of words says, with the same answer as [`ds2_alone`]. The groups of a thread program that is local run on as many workers
-/// as the line of `run` asks for or, where it doesn't, the source. It returns if the threads that it waits for do.
+/// as the line of `run` asks for or, where it doesn't, the source; those of `demo` on four. It returns if the threads that it waits for do.
 pub fn ds2<T: Store, L: Sink, G: Gate + Sync>(
     rt: &(impl Threads + Wait + Sync),
     alloc: Global,

@@ -1,7 +1,7 @@
 use Rattle.std.proofs.Common.{Some, subst, sym}
 use Rattle.ds2_answer.specs.declared.command_line.CommandLine.{CommandLine}
 use Rattle.ds2_commands.specs.CommandOutcomes.{DoesCommand}
-use Rattle.ds2_commands.proofs.CommandSteps.{checks_line, compiles_line, execs_line, runs_line}
+use Rattle.ds2_commands.proofs.CommandSteps.{checks_line, compiles_line, execs_line, runs_line, shows_line}
 use Rattle.ds2_commands.proofs.commands.do_command.Goals as goal
 
 pub returns-in-Run-clause-does : goal.returns-in-Run-clause-does
@@ -23,3 +23,8 @@ pub returns-in-Check-clause-does : goal.returns-in-Check-clause-does
 returns-in-Check-clause-does g c sources =
     subst (λ (line : CommandLine). DoesCommand sources (Some line) c.args.log.now (g.S.Store.files c.args.store.now) c.check_source.result c.check_source.new.log (g.S.Store.files c.check_source.new.store)) (sym c.in-Check.is)
     (checks_line sources c.args.log.now c.check_source.new.log (g.S.Store.files c.args.store.now) (g.S.Store.files c.check_source.new.store) c.check_source.result c.in-Check.source (c.check_source.ensures.does sources))
+
+pub returns-in-Demo-clause-does : goal.returns-in-Demo-clause-does
+returns-in-Demo-clause-does g c sources =
+    subst (λ (line : CommandLine). DoesCommand sources (Some line) c.args.log.now (g.S.Store.files c.args.store.now) c.show_demo.result c.show_demo.new.log (g.S.Store.files c.args.store.now)) (sym c.in-Demo.is)
+    (shows_line sources c.in-Demo.n c.args.log.now c.show_demo.new.log (g.S.Store.files c.args.store.now) c.show_demo.result (c.show_demo.ensures.does sources))

@@ -1,6 +1,6 @@
-use Rattle.std.proofs.Common.{◌∙◌, Option, Some, refl, sym, subst}
+use Rattle.std.proofs.Common.{◌∙◌, IfSome, Option, Some, refl, sym, subst}
 use Rattle.ds2_answer.specs.declared.command_line.CommandLine.{CommandLine}
-use Rattle.ds2_answer.specs.CommandLines.{command_line_of}
+use Rattle.ds2_answer.specs.CommandLines.{HasRowsWithin, command_line_of}
 use Rattle.ds2_commands.specs.CommandOutcomes.{DoesCommand}
 use Rattle.ds2_top.proofs.WordSteps.{no_line, no_words}
 use Rattle.ds2_top.proofs.NamedLines.{line_names}
@@ -8,6 +8,7 @@ use Rattle.ds2_top.proofs.words.run.Goals as goal
 
 pub do_command-requires-clause-named : goal.do_command-requires-clause-named
 do_command-requires-clause-named g c = line_names c.args.words.now c.in-Some.line (sym c.in_ok-line.ensures.command ∙ c.in-Some.is)
+    (subst (λ (o : Option CommandLine). IfSome o HasRowsWithin) c.in-Some.is c.in_ok-line.ensures.rows)
 
 pub returns-in_err-line-clause-does : goal.returns-in_err-line-clause-does
 returns-in_err-line-clause-does g c sources =

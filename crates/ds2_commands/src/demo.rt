@@ -1,0 +1,116 @@
+//! `demo`: a job of its own is run over sales that are made for it, both in files of its own.
+ghost use Rattle.std.specs.Prelude.{◌≡◌, ◌++◌, OnOk};
+ghost use Rattle.ds2_compile.specs.AnswersOfTexts.{SourcesRead};
+ghost use Rattle.ds2_answer.specs.Status.{IsAnswerStatus};
+ghost use Rattle.ds2_answer.specs.CommandLines.{HasRowsWithin};
+ghost use Rattle.ds2_answer.specs.DemoPlans.{total_line};
+ghost use Rattle.ds2_answer.specs.declared.command_line.CommandLine.TheVariants.{Demo};
+ghost use Rattle.ds2_store_steps.specs.Halts.{HaltsAs};
+ghost use Rattle.ds2_commands.specs.DemoOutcomes.{DoesDemo, EndsDemo, FollowsBeside, told_of_end};
+
+use crate::run::run_source;
+use crate::workers::run_source_with;
+use ds2_answer::lines::say_demo;
+use ds2_answer::{DEFAULT_BUDGET, Status, demo_files, demo_job, sales_total, say_without_counts};
+use ds2_base::{Bytes, List, OutOfMemory};
+use ds2_compile::sources_are_read;
+use ds2_outside::Gate;
+use ds2_store_steps::Halt;
+use std::alloc::Global;
+use std::sync::Wait;
+use std::thread::Threads;
+
+// How many workers share the groups of the job's thread program.
+const WORKERS: u32 = 4;
+
+// Says how many sales there were, and their total.
+fn say_sales(alloc: Global, n: u32, log: &mut Bytes) -> Result<(), OutOfMemory>
+    requires { HasRowsWithin (Demo n) }
+    ensures { OnOk result (log.new ≡ log.old ++ total_line n) }
+{
+    say_demo(alloc, n, sales_total(n), log)
+}
+
+// Says what the run inside has said, but for its counts of instructions, and ends with its status; where it was done, with a line on the sales.
+fn tell_end(
+    alloc: Global,
+    n: u32,
+    status: Status,
+    text: &Bytes,
+    log: &mut Bytes,
+) -> Result<(), Halt>
+    requires { HasRowsWithin (Demo n) }
+    ensures { IsAnswerStatus status → FollowsBeside (told_of_end text.now status n) log.old result log.new }
+{
+    say_without_counts(alloc, text.as_slice(), log)?;
+    match status {
+        Status::Done => {
+            say_sales(alloc, n, log)?;
+            Ok(())
+        }
+        other => Err(Halt::Ended(other)),
+    }
+}
+
+// Ends the command as the run inside has ended.
+fn end_demo(
+    alloc: Global,
+    n: u32,
+    ran: Result<(), Halt>,
+    text: &Bytes,
+    log: &mut Bytes,
+) -> Result<(), Halt>
+    requires { HasRowsWithin (Demo n) }
+    ensures { EndsDemo n ran text.now log.old result log.new }
+{
+    match ran {
+        Ok(()) => tell_end(alloc, n, Status::Done, text, log),
+        Err(Halt::Ended(status)) => tell_end(alloc, n, status, text, log),
+        Err(Halt::OutOfMemory) => Err(Halt::OutOfMemory),
+    }
+}
+
+/// `demo`: runs its job over `n` sales, and says what the job has said, but for its counts of instructions. No store is asked.
+pub(crate) fn show_demo(alloc: Global, n: u32, log: &mut Bytes) -> Result<(), Halt>
+    requires rows { HasRowsWithin (Demo n) }
+    ensures does { (sources : SourcesRead) → DoesDemo sources n log.old result log.new }
+    ensures unread { HaltsAs Status.Read result → ⊥ }
+    ensures unwritten { HaltsAs Status.Write result → ⊥ }
+{
+    sources_are_read();
+    let job = demo_job(alloc)?;
+    let mut files = demo_files(alloc, n)?;
+    let mut text = List::new(alloc);
+    let ran = run_source(alloc, &job, DEFAULT_BUDGET, &mut text, &mut files);
+    end_demo(alloc, n, ran, &text, log)
+}
+
+/// The same, with the groups of the job's thread program on several workers.
+pub(crate) fn show_demo_with<G: Gate + Sync, W: Threads + Wait + Sync>(
+    rt: &W,
+    alloc: Global,
+    n: u32,
+    gate: &G,
+    log: &mut Bytes,
+) -> Result<(), Halt>
+    requires rows { HasRowsWithin (Demo n) }
+    ensures does { (sources : SourcesRead) → DoesDemo sources n log.old result log.new }
+    ensures unread { HaltsAs Status.Read result → ⊥ }
+    ensures unwritten { HaltsAs Status.Write result → ⊥ }
+{
+    sources_are_read();
+    let job = demo_job(alloc)?;
+    let mut files = demo_files(alloc, n)?;
+    let mut text = List::new(alloc);
+    let ran = run_source_with(
+        rt,
+        alloc,
+        &job,
+        Some(WORKERS),
+        gate,
+        DEFAULT_BUDGET,
+        &mut text,
+        &mut files,
+    );
+    end_demo(alloc, n, ran, &text, log)
+}
