@@ -164,6 +164,8 @@ threaded("calls of a method that mentions many names, by 16 BY variables", lambd
 threaded("calls with many in_out arguments, by 16 BY variables", lambda size: thread_by(
     size, f"f({handed('', 'v', MOST_BY)});\n", f"dcl bigint {names('v', MOST_BY)}; method f({handed('in_out bigint', 'p', MOST_BY)}); end;"))
 threaded("calls of a hash object with 128 of many variables, by 16 BY variables", lambda size: thread_by(size, "h.find();h.add();i.next();", f"dcl bigint {names('v', 800)}; {HASH_OF_128}"))
+threaded("calls of a hash object with 128 of many variables that each group clears, by 16 BY variables", lambda size: thread(
+    size, "h.find();h.add();", f"dcl bigint {names('v', 800)}; {HASH_OF_128}", reading=f"{READ_BYS} if first.b15 then do; h.clear(); x = 0; end;"))
 threaded("calls of the methods of 60 instances, by 16 BY variables", lambda size: filled(
     size, f"package p; dcl bigint n; method f(); n = n + 1; end; method g(); f(); end; endpackage; {THREAD} {OF_60} method run(); {READ_BYS} if x = 1 then do; ", lambda n: f"q{n % 60}.g();", THREAD_END))
 threaded("60 instances of a package of many variables", lambda size: (
@@ -312,6 +314,8 @@ source("outputs of many columns, each kept", lambda size: outputs(size, lambda n
 source("programs of many names", lambda size: programs(size, "dcl bigint a", lambda n: f" v{n}", "; method run(); end; enddata;\n"))
 source("programs that read what others made", made_tables)
 source("programs and thread programs that read 16 tables of 255 columns", readers_of_all, ALIKE)
+source("programs that read from a thread program of many columns of long names", lambda size: (
+    f"thread t; dcl bigint {names(LONG, max(2, MOST * size // SOURCE_LIMIT))}; method run(); end; endthread;" + READER.removeprefix(" endthread;") * 64))
 source("uses of the last of 960 columns", lambda size: filled(size, f"data _null_; dcl bigint a; method run(); set {SIXTEEN}; if a = 1 then do; ", "a=c15_59;", DATA_END), TABLES)
 source("hash objects of 128 variables", lambda size: filled(size, "", lambda n: (
     f"data _null_; {HASH_OF_128} {each_of('g', 30, 'dcl package hash {}([' + names('k', 64) + '], [' + names('d', 64) + ']);')} method run(); if k0 = 1 then h.find(); end; enddata;\n")))
