@@ -2,15 +2,14 @@
 """Works out anew what the cases of crates/ds2_cases leave in which a call of the store fails or is torn, or the log fails, and those of objects
 that are damaged at each byte, and compares it.
 
-`fault_cases.py` takes each such case for which there is one of the same block, words and files without a failing call, and tells from the
-answer of that one, by the rules alone, what has to be left; it prints each case whose answer is another one, and `N passed, M failed`.
-`fault_cases.py --print TITLE ..` prints, for cases without a failing call, one case for each of their calls that fails, for each write that
-is torn, and for each of these with a log that fails, and then their answers. Nothing is shared with the product.
+It takes each such case for which there is one of the same block, words and files without a failing call, and tells from the answer of that
+one, by the rules alone, what has to be left; it prints each case whose answer is another one, and `N passed, M failed`. How many bytes an
+object has that a command before has made is not told here: `play_cases.py` sees it. Nothing is shared with the product.
 """
 import sys
 
 from command_cases import read_cases
-from object_cases import Reader, answer as answer_of_object, object_file
+from object_cases import Reader, answer as answer_of_object
 
 MAGIC = b"DS2O"
 
@@ -183,82 +182,8 @@ def check(cases):
     return 1 if failed else 0
 
 
-# ---- further cases
-
-def lines_of(bytes):
-    """The lines that tell contents: `| TEXT`, and `+ TEXT` for what no line feed ends."""
-    text = bytes.decode()
-    body, feed, tail = text.rpartition("\n")
-    return [f"| {line}".rstrip() for line in (body.split("\n") if feed else [])] + ([f"+ {tail}"] if tail else [])
-
-
-def answer_lines(title, answer):
-    lines = [f"case {title}", f"status {answer['status']}", *[f"call {it}" for it in answer["calls"]]]
-    for part in ("log", *[it for it in answer if it.startswith("file ")]):
-        if part != "log" or answer[part]:
-            lines += [part, *lines_of(answer[part])]
-    return lines
-
-
-def variants(case, lengths):
-    """The faults of each call of a case: a name for each, and the lines that ask for it."""
-    for number, call in enumerate(case.calls, 1):
-        kind, name = call.split(" ", 1)
-        yield f"call {number} fails", [f"fail store {number}"]
-        if kind == "write":
-            length = lengths.get(name) or len(case.answer[f"file {name}"])
-            for keep in (0, 1, 3, length - 1, length, length + 1):
-                yield f"call {number} is torn behind {keep} bytes" if keep != 1 else f"call {number} is torn behind a byte", [f"tear store {number} {keep}"]
-
-
-def print_variants(cases, titles):
-    """Each title may have a short name of its job behind `=`, and lengths of files behind `,`: `TITLE=the bills,job.dso:300`."""
-    for word in titles:
-        title, _, rest = word.partition("=")
-        job, *given = rest.split(",")
-        lengths = {name: int(length) for name, length in (it.split(":") for it in given)}
-        case = next(it for it in cases if it.title == title)
-        for has_log in (True, False):
-            for name, asked in [*variants(case, lengths), *([] if has_log else [("all calls are made", [])])]:
-                named = f"{job[0].upper()}{job[1:]}: {name}" + ("" if has_log else ", and the log fails")
-                is_object = any(it.startswith("tear") and case.calls[numbers(it[10:])[0] - 1].endswith(".dso") and numbers(it[10:])[1] <= 3 for it in asked)
-                own = [*asked, *([] if has_log else ["fail log 1"]), *(["show objects"] if is_object else [])]
-                yield case, named, own
-
-
-def print_cases(cases, titles):
-    answers = []
-    for case, title, own in print_variants(cases, titles):
-        print("\n".join([f"case {title}", *case.own_lines, *own, ""]))
-        fails = [n for it in own if it.startswith("fail store") for n in numbers(it[11:])]
-        tears = dict(tuple(numbers(it[11:])) for it in own if it.startswith("tear"))
-        left = with_fault(clean_left(case), fails, tears, "fail log 1" not in own)
-        is_shown = "show objects" in own
-        files = {f"file {name}": (bytes if is_shown or not name.endswith(".dso") else b"") for name, bytes in left.files.items()}
-        answers.append("\n".join([*answer_lines(title, {"status": left.status, "calls": [" ".join(it) for it in left.calls], "log": b"".join(left.log), **files}), ""]))
-    print("---- answers")
-    print("\n".join(answers))
-
-
-def print_damaged(cases, title):
-    """Prints the answers of a case, which stands in `stdin` but not in `stdout`, over an object that is damaged at each byte."""
-    case = next(it for it in cases if it.title == title)
-    clean = {key(it): it for it in cases if not it.needs_failure() and not it.is_damaged() and it.line("show calls") is not None}
-    other = clean[key(case)]
-    print(f"case {title}")
-    for first, last, (status, calls, answer) in damaged_wanted(case, (other.status, other.calls, other.answer)):
-        lines = answer_lines("", {"status": status, "calls": calls, "log": answer.get("log", b""), **{part: it for part, it in answer.items() if part != "log"}})
-        print("\n".join([f"from {first} to {last}: {lines[1]}", *lines[2:]]))
-    print()
-
-
 def main():
-    cases = read_cases(most=1 << 40)
-    if sys.argv[1:2] == ["--damaged"]:
-        return print_damaged(cases, sys.argv[2])
-    if sys.argv[1:2] == ["--print"]:
-        return print_cases(cases, sys.argv[2:])
-    return check(cases)
+    return check(read_cases(most=1 << 40))
 
 
 sys.exit(main())

@@ -144,6 +144,7 @@ threaded("methods that each call the next one", lambda size: chain(size, THREAD,
 threaded("methods that each call the one before", lambda size: filled(
     size, f"{THREAD} method m(); x = 1; end; method m0(); m(); end;\n", lambda n: f"method m{n + 1}(); m{n}(); end;\n", lambda n: f"method run(); if x = 2 then m{n}(); end;" + READER))
 threaded("methods in a cycle", lambda size: chain(size, THREAD, "m{0}();", "x = 1; m0();", begun()))
+threaded("methods that call themselves", lambda size: filled(size, THREAD, lambda n: f"method m{n}(); x = x + 1; m{n}(); end;\n", begun()))
 threaded("methods that call the next two", lambda size: chain(size, THREAD, "m{0}(); m{1}();", "x = 1;", begun()))
 threaded("methods that call the next one and the first", lambda size: chain(size, THREAD, "m{0}(); m0();", "x = 1;", begun()))
 threaded("methods that call the next one in a loop", lambda size: chain(size, THREAD, "do while (x = 1); m{0}(); end;", "x = 1;", begun()))
