@@ -2,7 +2,7 @@
 use Rattle.std.specs.Prelude.{◌≡◌, ℕ, nat_eq, Bool, true, false, ◌&&◌, refl}
 use Rattle.std.proofs.Common.{ap, ◌∙◌}
 use Rattle.std.specs.Bool.{Decides}
-use Rattle.std.specs.Cmp.{IsEquivalence, decided, signed_Decides, unsigned_Decides}
+use Rattle.std.specs.Cmp.{signed_Decides, unsigned_Decides}
 use Rattle.std.specs.Cmp.Lexicographic.{bytes_decides}
 use Rattle.std.specs.Ordering.{int_eq}
 use Rattle.ds2_value.specs.Types.{same_ty}
@@ -69,7 +69,3 @@ key_decides a b = (
       ap (λ z. record { ty = z; value = a.value }) ((ty_decides a.ty b.ty).0 k.0) ∙ ap (λ z. record { ty = b.ty; value = z }) ((value_decides a.value b.value).0 k.1),
   λ h. hold_both (same_ty a.ty b.ty) (is_one_value a.value b.value) ((ty_decides a.ty b.ty).1 (ap (λ z. z.ty) h)) ((value_decides a.value b.value).1 (ap (λ z. z.value) h)),
 )
-
--- it is an equivalence
-pub keys_equiv : IsEquivalence is_one_key
-keys_equiv = decided is_one_key key_decides

@@ -1,2 +1,4 @@
 pub mod ConstantKeys
+pub mod ConstantNumbers
+pub mod KeyOrder
 pub mod UsedOnce

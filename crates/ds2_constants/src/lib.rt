@@ -3,7 +3,7 @@
 
 mod expressions;
 mod key;
-mod key_equality;
+mod key_order;
 mod statements;
 mod table;
 mod texts;

@@ -1,19 +1,23 @@
 //! The constants of a program's code.
-ghost use Rattle.std.specs.Prelude.{◌≡◌, [], map, IfOk, OnOk};
+ghost use Rattle.std.specs.Prelude.{◌≡◌, [], Some, map, IfOk, OnOk, OnErr};
+ghost use Rattle.std.specs.BTreeMap.{Updates, IsUnchanged};
 ghost use Rattle.ds2_program_code.specs.CodeConstants.{with_used_constant, constant_number, constant_part};
+ghost use Rattle.ds2_constants.specs.ConstantKeys.{used_of_key};
+ghost use Rattle.ds2_constants.specs.KeyOrder.{key_cmp};
 
 use crate::ConstantKey;
 use ds2_base::{List, OutOfMemory};
 use ds2_code::Constant;
 use ds2_value::{Ty, Value};
-use indexmap::IndexSet;
 use std::alloc::Global;
+use std::collections::BTreeMap;
 use std::marker::Model;
 
-/// Constants that are not null, each once, in the order in which they were added.
+/// Constants that are not null, each once, in the order in which they were added, with the number of each.
 #[derive(Drop)]
 pub struct ConstantTable {
-    keys: IndexSet<ConstantKey>,
+    keys: List<ConstantKey>,
+    numbers: BTreeMap<ConstantKey, usize>,
 }
 
 impl Model for ConstantTable {
@@ -23,7 +27,34 @@ impl Model for ConstantTable {
 
     ghost Value = { Items UsedConstant };
 
-    ghost view = { λ t. map used_of_key t.keys.keys };
+    ghost view = { λ t. map used_of_key t.keys };
+
+    ghost use Rattle.ds2_constants.specs.ConstantNumbers.{HaveConstantNumbers};
+
+    ghost invariant = { λ t. HaveConstantNumbers t.keys t.numbers };
+}
+
+// A constant as a key of its own.
+fn key_of(alloc: Global, value: &Value, ty: Ty) -> Result<ConstantKey, OutOfMemory>
+    ensures { IfOk result (λ key. used_of_key key ≡ record { value = value.now; ty = ty }) }
+{
+    Ok(ConstantKey {
+        ty,
+        value: value.copy(alloc)?,
+    })
+}
+
+// Keeps a number under a key. After a refusal all is as it was.
+fn give_number(
+    numbers: &mut BTreeMap<ConstantKey, usize>,
+    key: ConstantKey,
+    number: usize,
+) -> Result<(), OutOfMemory>
+    ensures updates { OnOk result (Updates key_cmp numbers.old numbers.new key (Some number)) }
+    ensures err { OnErr result (IsUnchanged numbers.old numbers.new) }
+{
+    numbers.insert(key, number)?;
+    Ok(())
 }
 
 impl ConstantTable {
@@ -32,7 +63,8 @@ impl ConstantTable {
         ensures { result ≡ [] }
     {
         ConstantTable {
-            keys: IndexSet::new(alloc),
+            keys: List::new(alloc),
+            numbers: BTreeMap::new(alloc),
         }
     }
 
@@ -43,19 +75,28 @@ impl ConstantTable {
         if value.is_null() {
             return Ok(());
         }
-        let key = ConstantKey {
-            ty,
-            value: value.copy(alloc)?,
-        };
-        self.keys.insert(key)?;
-        Ok(())
+        let key = key_of(alloc, value, ty)?;
+        let is_there = self.numbers.contains_key(&key);
+        if is_there {
+            return Ok(());
+        }
+        let number = self.keys.len();
+        let last = key_of(alloc, value, ty)?;
+        self.keys.push(last)?;
+        match give_number(&mut self.numbers, key, number) {
+            Ok(()) => Ok(()),
+            Err(stop) => {
+                self.keys.truncate(number);
+                Err(stop)
+            }
+        }
     }
 
     /// The number of a constant; 0 where it does not stand there.
     pub fn number(&self, key: &ConstantKey) -> usize
         ensures { result ≡ constant_number self.now key.now.value key.now.ty }
     {
-        self.keys.get_index_of(key).unwrap_or(0)
+        self.numbers.get(key).copied().unwrap_or(0)
     }
 
     /// The constants as code has them.

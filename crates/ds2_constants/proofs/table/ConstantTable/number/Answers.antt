@@ -1,5 +1,8 @@
+use Rattle.std.proofs.Common.{◌∙◌}
 use Rattle.ds2_constants.proofs.TableLemmas.{number_is}
 use Rattle.ds2_constants.proofs.table.ConstantTable.number.Goals as goal
 
 pub returns : goal.returns
-returns c = number_is _ c.args.self.now c.args.key.now c.get_index_of.result c.unwrap_or.result c.self.view_is c.get_index_of.ensures.index c.unwrap_or.ensures
+returns c =
+    number_is c.self.inside.keys c.self.inside.numbers c.args.self.now c.args.key.now c.copied.result c.unwrap_or.result c.self.view_is c.self.invariant (c.copied.ensures ∙ c.get.ensures.value)
+    c.unwrap_or.ensures
