@@ -6,7 +6,6 @@ use Rattle.std.specs.List.{list_all}
 use Rattle.std.specs.Option.{option_map_or}
 use Rattle.std.proofs.Math.Bool.{or-false}
 use Rattle.std.proofs.Math.Dec.{eqb-suc-zero, eqb-zero-suc, eqb-suc-suc}
-use Rattle.ds2_base.specs.Bytes.{Bytes}
 use Rattle.ds2_code.specs.ValidCode.{is_short, reference_allowed, read_short, hash_short, hash_table_short, IsValidChain, IsValidStaged}
 use Rattle.ds2_code.specs.declared.parts.ByPart.{ByPart}
 use Rattle.ds2_code.specs.declared.parts.HashPart.{HashPart}
@@ -17,7 +16,7 @@ use Rattle.ds2_code.specs.declared.parts.ReadingPart.{ReadingPart}
 use Rattle.ds2_code.specs.declared.parts.ReadingPart.TheVariants as reading
 use Rattle.ds2_code.specs.declared.parts.StagedParts.{StagedParts}
 use Rattle.ds2_code.specs.declared.parts.TableReference.{TableReference}
-use Rattle.ds2_object_words.specs.CodeParts.{reference_line, reference_spelled, read_spelled, hash_spelled}
+use Rattle.ds2_object_words.specs.CodeParts.{reference_spelled, read_spelled, hash_spelled}
 use Rattle.ds2_object_words.proofs.ListSteps.{first_ruled}
 use Rattle.ds2_object_words.proofs.PartLemmas.{both, and_true, some_is}
 use Rattle.ds2_object_programs.specs.ProgramRules.{program_spelled, reading_spelled}

@@ -1,6 +1,6 @@
 -- Names that differ, from the first to the last.
 use Rattle.std.proofs.Common.{◌≡◌, ℕ, suc, ◌+◌, ◌<◌, Bool, true, false, ◌&&◌, List, [], ◌∷◌, ◌++◌, length, get_or, take, drop, map, refl, sym, ap, ◌∙◌}
-use Rattle.std.specs.Prelude.{◌||◌, not, bytes_eq, cond}
+use Rattle.std.specs.Prelude.{◌||◌, not, bytes_eq}
 use Rattle.std.specs.List.{list_any}
 use Rattle.std.proofs.Math.Seq.{drop-cons}
 use Rattle.std.proofs.lemmas.Cmp.{nat_list_eq_equiv}
@@ -12,10 +12,6 @@ use Rattle.ds2_code.specs.ValidCode.{is_other_name, names_differ}
 -- a name is one of these
 abbrev pub stands_among : List ℕ → List (List ℕ) → Bool
 stands_among name names = list_any (λ other. bytes_eq other name) names
-
-pub cond_or : (b c : Bool) → cond b true c ≡ (b || c)
-cond_or true c = refl
-cond_or false c = refl
 
 or_swap : (a b c : Bool) → (a || (b || c)) ≡ (b || (a || c))
 or_swap true true c = refl
