@@ -1,5 +1,6 @@
 -- Methods of a program in order, and the one of a number.
-use Rattle.std.proofs.Common.{◌≡◌, ◌<◌, ℕ, ◌+◌, Bool, if◌then◌else◌, List, [], ◌∷◌, ◌++◌, length, map, drop, get_or, slice_get, Option, option_map, true, sym, ap, ◌∙◌, append_assoc, arith}
+use Rattle.std.proofs.Common.{◌≡◌, ◌<◌, ℕ, zero, suc, ◌+◌, Bool, if◌then◌else◌, List, [], ◌∷◌, ◌++◌, length, map, flat_map, drop, get_or, slice_get, Option, Some, None, option_map, true, sym, ap, ◌∙◌, append_assoc, arith, eq-eqb, ne_eqb}
+use Rattle.std.specs.List.{range_with_len}
 use Rattle.std.proofs.lemmas.List.{map-append}
 use Rattle.std.proofs.lemmas.Option.{slice_get-map}
 use Rattle.std.proofs.lemmas.List.FromFn.{map-range_with_len_more}
@@ -8,13 +9,13 @@ use Rattle.ds2_meaning.specs.declared.methods.Method.{Method}
 use Rattle.ds2_meaning.specs.declared.units.Instance.{Instance}
 use Rattle.ds2_meaning.specs.Location.{Home}
 use Rattle.ds2_meaning.specs.Method.{MethodTree}
-use Rattle.ds2_meaning.specs.ProgramTree.{instance_methods}
+use Rattle.ds2_meaning.specs.ProgramTree.{instance_methods, InstanceTree, UnitTree}
 use Rattle.ds2_meaning.specs.View.{instance_tree, typed_method}
 use Rattle.ds2_locality.specs.Deeds.{MethodAt}
 use Rattle.ds2_deeds.specs.declared.location.CodeHome.{CodeHome}
 use Rattle.ds2_deeds.specs.declared.methods.MethodName.{MethodName}
 use Rattle.ds2_deeds.specs.NamedLocations.{code_home}
-use Rattle.ds2_deeds.specs.NamedMethods.{method_of_name, methods_named, home_methods}
+use Rattle.ds2_deeds.specs.NamedMethods.{method_of_name, methods_named, home_methods, methods_in_order, number_among_methods, AreOwnFirst}
 use Rattle.ds2_deeds.proofs.DeedLemmas.{drop_next}
 
 -- the method of a number of the first instance of a name that is left
@@ -36,3 +37,24 @@ method_added now next before home n is so_far =
     let last : MethodAt = record { home = code_home home; number = n } in
     ap (λ l. methods_named l) is ∙ map-append method_of_name now ((record { home = home; number = n }) ∷ []) ∙ ap (λ l. l ++ last ∷ []) so_far
     ∙ append_assoc before (home_methods (code_home home) n) (last ∷ []) ∙ ap (λ l. before ++ l) (sym (one_more (code_home home) n))
+
+-- ---- a program's own methods
+
+-- the method of a number of the program itself
+abbrev own : ℕ → MethodAt
+own k = record { home = None; number = k }
+
+later_own : (from k count : ℕ) (rest : List MethodAt) → k < count → number_among_methods (map own (range_with_len from count) ++ rest) (own (from + k)) ≡ Some k
+later_own from k zero rest lt = absurd (omega (arith, lt))
+later_own from zero (suc count) rest lt =
+    ap (λ (b : Bool). if b then Some 0 else option_map (λ m. suc m) (number_among_methods (map own (range_with_len (from + 1) count) ++ rest) (own (from + zero)))) (eq-eqb (from + zero) from (omega arith))
+later_own from (suc k) (suc count) rest lt =
+    let others = map own (range_with_len (from + 1) count) ++ rest in
+    let there : from + suc k ≡ from + 1 + k = omega arith in
+    let less : k < count = omega (arith, lt) in
+    ap (λ (b : Bool). if b then Some 0 else option_map (λ m. suc m) (number_among_methods others (own (from + suc k)))) (ne_eqb (from + suc k) from (λ e. omega (arith, e)))
+    ∙ ap (λ j. option_map (λ m. suc m) (number_among_methods others (own j))) there ∙ ap (λ o. option_map (λ m. suc m) o) (later_own (from + 1) k count rest less)
+
+-- they stand first
+pub own_are_first : (p : UnitTree) → AreOwnFirst (length p.methods) (methods_in_order p)
+own_are_first p k lt = let here : k ≡ 0 + k = omega arith in ap (λ j. number_among_methods (methods_in_order p) (own j)) here ∙ later_own 0 k (length p.methods) (flat_map (λ (i : InstanceTree). home_methods (Some i.name) (length i.methods)) p.instances) lt

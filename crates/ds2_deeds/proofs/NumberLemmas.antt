@@ -5,6 +5,9 @@ use Rattle.std.specs.Prelude.{◌||◌, if◌then◌else◌, slice_get, unwrap_o
 use Rattle.ds2_meaning.specs.Location.{Location, is_same_location}
 use Rattle.ds2_placement.specs.PlacedProgram.{number_of_first, number_of_location}
 use Rattle.ds2_locality.proofs.Frame.{location_is}
+use Rattle.std.proofs.lemmas.Option.{slice_get-map}
+use Rattle.ds2_deeds.specs.declared.location.LocationName.{LocationName}
+use Rattle.ds2_deeds.specs.NamedLocations.{location_named, locations_named, AreDistinct}
 use Rattle.ds2_deeds.proofs.DeedLemmas.{drop_next}
 
 -- a number among the items from a place on
@@ -64,3 +67,9 @@ numbered_next at x ls false n same later e = of_later (number_of_location ls at)
 pub numbered : (ls : List Location) (at : Location) (n : ℕ) → number_of_location ls at ≡ Some n → slice_get ls n ≡ Some at
 numbered [] at n e = absurd cc
 numbered (x ∷ ls) at n e = numbered_next at x ls (is_same_location at x) n refl (λ k f. numbered ls at k f) e
+
+-- a location that is found at a number has it, where each location stands once
+pub number_at : (names : List LocationName) (number : ℕ) (other : LocationName) (at : Location) → AreDistinct (locations_named names) → slice_get names number ≡ Some other → is_same_location at (location_named other) ≡ true
+    → Some number ≡ number_of_location (locations_named names) at
+number_at names number other at distinct here same =
+    sym (distinct number at (slice_get-map location_named names number ∙ ap (λ o. option_map location_named o) here ∙ ap (λ l. Some l) (sym (location_is at (location_named other) same))))

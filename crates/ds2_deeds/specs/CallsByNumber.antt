@@ -6,13 +6,17 @@ use Rattle.ds2_meaning.specs.ProgramTree.{UnitTree}
 use Rattle.ds2_locality.specs.Deeds.{MethodAt, Deed, method_deeds, is_among_methods, may_be_called, with_callees}
 use Rattle.ds2_deeds.specs.declared.deed.NumberedDeed.{NumberedDeed}
 use Rattle.ds2_deeds.specs.NamedLocations.{told_once, AreDistinct}
-use Rattle.ds2_deeds.specs.NamedMethods.{number_among_methods, methods_in_order}
+use Rattle.ds2_deeds.specs.NamedMethods.{number_among_methods, methods_in_order, AreOwnFirst}
 use Rattle.ds2_deeds.specs.NumberedCalls.{is_one_of_numbers, may_call, with_called}
 use Rattle.ds2_deeds.specs.NumberedDeeds.{ProgramNumbers, numbered_deeds}
 
 -- locations that are told once have the numbers of their places
 abbrev pub OnceToldAreDistinct : Type 0
 OnceToldAreDistinct = (ls : List Location) → AreDistinct (told_once ls)
+
+-- a program's own methods stand first
+abbrev pub OwnMethodsAreFirst : Type 0
+OwnMethodsAreFirst = (p : UnitTree) → AreOwnFirst (length p.methods) (methods_in_order p)
 
 -- these locations, and the methods of a program in their order
 abbrev pub program_numbers : UnitTree → List Location → ProgramNumbers

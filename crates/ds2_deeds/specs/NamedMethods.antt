@@ -1,5 +1,5 @@
 -- Methods as the code of the checker names them, and their numbers.
-use Rattle.std.specs.Prelude.{ℕ, List, ◌++◌, length, map, flat_map, Option, None, Some}
+use Rattle.std.specs.Prelude.{◌≡◌, ◌<◌, ℕ, List, ◌++◌, length, map, flat_map, Option, None, Some}
 use Rattle.std.specs.List.{range_with_len}
 use Rattle.ds2_meaning.specs.Location.{Home}
 use Rattle.ds2_meaning.specs.ProgramTree.{InstanceTree, UnitTree}
@@ -27,3 +27,7 @@ home_methods home count = map (λ n. record { home = home; number = n }) (range_
 -- the methods of a program, in order: its own, and then those of its instances
 abbrev pub methods_in_order : UnitTree → List MethodAt
 methods_in_order p = home_methods None (length p.methods) ++ flat_map (λ (i : InstanceTree). home_methods (Some i.name) (length i.methods)) p.instances
+
+-- so many methods of the program itself have the numbers that they have there
+abbrev pub AreOwnFirst : ℕ → List MethodAt → Type 0
+AreOwnFirst own methods = (k : ℕ) → k < own → number_among_methods methods (record { home = None; number = k }) ≡ Some k

@@ -7,10 +7,11 @@ ghost use Rattle.ds2_deeds.specs.CodeTrees.{nameless_tree, scope_of};
 ghost use Rattle.ds2_deeds.specs.NamedMethods.{method_of_name, methods_named};
 ghost use Rattle.ds2_deeds.specs.NumberedDeeds.{numbers_of, numbered_deeds, with_deeds};
 
-use crate::deed::{NumberedDeed, Numbers, add_call};
+use crate::deed::{NumberedDeed, add_call};
 use crate::expression_deeds::add_arguments_deeds;
 use crate::location::CodeHome;
 use crate::methods::{MethodName, method_at};
+use crate::numbers::Numbers;
 use crate::scope::{BodyScope, method_scope, system_scope};
 use crate::statement_deeds::add_body_deeds;
 use ds2_base::{List, OutOfMemory};

@@ -5,8 +5,9 @@ ghost use Rattle.ds2_deeds.specs.NamedLocations.{code_home, location_named};
 ghost use Rattle.ds2_deeds.specs.NamedMethods.{method_of_name};
 ghost use Rattle.ds2_deeds.specs.NumberedDeeds.{ProgramNumbers, numbers_of, with_deeds};
 
-use crate::location::{CodeHome, LocationName, global_location, number_of};
-use crate::methods::{MethodName, number_of_method};
+use crate::location::{CodeHome, LocationName, global_location};
+use crate::methods::MethodName;
+use crate::numbers::{Numbers, number_of, number_of_method};
 use ds2_base::{List, OutOfMemory, Place};
 use ds2_meaning::{HashVariable, Reference};
 
@@ -24,13 +25,6 @@ pub enum NumberedDeed {
     Write(Place),
 }
 
-/// The locations and the methods of a program, in the order of their numbers.
-#[derive(Clone, Copy)]
-pub struct Numbers<'p> {
-    pub locations: &'p [LocationName<'p>],
-    pub methods: &'p [MethodName<'p>],
-}
-
 /// A variable is mentioned.
 #[tactic(auto, unfolding(crate::specs::NumberedDeeds::with_deeds))]
 pub fn add_mention(
@@ -40,7 +34,7 @@ pub fn add_mention(
 ) -> Result<(), OutOfMemory>
     ensures { OnOk result (deeds.new ≡ with_deeds (numbers_of numbers.entry) (Mention (location_named at.entry) ∷ []) deeds.old) }
 {
-    match number_of(numbers.locations, at) {
+    match number_of(numbers, at) {
         None => Ok(()),
         Some(number) => deeds.push(NumberedDeed::Mention(number)),
     }
@@ -55,7 +49,7 @@ pub fn add_object(
 ) -> Result<(), OutOfMemory>
     ensures { OnOk result (deeds.new ≡ with_deeds (numbers_of numbers.entry) (MentionObject (location_named at.entry) ∷ []) deeds.old) }
 {
-    match number_of(numbers.locations, at) {
+    match number_of(numbers, at) {
         None => Ok(()),
         Some(number) => deeds.push(NumberedDeed::Mention(number)),
     }
@@ -70,7 +64,7 @@ pub fn add_change(
 ) -> Result<(), OutOfMemory>
     ensures { OnOk result (deeds.new ≡ with_deeds (numbers_of numbers.entry) (Change (location_named at.entry) ∷ []) deeds.old) }
 {
-    match number_of(numbers.locations, at) {
+    match number_of(numbers, at) {
         None => Ok(()),
         Some(number) => deeds.push(NumberedDeed::Change(number)),
     }
@@ -85,7 +79,7 @@ pub fn add_call(
 ) -> Result<(), OutOfMemory>
     ensures { OnOk result (deeds.new ≡ with_deeds (numbers_of numbers.entry) (CallOf (method_of_name method.entry) ∷ []) deeds.old) }
 {
-    match number_of_method(numbers.methods, method) {
+    match number_of_method(numbers, method) {
         None => Ok(()),
         Some(number) => deeds.push(NumberedDeed::Call(number)),
     }

@@ -6,8 +6,9 @@ ghost use Rattle.ds2_meaning.specs.View.{in_a_row, all_expressions, typed_expres
 ghost use Rattle.ds2_deeds.specs.CodeTrees.{scope_of};
 ghost use Rattle.ds2_deeds.specs.NumberedDeeds.{numbers_of, with_deeds};
 
-use crate::deed::{NumberedDeed, Numbers, add_call, add_set, add_variable};
+use crate::deed::{NumberedDeed, add_call, add_set, add_variable};
 use crate::methods::{MethodName, called_home};
+use crate::numbers::Numbers;
 use crate::object_deeds::{add_hash_call, add_iterator_call};
 use crate::scope::BodyScope;
 use ds2_base::{List, OutOfMemory};

@@ -157,8 +157,8 @@ fn is_one_global(a: GlobalName<'_>, b: GlobalName<'_>) -> bool
     }
 }
 
-// Whether two locations are one.
-fn is_one_location(a: LocationName<'_>, b: LocationName<'_>) -> bool
+/// Whether two locations are one.
+pub(crate) fn is_one_location(a: LocationName<'_>, b: LocationName<'_>) -> bool
     ensures { result ≡ is_same_location (location_named a.entry) (location_named b.entry) }
 {
     is_one_home(a.home, b.home) && is_one_global(a.global, b.global)
@@ -184,8 +184,8 @@ pub fn named_location<'p>(home: CodeHome<'p>, name: &'p Name) -> LocationName<'p
     }
 }
 
-/// The number of a location among locations in order, where it is one of them.
-pub fn number_of(locations: &[LocationName<'_>], at: LocationName<'_>) -> Option<usize>
+/// The number of a location among locations in order, where it is one of them, by a walk over all.
+pub(crate) fn number_by_walk(locations: &[LocationName<'_>], at: LocationName<'_>) -> Option<usize>
     ensures { result ≡ number_of_location (locations_named locations.now) (location_named at.entry) }
 {
     let mut number: usize = 0;

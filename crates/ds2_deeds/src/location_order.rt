@@ -72,7 +72,8 @@ fn compare_globals(a: GlobalName<'_>, b: GlobalName<'_>) -> Ordering
     sorts.then(names)
 }
 
-fn compare(a: &LocationName<'_>, b: &LocationName<'_>) -> Ordering
+/// The order of two locations.
+pub(crate) fn compare(a: &LocationName<'_>, b: &LocationName<'_>) -> Ordering
     ensures { result ≡ named_cmp a.now b.now }
 {
     let homes = compare_homes(a.home, b.home);

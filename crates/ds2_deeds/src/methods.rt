@@ -28,8 +28,11 @@ fn is_one_method(a: MethodName<'_>, b: MethodName<'_>) -> bool
     is_one_home(a.home, b.home) && a.number == b.number
 }
 
-/// The number of a method among methods in order, where it is one of them.
-pub fn number_of_method(methods: &[MethodName<'_>], method: MethodName<'_>) -> Option<usize>
+/// The number of a method among methods in order, where it is one of them, by a walk over all.
+pub(crate) fn method_number_by_walk(
+    methods: &[MethodName<'_>],
+    method: MethodName<'_>,
+) -> Option<usize>
     ensures { result ≡ number_among_methods (methods_named methods.now) (method_of_name method.entry) }
 {
     let mut number: usize = 0;

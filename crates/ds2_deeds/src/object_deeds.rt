@@ -9,10 +9,9 @@ ghost use Rattle.ds2_deeds.specs.CodeTrees.{scope_of};
 ghost use Rattle.ds2_deeds.specs.NamedLocations.{code_home};
 ghost use Rattle.ds2_deeds.specs.NumberedDeeds.{numbers_of, with_deeds};
 
-use crate::deed::{
-    NumberedDeed, Numbers, add_change, add_changes, add_mention, add_mentions, add_object,
-};
+use crate::deed::{NumberedDeed, add_change, add_changes, add_mention, add_mentions, add_object};
 use crate::location::{CodeHome, named_location};
+use crate::numbers::Numbers;
 use crate::scope::{BodyScope, find_hash, find_iterator, find_output};
 use ds2_base::{List, Name, OutOfMemory};
 use ds2_meaning::{DeclaredHash, DeclaredIterator, OutputColumn};

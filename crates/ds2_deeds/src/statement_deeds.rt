@@ -9,9 +9,10 @@ ghost use Rattle.ds2_deeds.specs.ElseParts.{ElsePart, else_deeds as deeds_of_els
 ghost use Rattle.ds2_deeds.specs.CodeTrees.{scope_of};
 ghost use Rattle.ds2_deeds.specs.NumberedDeeds.{numbers_of, with_deeds};
 
-use crate::deed::{NumberedDeed, Numbers, add_change, add_set, add_write};
+use crate::deed::{NumberedDeed, add_change, add_set, add_write};
 use crate::expression_deeds::{add_call_deeds, add_expression_deeds, add_expressions_deeds};
 use crate::location::{CodeHome, GlobalName, LocationName};
+use crate::numbers::Numbers;
 use crate::object_deeds::add_outputs;
 use crate::scope::BodyScope;
 use ds2_base::{List, Name, OutOfMemory};

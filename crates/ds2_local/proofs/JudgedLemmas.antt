@@ -5,18 +5,20 @@ use Rattle.ds2_value.specs.declared.fault.TheConstants.{CALL_DEPTH}
 use Rattle.ds2_meaning.specs.declared.globals.Variable.{Variable}
 use Rattle.ds2_meaning.specs.declared.units.Program.{Program}
 use Rattle.ds2_meaning.specs.declared.units.TypedThread.{TypedThread, out-TypedThread}
-use Rattle.ds2_meaning.specs.Location.{Home}
+use Rattle.ds2_meaning.specs.Location.{Home, Location}
 use Rattle.ds2_meaning.specs.ProgramTree.{UnitTree, reader_of}
-use Rattle.ds2_meaning.specs.View.{typed_thread_program, unit_tree}
+use Rattle.ds2_meaning.specs.View.{typed_method, typed_thread_program, unit_tree}
 use Rattle.ds2_layout.specs.declared.slot.LayoutSlot.{LayoutSlot}
 use Rattle.ds2_layout.specs.Layout.{program_slots, location_of_slot}
 use Rattle.ds2_layout.proofs.ReadingThread.{reader_of_thread}
 use Rattle.ds2_locality.specs.Deeds.{MethodAt, method_deeds, with_callees}
 use Rattle.ds2_locality.specs.Verdict.{JudgedThread, locations_in_order, objects_in_order}
-use Rattle.ds2_deeds.specs.CallsByNumber.{OnceToldAreDistinct, CalleesByNumber, ReachedByNumber, program_numbers, all_by_number, rounds_of_calls}
+use Rattle.ds2_deeds.specs.CallsByNumber.{OnceToldAreDistinct, OwnMethodsAreFirst, CalleesByNumber, ReachedByNumber, program_numbers, all_by_number, rounds_of_calls}
 use Rattle.ds2_deeds.specs.CodeTrees.{nameless_tree}
+use Rattle.ds2_deeds.specs.declared.location.LocationName.{LocationName}
+use Rattle.ds2_deeds.specs.declared.methods.MethodName.{MethodName}
 use Rattle.ds2_deeds.specs.NamedLocations.{locations_named, told_once, AreDistinct}
-use Rattle.ds2_deeds.specs.NamedMethods.{methods_named, methods_in_order, number_among_methods}
+use Rattle.ds2_deeds.specs.NamedMethods.{methods_named, methods_in_order, number_among_methods, AreOwnFirst}
 use Rattle.ds2_deeds.specs.NumberedCalls.{is_one_of_numbers, may_call, with_called}
 use Rattle.ds2_deeds.specs.NumberedDeeds.{ProgramNumbers, numbers_of, numbered_deeds}
 use Rattle.ds2_local.specs.declared.judged.JudgedBodies.{JudgedBodies}
@@ -87,3 +89,14 @@ numbered_thread names t n slots laid locations methods = record {
       ∙ ap (λ (p : UnitTree). told_once (map location_of_slot (program_slots (reader_of (typed_thread_program t))) ++ objects_in_order names p)) (sym (judged_program names t));
   methods = methods ∙ ap (λ (p : UnitTree). methods_in_order p) (sym (judged_program names t));
 }
+
+-- locations that are told once have the numbers of their places
+pub told_distinct : OnceToldAreDistinct → (names : List LocationName) (told : List Location) → locations_named names ≡ told_once told → AreDistinct (locations_named names)
+told_distinct once names told is = subst AreDistinct (sym is) (once told)
+
+-- so many methods of a program stand first where they are all its own
+pub own_first : OwnMethodsAreFirst → (p : Program) (own : ℕ) (methods : List MethodName) → own ≡ length p.methods → methods_named methods ≡ methods_in_order (nameless_tree p)
+    → AreOwnFirst own (methods_named methods)
+own_first law p own methods count named =
+    subst (λ (ms : List MethodAt). AreOwnFirst own ms) (sym named)
+    (subst (λ (k : ℕ). AreOwnFirst k (methods_in_order (nameless_tree p))) (length-map p.methods typed_method ∙ sym count) (law (nameless_tree p)))

@@ -26,7 +26,7 @@ use crate::runs::{cells, failing_at_grain, record_later_loads};
 use ds2_base::{Name, OutOfMemory, Place};
 use ds2_deeds::{
     CodeHome, GlobalName, LocationName, NumberedDeed, Numbers, all_method_deeds, init_deeds,
-    locations_in_order, methods_in_order, with_called,
+    locations_in_order, methods_in_order, sorted_numbers, with_called,
 };
 use ds2_layout::lay_out_thread;
 use ds2_locality::{Reason, Verdict};
@@ -260,13 +260,18 @@ pub fn judge(alloc: Global, thread: &TypedThread, names: &[Name]) -> Result<Verd
 {
     ds2_locality::laws::all_objects_are_told();
     ds2_locality::laws::local_is_independent();
+    ds2_deeds::laws::once_told_are_distinct();
+    ds2_deeds::laws::own_methods_are_first();
     let layout = lay_out_thread(alloc, thread)?;
     let program = &thread.program;
     let locations = locations_in_order(alloc, layout.slots.as_slice(), program, names)?;
     let methods = methods_in_order(alloc, program)?;
+    let sorted = sorted_numbers(alloc, locations.as_slice())?;
     let numbers = Numbers {
         locations: locations.as_slice(),
+        sorted: sorted.as_slice(),
         methods: methods.as_slice(),
+        own: program.methods.len(),
     };
     verdict_by_numbers(alloc, program, numbers)
 }

@@ -28,7 +28,7 @@ pub fn read_at(
 ) -> Result<(), OutOfMemory>
     ensures { OnOk result (GoesOnBy scope.now walk.old walk.new (λ s. read_location place (location_named at.entry))) }
 {
-    match number_of(scope.numbers.locations, at) {
+    match number_of(scope.numbers, at) {
         None => Ok(()),
         Some(number) => walk.read(number, place),
     }
@@ -38,7 +38,7 @@ pub fn read_at(
 pub fn clean_at(scope: &RecordScope<'_>, walk: &mut RecordedWalk, at: LocationName<'_>)
     ensures { GoesOnBy scope.now walk.old walk.new (λ s d. GoesOn (all_cleaned (location_named at.entry ∷ []) d)) }
 {
-    match number_of(scope.numbers.locations, at) {
+    match number_of(scope.numbers, at) {
         None => {}
         Some(number) => walk.clean(number),
     }
@@ -304,7 +304,7 @@ pub fn walk_method_call(
 ) -> Result<(), OutOfMemory>
     ensures { OnOk result (GoesOnBy scope.now walk.old walk.new (λ s. s.calls (method_of_name method.entry) place)) }
 {
-    match number_of_method(scope.numbers.methods, method) {
+    match number_of_method(scope.numbers, method) {
         None => Ok(()),
         Some(number) => match scope.effects.get(number) {
             None => Ok(()),

@@ -2,7 +2,7 @@ use Rattle.std.proofs.Common.{◌≡◌, map, drop}
 use Rattle.ds2_meaning.specs.Location.{is_same_location}
 use Rattle.ds2_deeds.specs.NamedLocations.{location_named}
 use Rattle.ds2_deeds.proofs.NumberLemmas.{number_from}
-use Rattle.ds2_deeds.proofs.location.number_of.Given as goal
+use Rattle.ds2_deeds.proofs.location.number_by_walk.Given as goal
 
 abbrev pub invariant-locations : goal.invariant-locations
 invariant-locations l =

@@ -4,7 +4,7 @@ use Rattle.ds2_placement.specs.PlacedProgram.{number_of_first}
 use Rattle.ds2_locality.specs.Deeds.{is_same_method}
 use Rattle.ds2_deeds.specs.NamedMethods.{method_of_name}
 use Rattle.ds2_deeds.proofs.NumberLemmas.{from_first, number_here, number_later}
-use Rattle.ds2_deeds.proofs.methods.number_of_method.Goals as goal
+use Rattle.ds2_deeds.proofs.methods.method_number_by_walk.Goals as goal
 
 pub returns-then-is_one_method : goal.returns-then-is_one_method
 returns-then-is_one_method c =

@@ -4,7 +4,7 @@ use Rattle.ds2_placement.specs.PlacedProgram.{number_of_first}
 use Rattle.ds2_meaning.specs.Location.{is_same_location}
 use Rattle.ds2_deeds.specs.NamedLocations.{location_named}
 use Rattle.ds2_deeds.proofs.NumberLemmas.{from_first, number_here, number_later}
-use Rattle.ds2_deeds.proofs.location.number_of.Goals as goal
+use Rattle.ds2_deeds.proofs.location.number_by_walk.Goals as goal
 
 pub returns-then-is_one_location : goal.returns-then-is_one_location
 returns-then-is_one_location c =

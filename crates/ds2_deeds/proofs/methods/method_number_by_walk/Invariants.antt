@@ -2,7 +2,7 @@ use Rattle.std.proofs.Common.{◌≡◌, map, drop}
 use Rattle.ds2_locality.specs.Deeds.{is_same_method}
 use Rattle.ds2_deeds.specs.NamedMethods.{method_of_name}
 use Rattle.ds2_deeds.proofs.NumberLemmas.{number_from}
-use Rattle.ds2_deeds.proofs.methods.number_of_method.Given as goal
+use Rattle.ds2_deeds.proofs.methods.method_number_by_walk.Given as goal
 
 abbrev pub invariant-methods : goal.invariant-methods
 invariant-methods l =
