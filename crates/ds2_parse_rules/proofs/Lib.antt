@@ -2,3 +2,4 @@ pub mod GrammarTokenLaws
 pub mod PlainLaws
 pub mod RuleSteps
 pub mod FrontSteps
+pub mod PartSteps

@@ -116,6 +116,15 @@ module _ {A C : Type 0} (f : A → C) (is : Token → Bool) (ts : List Token) wh
 pub exit : {X A : Type 0} (end : Place) (f : X → A × List Token) (r : Result X (Stop (Refusal ParseKind))) (e : Stop (Refusal ParseKind)) (o : ParserOutcome A) → IsErrAnd r (λ y. y ≡ e) → Fails end e o → Gives end f r o
 exit end f r e o is h = let got = err_from_is_err_and r is in gives_err end f r got.0 e o got.1 got.2 h
 
+-- ---- a rule that is read by one call
+
+pub read_whole : {A C : Type 0} (f : A → C) (p : Parser A) (ts : List Token) (x : A) (r : List Token) → p ts ≡ Read x r → to f p ts ≡ Read (f x) r
+read_whole {A} f p ts x r h = ap (λ (o : ParserOutcome A). and_then o (λ a. pure (f a))) h
+
+pub read_stops : {X A C : Type 0} (end : Place) (v : X → C × List Token) (r : Result X (Stop (Refusal ParseKind))) (e : Stop (Refusal ParseKind)) (f : A → C) (p : Parser A) (ts : List Token)
+    → IsErrAnd r (λ y. y ≡ e) → Fails end e (p ts) → Gives end v r (to f p ts)
+read_stops end v r e f p ts is h = exit end v r e (to f p ts) is (fails_on end e (p ts) (λ a. pure (f a)) h)
+
 -- ---- a loop: `whole` is what comes of all, and g makes it of the items that are still to be read
 module _ {A B : Type 0} (is : Token → Bool) (p : Parser A) (whole : ParserOutcome B) (g : List A → B) (rest : List Token) where
   pub loop_step : (j : ℕ) → whole ≡ and_then (many_of j is p rest) (λ l. pure (g l)) → length rest < j → when is (first rest) ≡ true

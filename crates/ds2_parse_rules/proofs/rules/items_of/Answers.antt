@@ -1,0 +1,11 @@
+use Rattle.std.proofs.Common.{sym, subst}
+use Rattle.ds2_grammar.specs.Parsers.{many_of}
+use Rattle.ds2_grammar.specs.Promise.{Gives}
+use Rattle.ds2_parse_rules.proofs.PartSteps.{nothing_found}
+use Rattle.ds2_parse_rules.proofs.rules.items_of.Goals as goal
+
+pub returns-clause-exact : goal.returns-clause-exact
+returns-clause-exact g c m lt =
+    subst (Gives c.args.end (λ x. (x.0, x.1.now)) c.further_of.result)
+    (sym (nothing_found (many_of m (g.F.Front.test c.args.begins.now) (g.R.Rule.grammar c.args.item.now m)) c.args.tokens.now c.new-found.result c.new-found.ensures))
+    (c.further_of.ensures.exact m lt)
