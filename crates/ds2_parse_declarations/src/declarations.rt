@@ -1,17 +1,16 @@
 //! The parser of declarations.
-ghost use Rattle.std.specs.Prelude.{ℕ, ◌<◌, ◌≤◌, ◌++◌, codes, length, IfOk};
-ghost use Rattle.ds2_grammar.specs.Parsers.{One, Two, to, seq, many_of, optional};
+ghost use Rattle.std.specs.Prelude.{ℕ, ◌<◌, ◌≤◌, codes, length, IfOk};
+ghost use Rattle.ds2_grammar.specs.Parsers.{One, Two, to, seq};
 ghost use Rattle.ds2_grammar.specs.Promise.{Gives};
-ghost use Rattle.ds2_parse_rules.specs.GrammarTokens.{word_rule, is_open_mark, is_comma_mark, comma_list};
+ghost use Rattle.ds2_parse_rules.specs.GrammarTokens.{word_rule, comma_list};
 ghost use Rattle.ds2_parse_rules.specs.GlobalGrammar as grammar;
-ghost use Rattle.ds2_parse_declarations.specs.UnitParts.{behind_comma, hash_parts_rule, read_hash_parts};
+ghost use Rattle.ds2_parse_declarations.specs.UnitParts.{behind_comma};
 
 use crate::types::declared_variables;
 use ds2_base::{List, Place};
 use ds2_parse_rules::front::{Parsed, mark, word};
-use ds2_parse_rules::front_words::{
-    TokenClass, at, begins_with, optional_mark, starts_with, token,
-};
+use ds2_parse_rules::front_words::{TokenClass, at, begins_with, starts_with, token};
+use ds2_parse_rules::rules::{Mark, OptionalThen, Rule, Then, ThenOptional, Word, further_of};
 use ds2_token::Token;
 use ds2_tree::{Bracketed, BracketedName, Constant, Constants, Declaration, HashSize, HashTable};
 use std::alloc::Global;
@@ -47,33 +46,18 @@ fn constant(
     Ok((constant, rest))
 }
 
-// A constant behind its comma.
-fn further_constant(alloc: Global, tokens: &[Token], end: Place) -> Parsed<'_, Constant>
-    ensures exact { Gives end (λ x. (x.0, x.1.now)) result (behind_comma grammar.constant_behind grammar.constant_rule tokens.now) }
-    ensures shorter { IfOk result (λ r. length r.1.now < length tokens.now) }
-{
-    let (comma, rest) = mark(tokens, end, ",")?;
-    constant(alloc, Some(comma), rest, end)
-}
+/// A constant behind its comma.
+pub struct FurtherConstantRule;
 
-// Further constants, after those that were found.
-fn further_constants(
-    alloc: Global,
-    found: List<Constant>,
-    tokens: &[Token],
-    end: Place,
-) -> Parsed<'_, List<Constant>>
-    ensures exact { (m : ℕ) → length tokens.now < m → Gives end (λ x. (x.0, x.1.now)) result (to (λ l. found ++ l) (many_of m is_comma_mark (behind_comma grammar.constant_behind grammar.constant_rule)) tokens.now) }
-    ensures shorter { IfOk result (λ r. length r.1.now ≤ length tokens.now) }
-{
-    let mut found = found;
-    let mut rest = tokens;
-    while begins_with(rest, ",") {
-        let (constant, after) = further_constant(alloc, rest, end)?;
-        found.push(constant)?;
-        rest = after;
+impl Rule for FurtherConstantRule {
+    type Tree = Constant;
+
+    ghost grammar = { λ s m. behind_comma grammar.constant_behind grammar.constant_rule };
+
+    fn read<'t>(&self, alloc: Global, tokens: &'t [Token], end: Place) -> Parsed<'t, Constant> {
+        let (comma, rest) = mark(tokens, end, ",")?;
+        constant(alloc, Some(comma), rest, end)
     }
-    Ok((found, rest))
 }
 
 // [ const { "," const } ]
@@ -85,163 +69,136 @@ fn constant_list(alloc: Global, tokens: &[Token], end: Place) -> Parsed<'_, List
     if at(tokens, TokenClass::Constant) {
         let (first, rest) = constant(alloc, None, tokens, end)?;
         found.push(first)?;
-        return further_constants(alloc, found, rest, end);
+        return further_of(alloc, &Mark(","), &FurtherConstantRule, found, rest, end);
     }
     Ok((found, tokens))
 }
 
-// "(" [ const { "," const } ] ")"
-fn constants(alloc: Global, tokens: &[Token], end: Place) -> Parsed<'_, Constants>
-    ensures exact { (m : ℕ) → length tokens.now < m → Gives end (λ x. (x.0, x.1.now)) result (grammar.constants_rule m tokens.now) }
-    ensures shorter { IfOk result (λ r. length r.1.now < length tokens.now) }
-{
-    let (opening, rest) = mark(tokens, end, "(")?;
-    let (list, rest) = constant_list(alloc, rest, end)?;
-    let (closing, rest) = mark(rest, end, ")")?;
-    let constants = Constants {
-        opening,
-        list,
-        closing,
-    };
-    Ok((constants, rest))
-}
+/// "(" [ const { "," const } ] ")"
+pub struct ConstantsRule;
 
-// Constants, where a parenthesis is at the front.
-fn optional_constants(alloc: Global, tokens: &[Token], end: Place) -> Parsed<'_, Option<Constants>>
-    ensures exact { (m : ℕ) → length tokens.now < m → Gives end (λ x. (x.0, x.1.now)) result (optional is_open_mark (grammar.constants_rule m) tokens.now) }
-    ensures shorter { IfOk result (λ r. length r.1.now ≤ length tokens.now) }
-{
-    if begins_with(tokens, "(") {
-        let (constants, rest) = constants(alloc, tokens, end)?;
-        return Ok((Some(constants), rest));
+impl Rule for ConstantsRule {
+    type Tree = Constants;
+
+    ghost grammar = { λ s. grammar.constants_rule };
+
+    fn read<'t>(&self, alloc: Global, tokens: &'t [Token], end: Place) -> Parsed<'t, Constants> {
+        let (opening, rest) = mark(tokens, end, "(")?;
+        let (list, rest) = constant_list(alloc, rest, end)?;
+        let (closing, rest) = mark(rest, end, ")")?;
+        let constants = Constants {
+            opening,
+            list,
+            closing,
+        };
+        Ok((constants, rest))
     }
-    Ok((None, tokens))
 }
 
 // ---- names in brackets
 
-// [","] name
-fn bracketed_name(alloc: Global, tokens: &[Token], end: Place) -> Parsed<'_, BracketedName>
-    ensures exact { Gives end (λ x. (x.0, x.1.now)) result (grammar.bracketed_name_rule tokens.now) }
-    ensures shorter { IfOk result (λ r. length r.1.now < length tokens.now) }
-{
-    let (comma, rest) = optional_mark(tokens, end, ",")?;
-    let (name, rest) = token(alloc, rest, end, TokenClass::Name)?;
-    Ok((BracketedName { comma, name }, rest))
-}
+/// [","] name
+pub struct BracketedNameRule;
 
-// Further names, after those that were found.
-fn further_bracketed_names(
-    alloc: Global,
-    found: List<BracketedName>,
-    tokens: &[Token],
-    end: Place,
-) -> Parsed<'_, List<BracketedName>>
-    ensures exact { (m : ℕ) → length tokens.now < m → Gives end (λ x. (x.0, x.1.now)) result (to (λ l. found ++ l) (many_of m grammar.begins_bracketed_name grammar.bracketed_name_rule) tokens.now) }
-    ensures shorter { IfOk result (λ r. length r.1.now ≤ length tokens.now) }
-{
-    let mut found = found;
-    let mut rest = tokens;
-    while at(rest, TokenClass::BracketedName) {
-        let (name, after) = bracketed_name(alloc, rest, end)?;
-        found.push(name)?;
-        rest = after;
+impl Rule for BracketedNameRule {
+    type Tree = BracketedName;
+
+    ghost grammar = { λ s m. grammar.bracketed_name_rule };
+
+    fn read<'t>(
+        &self,
+        alloc: Global,
+        tokens: &'t [Token],
+        end: Place,
+    ) -> Parsed<'t, BracketedName> {
+        let rule = OptionalThen(Mark(","), Mark(","), TokenClass::Name);
+        let (parts, rest) = rule.read(alloc, tokens, end)?;
+        let (comma, name) = parts;
+        Ok((BracketedName { comma, name }, rest))
     }
-    Ok((found, rest))
 }
 
-// name { [","] name }
-fn bracketed_names(alloc: Global, tokens: &[Token], end: Place) -> Parsed<'_, List<BracketedName>>
-    ensures exact { (m : ℕ) → length tokens.now < m → Gives end (λ x. (x.0, x.1.now)) result (grammar.bracketed_names_rule m tokens.now) }
-    ensures shorter { IfOk result (λ r. length r.1.now < length tokens.now) }
-{
-    let (name, rest) = token(alloc, tokens, end, TokenClass::Name)?;
-    let mut found = List::new(alloc);
-    found.push(BracketedName { comma: None, name })?;
-    further_bracketed_names(alloc, found, rest, end)
+/// name { [","] name }
+pub struct BracketedNamesRule;
+
+impl Rule for BracketedNamesRule {
+    type Tree = List<BracketedName>;
+
+    ghost grammar = { λ s. grammar.bracketed_names_rule };
+
+    fn read<'t>(
+        &self,
+        alloc: Global,
+        tokens: &'t [Token],
+        end: Place,
+    ) -> Parsed<'t, List<BracketedName>> {
+        let (name, rest) = token(alloc, tokens, end, TokenClass::Name)?;
+        let mut found = List::new(alloc);
+        found.push(BracketedName { comma: None, name })?;
+        let begins = TokenClass::BracketedName;
+        further_of(alloc, &begins, &BracketedNameRule, found, rest, end)
+    }
 }
 
-// "[" name { [","] name } "]"
-fn bracketed(alloc: Global, tokens: &[Token], end: Place) -> Parsed<'_, Bracketed>
-    ensures exact { (m : ℕ) → length tokens.now < m → Gives end (λ x. (x.0, x.1.now)) result (grammar.bracketed_rule m tokens.now) }
-    ensures shorter { IfOk result (λ r. length r.1.now < length tokens.now) }
-{
-    let (opening, rest) = mark(tokens, end, "[")?;
-    let (names, rest) = bracketed_names(alloc, rest, end)?;
-    let (closing, rest) = mark(rest, end, "]")?;
-    let bracketed = Bracketed {
-        opening,
-        names,
-        closing,
-    };
-    Ok((bracketed, rest))
+/// "[" name { [","] name } "]"
+pub struct BracketedRule;
+
+impl Rule for BracketedRule {
+    type Tree = Bracketed;
+
+    ghost grammar = { λ s. grammar.bracketed_rule };
+
+    fn read<'t>(&self, alloc: Global, tokens: &'t [Token], end: Place) -> Parsed<'t, Bracketed> {
+        let rule = Then(Mark("["), Then(BracketedNamesRule, Mark("]")));
+        let (parts, rest) = rule.read(alloc, tokens, end)?;
+        let (opening, (names, closing)) = parts;
+        let bracketed = Bracketed {
+            opening,
+            names,
+            closing,
+        };
+        Ok((bracketed, rest))
+    }
 }
 
 // ---- hashes, iterators and instances
 
-// "," text, where the comma is at the front
-fn optional_hash_table(alloc: Global, tokens: &[Token], end: Place) -> Parsed<'_, Option<HashTable>>
-    ensures exact { Gives end (λ x. (x.0, x.1.now)) result (optional is_comma_mark grammar.hash_table_rule tokens.now) }
-    ensures shorter { IfOk result (λ r. length r.1.now ≤ length tokens.now) }
-{
-    if !begins_with(tokens, ",") {
-        return Ok((None, tokens));
+/// "," text
+pub struct HashTableRule;
+
+impl Rule for HashTableRule {
+    type Tree = HashTable;
+
+    ghost grammar = { λ s m. grammar.hash_table_rule };
+
+    fn read<'t>(&self, alloc: Global, tokens: &'t [Token], end: Place) -> Parsed<'t, HashTable> {
+        let rule = Then(Mark(","), TokenClass::TableText);
+        let (parts, rest) = rule.read(alloc, tokens, end)?;
+        let (comma, text) = parts;
+        Ok((HashTable { comma, text }, rest))
     }
-    let (comma, rest) = mark(tokens, end, ",")?;
-    let (text, rest) = token(alloc, rest, end, TokenClass::TableText)?;
-    Ok((Some(HashTable { comma, text }), rest))
 }
 
-// "," integer [ "," text ], where the comma is at the front
-fn optional_hash_size(alloc: Global, tokens: &[Token], end: Place) -> Parsed<'_, Option<HashSize>>
-    ensures exact { Gives end (λ x. (x.0, x.1.now)) result (optional is_comma_mark grammar.hash_size_rule tokens.now) }
-    ensures shorter { IfOk result (λ r. length r.1.now ≤ length tokens.now) }
-{
-    if !begins_with(tokens, ",") {
-        return Ok((None, tokens));
+/// "," integer [ "," text ]
+pub struct HashSizeRule;
+
+impl Rule for HashSizeRule {
+    type Tree = HashSize;
+
+    ghost grammar = { λ s m. grammar.hash_size_rule };
+
+    fn read<'t>(&self, alloc: Global, tokens: &'t [Token], end: Place) -> Parsed<'t, HashSize> {
+        let table = ThenOptional(TokenClass::Integer, Mark(","), HashTableRule);
+        let rule = Then(Mark(","), table);
+        let (parts, rest) = rule.read(alloc, tokens, end)?;
+        let (comma, (number, table)) = parts;
+        let size = HashSize {
+            comma,
+            number,
+            table,
+        };
+        Ok((size, rest))
     }
-    let (comma, rest) = mark(tokens, end, ",")?;
-    let (number, rest) = token(alloc, rest, end, TokenClass::Integer)?;
-    let (table, rest) = optional_hash_table(alloc, rest, end)?;
-    let size = HashSize {
-        comma,
-        number,
-        table,
-    };
-    Ok((Some(size), rest))
-}
-
-/// What stands behind the parenthesis of a hash.
-#[derive(Drop)]
-pub struct HashParts {
-    pub key_variables: Bracketed,
-    pub comma: Place,
-    pub data_variables: Bracketed,
-    pub size: Option<HashSize>,
-    pub closing: Place,
-    pub end: Place,
-}
-
-// vars "," vars [ "," integer [ "," text ] ] ")" ";"
-fn hash_parts(alloc: Global, tokens: &[Token], end: Place) -> Parsed<'_, HashParts>
-    ensures exact { (m : ℕ) → length tokens.now < m → Gives end (λ x. (read_hash_parts x.0, x.1.now)) result (hash_parts_rule m tokens.now) }
-    ensures shorter { IfOk result (λ r. length r.1.now < length tokens.now) }
-{
-    let (key_variables, rest) = bracketed(alloc, tokens, end)?;
-    let (comma, rest) = mark(rest, end, ",")?;
-    let (data_variables, rest) = bracketed(alloc, rest, end)?;
-    let (size, rest) = optional_hash_size(alloc, rest, end)?;
-    let (closing, rest) = mark(rest, end, ")")?;
-    let (semicolon, rest) = mark(rest, end, ";")?;
-    let parts = HashParts {
-        key_variables,
-        comma,
-        data_variables,
-        size,
-        closing,
-        end: semicolon,
-    };
-    Ok((parts, rest))
 }
 
 // Behind `package`: "hash" name "(" vars "," vars [ "," integer [ "," text ] ] ")" ";"
@@ -255,22 +212,27 @@ fn hash(
     ensures exact { (m : ℕ) → length tokens.now < m → Gives end (λ x. (x.0, x.1.now)) result (to (λ x. grammar.package_declaration keyword package_keyword (One x)) (grammar.hash_rule m) tokens.now) }
     ensures shorter { IfOk result (λ r. length r.1.now < length tokens.now) }
 {
-    let (hash_keyword, rest) = word(alloc, tokens, end, "hash")?;
-    let (name, rest) = token(alloc, rest, end, TokenClass::Name)?;
-    let (opening, rest) = mark(rest, end, "(")?;
-    let (parts, rest) = hash_parts(alloc, rest, end)?;
+    let size = OptionalThen(Mark(","), HashSizeRule, Then(Mark(")"), Mark(";")));
+    let variables = Then(BracketedRule, Then(Mark(","), Then(BracketedRule, size)));
+    let rule = Then(
+        Word("hash"),
+        Then(TokenClass::Name, Then(Mark("("), variables)),
+    );
+    let (parts, rest) = rule.read(alloc, tokens, end)?;
+    let (hash_keyword, (name, (opening, behind))) = parts;
+    let (key_variables, (comma, (data_variables, (size, (closing, semicolon))))) = behind;
     let declaration = Declaration::Hash {
         keyword,
         package_keyword,
         hash_keyword,
         name,
         opening,
-        key_variables: parts.key_variables,
-        comma: parts.comma,
-        data_variables: parts.data_variables,
-        size: parts.size,
-        closing: parts.closing,
-        end: parts.end,
+        key_variables,
+        comma,
+        data_variables,
+        size,
+        closing,
+        end: semicolon,
     };
     Ok((declaration, rest))
 }
@@ -283,15 +245,16 @@ fn hiter(
     tokens: &[Token],
     end: Place,
 ) -> Parsed<'_, Declaration>
-    ensures exact { Gives end (λ x. (x.0, x.1.now)) result (to (λ x. grammar.package_declaration keyword package_keyword (Two (One x))) grammar.hiter_rule tokens.now) }
+    ensures exact { (m : ℕ) → length tokens.now < m → Gives end (λ x. (x.0, x.1.now)) result (to (λ x. grammar.package_declaration keyword package_keyword (Two (One x))) grammar.hiter_rule tokens.now) }
     ensures shorter { IfOk result (λ r. length r.1.now < length tokens.now) }
 {
-    let (hiter_keyword, rest) = word(alloc, tokens, end, "hiter")?;
-    let (name, rest) = token(alloc, rest, end, TokenClass::Name)?;
-    let (opening, rest) = mark(rest, end, "(")?;
-    let (hash, rest) = token(alloc, rest, end, TokenClass::Text)?;
-    let (closing, rest) = mark(rest, end, ")")?;
-    let (semicolon, rest) = mark(rest, end, ";")?;
+    let hash = Then(
+        Mark("("),
+        Then(TokenClass::Text, Then(Mark(")"), Mark(";"))),
+    );
+    let rule = Then(Word("hiter"), Then(TokenClass::Name, hash));
+    let (parts, rest) = rule.read(alloc, tokens, end)?;
+    let (hiter_keyword, (name, (opening, (hash, (closing, semicolon))))) = parts;
     let declaration = Declaration::Hiter {
         keyword,
         package_keyword,
@@ -316,10 +279,10 @@ fn instance(
     ensures exact { (m : ℕ) → length tokens.now < m → Gives end (λ x. (x.0, x.1.now)) result (to (λ x. grammar.package_declaration keyword package_keyword (Two (Two x))) (grammar.instance_rule m) tokens.now) }
     ensures shorter { IfOk result (λ r. length r.1.now < length tokens.now) }
 {
-    let (package, rest) = token(alloc, tokens, end, TokenClass::PackageName)?;
-    let (name, rest) = token(alloc, rest, end, TokenClass::Name)?;
-    let (arguments, rest) = optional_constants(alloc, rest, end)?;
-    let (semicolon, rest) = mark(rest, end, ";")?;
+    let arguments = OptionalThen(Mark("("), ConstantsRule, Mark(";"));
+    let rule = Then(TokenClass::PackageName, Then(TokenClass::Name, arguments));
+    let (parts, rest) = rule.read(alloc, tokens, end)?;
+    let (package, (name, (arguments, semicolon))) = parts;
     let declaration = Declaration::Instance {
         keyword,
         package_keyword,
@@ -367,13 +330,12 @@ fn of_package(
 
 // Behind `dcl`: "thread" name name ";"
 fn of_thread(alloc: Global, keyword: Token, tokens: &[Token], end: Place) -> Parsed<'_, Declaration>
-    ensures exact { Gives end (λ x. (x.0, x.1.now)) result (to (λ x. grammar.declaration_of (keyword, Two (One x))) grammar.thread_instance_rule tokens.now) }
+    ensures exact { (m : ℕ) → length tokens.now < m → Gives end (λ x. (x.0, x.1.now)) result (to (λ x. grammar.declaration_of (keyword, Two (One x))) grammar.thread_instance_rule tokens.now) }
     ensures shorter { IfOk result (λ r. length r.1.now < length tokens.now) }
 {
-    let (thread_keyword, rest) = word(alloc, tokens, end, "thread")?;
-    let (thread, rest) = token(alloc, rest, end, TokenClass::Name)?;
-    let (name, rest) = token(alloc, rest, end, TokenClass::Name)?;
-    let (semicolon, rest) = mark(rest, end, ";")?;
+    let names = Then(TokenClass::Name, Then(TokenClass::Name, Mark(";")));
+    let (parts, rest) = Then(Word("thread"), names).read(alloc, tokens, end)?;
+    let (thread_keyword, (thread, (name, semicolon))) = parts;
     let declaration = Declaration::Thread {
         keyword,
         thread_keyword,

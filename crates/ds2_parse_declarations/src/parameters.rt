@@ -1,17 +1,16 @@
 //! The parser of parameters and of a method's result.
-ghost use Rattle.std.specs.Prelude.{ℕ, ◌<◌, ◌≤◌, ◌++◌, codes, length, IfOk};
-ghost use Rattle.ds2_grammar.specs.Parsers.{to, many_of, optional};
+ghost use Rattle.std.specs.Prelude.{ℕ, ◌<◌, ◌≤◌, codes, length, IfOk};
+ghost use Rattle.ds2_grammar.specs.Parsers.{to, optional};
 ghost use Rattle.ds2_grammar.specs.Promise.{Gives};
-ghost use Rattle.ds2_parse_rules.specs.GrammarTokens.{is_open_mark, is_comma_mark, starts, comma_list};
+ghost use Rattle.ds2_parse_rules.specs.GrammarTokens.{is_open_mark, starts, comma_list};
 ghost use Rattle.ds2_parse_rules.specs.GlobalGrammar as grammar;
 ghost use Rattle.ds2_parse_declarations.specs.UnitParts.{behind_comma};
 
-use crate::types::type_name;
+use crate::types::TypeRule;
 use ds2_base::{List, Place};
-use ds2_parse_rules::front::{Parsed, mark, word};
-use ds2_parse_rules::front_words::{
-    TokenClass, at, begins_with, optional_word, starts_with, token,
-};
+use ds2_parse_rules::front::{Parsed, mark};
+use ds2_parse_rules::front_words::{TokenClass, at};
+use ds2_parse_rules::rules::{Mark, OptionalThen, Rule, Then, Word, further_of, optional_of};
 use ds2_token::Token;
 use ds2_tree::{Parameter, Parameters, Returns};
 use std::alloc::Global;
@@ -26,9 +25,13 @@ fn parameter(
     ensures exact { Gives end (λ x. (x.0, x.1.now)) result (to (grammar.parameter_behind comma) grammar.parameter_rule tokens.now) }
     ensures shorter { IfOk result (λ r. length r.1.now < length tokens.now) }
 {
-    let (in_out, rest) = optional_word(alloc, tokens, end, "in_out")?;
-    let (ty, rest) = type_name(alloc, rest, end)?;
-    let (name, rest) = token(alloc, rest, end, TokenClass::Name)?;
+    let rule = OptionalThen(
+        Word("in_out"),
+        Word("in_out"),
+        Then(TypeRule, TokenClass::Name),
+    );
+    let (parts, rest) = rule.read(alloc, tokens, end)?;
+    let (in_out, (ty, name)) = parts;
     let parameter = Parameter {
         comma,
         in_out,
@@ -38,33 +41,18 @@ fn parameter(
     Ok((parameter, rest))
 }
 
-// A parameter behind its comma.
-fn further_parameter(alloc: Global, tokens: &[Token], end: Place) -> Parsed<'_, Parameter>
-    ensures exact { Gives end (λ x. (x.0, x.1.now)) result (behind_comma grammar.parameter_behind grammar.parameter_rule tokens.now) }
-    ensures shorter { IfOk result (λ r. length r.1.now < length tokens.now) }
-{
-    let (comma, rest) = mark(tokens, end, ",")?;
-    parameter(alloc, Some(comma), rest, end)
-}
+/// A parameter behind its comma.
+pub struct FurtherParameterRule;
 
-// Further parameters, after those that were found.
-fn further_parameters(
-    alloc: Global,
-    found: List<Parameter>,
-    tokens: &[Token],
-    end: Place,
-) -> Parsed<'_, List<Parameter>>
-    ensures exact { (m : ℕ) → length tokens.now < m → Gives end (λ x. (x.0, x.1.now)) result (to (λ l. found ++ l) (many_of m is_comma_mark (behind_comma grammar.parameter_behind grammar.parameter_rule)) tokens.now) }
-    ensures shorter { IfOk result (λ r. length r.1.now ≤ length tokens.now) }
-{
-    let mut found = found;
-    let mut rest = tokens;
-    while begins_with(rest, ",") {
-        let (parameter, after) = further_parameter(alloc, rest, end)?;
-        found.push(parameter)?;
-        rest = after;
+impl Rule for FurtherParameterRule {
+    type Tree = Parameter;
+
+    ghost grammar = { λ s m. behind_comma grammar.parameter_behind grammar.parameter_rule };
+
+    fn read<'t>(&self, alloc: Global, tokens: &'t [Token], end: Place) -> Parsed<'t, Parameter> {
+        let (comma, rest) = mark(tokens, end, ",")?;
+        parameter(alloc, Some(comma), rest, end)
     }
-    Ok((found, rest))
 }
 
 // [ param { "," param } ]
@@ -76,7 +64,7 @@ fn parameter_list(alloc: Global, tokens: &[Token], end: Place) -> Parsed<'_, Lis
     if at(tokens, TokenClass::Parameter) {
         let (first, rest) = parameter(alloc, None, tokens, end)?;
         found.push(first)?;
-        return further_parameters(alloc, found, rest, end);
+        return further_of(alloc, &Mark(","), &FurtherParameterRule, found, rest, end);
     }
     Ok((found, tokens))
 }
@@ -97,6 +85,19 @@ pub fn parameters(alloc: Global, tokens: &[Token], end: Place) -> Parsed<'_, Par
     Ok((parameters, rest))
 }
 
+/// Parameters between parentheses.
+pub struct ParametersRule;
+
+impl Rule for ParametersRule {
+    type Tree = Parameters;
+
+    ghost grammar = { λ s. grammar.parameters_rule };
+
+    fn read<'t>(&self, alloc: Global, tokens: &'t [Token], end: Place) -> Parsed<'t, Parameters> {
+        parameters(alloc, tokens, end)
+    }
+}
+
 /// Parameters, where a parenthesis is at the front.
 pub fn optional_parameters(
     alloc: Global,
@@ -106,22 +107,29 @@ pub fn optional_parameters(
     ensures exact { (m : ℕ) → length tokens.now < m → Gives end (λ x. (x.0, x.1.now)) result (optional is_open_mark (grammar.parameters_rule m) tokens.now) }
     ensures shorter { IfOk result (λ r. length r.1.now ≤ length tokens.now) }
 {
-    if begins_with(tokens, "(") {
-        let (parameters, rest) = parameters(alloc, tokens, end)?;
-        return Ok((Some(parameters), rest));
-    }
-    Ok((None, tokens))
+    optional_of(alloc, &Mark("("), &ParametersRule, tokens, end)
 }
 
-/// "returns" type, where the word is at the front
+/// "returns" type
+pub struct ReturnsRule;
+
+impl Rule for ReturnsRule {
+    type Tree = Returns;
+
+    ghost grammar = { λ s m. grammar.returns_rule };
+
+    fn read<'t>(&self, alloc: Global, tokens: &'t [Token], end: Place) -> Parsed<'t, Returns> {
+        let rule = Then(Word("returns"), TypeRule);
+        let (parts, rest) = rule.read(alloc, tokens, end)?;
+        let (keyword, ty) = parts;
+        Ok((Returns { keyword, ty }, rest))
+    }
+}
+
+/// The type of a result, where `returns` is at the front.
 pub fn optional_returns(alloc: Global, tokens: &[Token], end: Place) -> Parsed<'_, Option<Returns>>
     ensures exact { Gives end (λ x. (x.0, x.1.now)) result (optional (starts (codes "returns")) grammar.returns_rule tokens.now) }
     ensures shorter { IfOk result (λ r. length r.1.now ≤ length tokens.now) }
 {
-    if !starts_with(tokens, "returns") {
-        return Ok((None, tokens));
-    }
-    let (keyword, rest) = word(alloc, tokens, end, "returns")?;
-    let (ty, rest) = type_name(alloc, rest, end)?;
-    Ok((Some(Returns { keyword, ty }), rest))
+    optional_of(alloc, &Word("returns"), &ReturnsRule, tokens, end)
 }

@@ -1,30 +1,32 @@
 //! The parser of types, of lists of names, and of declarations of variables.
-ghost use Rattle.std.specs.Prelude.{ℕ, ◌<◌, ◌≤◌, ◌++◌, length, IfOk};
-ghost use Rattle.ds2_grammar.specs.Parsers.{One, Two, kept, to, many_of, optional};
+ghost use Rattle.std.specs.Prelude.{ℕ, ◌<◌, ◌≤◌, length, IfOk};
+ghost use Rattle.ds2_grammar.specs.Parsers.{One, Two, to, many_of};
 ghost use Rattle.ds2_grammar.specs.Promise.{Gives};
-ghost use Rattle.ds2_token.specs.Words.{is_name_token};
 ghost use Rattle.ds2_tree.specs.Globals.{is_dcl};
-ghost use Rattle.ds2_parse_rules.specs.GrammarTokens.{is_comma_mark};
 ghost use Rattle.ds2_parse_rules.specs.GlobalGrammar as grammar;
 
 use ds2_base::{List, Place};
-use ds2_parse_rules::front::{Parsed, mark, word};
-use ds2_parse_rules::front_words::{TokenClass, at, begins_with, starts_with, token};
+use ds2_parse_rules::front::{Parsed, word};
+use ds2_parse_rules::front_words::{TokenClass, at, starts_with, token};
+use ds2_parse_rules::rules::{Mark, OptionalThen, Rule, SomeOf, Then, items_of};
 use ds2_token::Token;
 use ds2_tree::{Scale, TypeName, VariableDeclaration};
 use std::alloc::Global;
 
-// "," integer, where the comma is at the front.
-fn optional_scale(alloc: Global, tokens: &[Token], end: Place) -> Parsed<'_, Option<Scale>>
-    ensures exact { Gives end (λ x. (x.0, x.1.now)) result (optional is_comma_mark grammar.scale_rule tokens.now) }
-    ensures shorter { IfOk result (λ r. length r.1.now ≤ length tokens.now) }
-{
-    if !begins_with(tokens, ",") {
-        return Ok((None, tokens));
+/// "," integer
+pub struct ScaleRule;
+
+impl Rule for ScaleRule {
+    type Tree = Scale;
+
+    ghost grammar = { λ s m. grammar.scale_rule };
+
+    fn read<'t>(&self, alloc: Global, tokens: &'t [Token], end: Place) -> Parsed<'t, Scale> {
+        let rule = Then(Mark(","), TokenClass::Integer);
+        let (parts, rest) = rule.read(alloc, tokens, end)?;
+        let (comma, number) = parts;
+        Ok((Scale { comma, number }, rest))
     }
-    let (comma, rest) = mark(tokens, end, ",")?;
-    let (number, rest) = token(alloc, rest, end, TokenClass::Integer)?;
-    Ok((Some(Scale { comma, number }), rest))
 }
 
 // ("decimal" | "numeric") "(" integer ["," integer] ")"
@@ -32,11 +34,13 @@ fn decimal_type(alloc: Global, tokens: &[Token], end: Place) -> Parsed<'_, TypeN
     ensures exact { Gives end (λ x. (x.0, x.1.now)) result (to (λ x. grammar.type_of_kind (Two (One x))) grammar.decimal_type_rule tokens.now) }
     ensures shorter { IfOk result (λ r. length r.1.now < length tokens.now) }
 {
-    let (keyword, rest) = token(alloc, tokens, end, TokenClass::DecimalKeyword)?;
-    let (opening, rest) = mark(rest, end, "(")?;
-    let (precision, rest) = token(alloc, rest, end, TokenClass::Integer)?;
-    let (scale, rest) = optional_scale(alloc, rest, end)?;
-    let (closing, rest) = mark(rest, end, ")")?;
+    let scale = OptionalThen(Mark(","), ScaleRule, Mark(")"));
+    let rule = Then(
+        TokenClass::DecimalKeyword,
+        Then(Mark("("), Then(TokenClass::Integer, scale)),
+    );
+    let (parts, rest) = rule.read(alloc, tokens, end)?;
+    let (keyword, (opening, (precision, (scale, closing)))) = parts;
     let ty = TypeName::Decimal {
         keyword,
         opening,
@@ -52,10 +56,12 @@ fn text_type(alloc: Global, tokens: &[Token], end: Place) -> Parsed<'_, TypeName
     ensures exact { Gives end (λ x. (x.0, x.1.now)) result (to (λ x. grammar.type_of_kind (Two (Two x))) grammar.text_type_rule tokens.now) }
     ensures shorter { IfOk result (λ r. length r.1.now < length tokens.now) }
 {
-    let (keyword, rest) = token(alloc, tokens, end, TokenClass::TextKeyword)?;
-    let (opening, rest) = mark(rest, end, "(")?;
-    let (length, rest) = token(alloc, rest, end, TokenClass::Integer)?;
-    let (closing, rest) = mark(rest, end, ")")?;
+    let rule = Then(
+        TokenClass::TextKeyword,
+        Then(Mark("("), Then(TokenClass::Integer, Mark(")"))),
+    );
+    let (parts, rest) = rule.read(alloc, tokens, end)?;
+    let (keyword, (opening, (length, closing))) = parts;
     let ty = TypeName::Text {
         keyword,
         opening,
@@ -66,18 +72,23 @@ fn text_type(alloc: Global, tokens: &[Token], end: Place) -> Parsed<'_, TypeName
 }
 
 /// A type.
-pub fn type_name(alloc: Global, tokens: &[Token], end: Place) -> Parsed<'_, TypeName>
-    ensures exact { Gives end (λ x. (x.0, x.1.now)) result (grammar.type_rule tokens.now) }
-    ensures shorter { IfOk result (λ r. length r.1.now < length tokens.now) }
-{
-    if starts_with(tokens, "bigint") {
-        let (keyword, rest) = word(alloc, tokens, end, "bigint")?;
-        return Ok((TypeName::BigInt(keyword), rest));
+pub struct TypeRule;
+
+impl Rule for TypeRule {
+    type Tree = TypeName;
+
+    ghost grammar = { λ s m. grammar.type_rule };
+
+    fn read<'t>(&self, alloc: Global, tokens: &'t [Token], end: Place) -> Parsed<'t, TypeName> {
+        if starts_with(tokens, "bigint") {
+            let (keyword, rest) = word(alloc, tokens, end, "bigint")?;
+            return Ok((TypeName::BigInt(keyword), rest));
+        }
+        if at(tokens, TokenClass::DecimalKeyword) {
+            return decimal_type(alloc, tokens, end);
+        }
+        text_type(alloc, tokens, end)
     }
-    if at(tokens, TokenClass::DecimalKeyword) {
-        return decimal_type(alloc, tokens, end);
-    }
-    text_type(alloc, tokens, end)
 }
 
 /// name { name }
@@ -85,30 +96,7 @@ pub fn names(alloc: Global, tokens: &[Token], end: Place) -> Parsed<'_, List<Tok
     ensures exact { (m : ℕ) → length tokens.now < m → Gives end (λ x. (x.0, x.1.now)) result (grammar.names_rule m tokens.now) }
     ensures shorter { IfOk result (λ r. length r.1.now < length tokens.now) }
 {
-    let (first, rest) = token(alloc, tokens, end, TokenClass::Name)?;
-    let mut found = List::new(alloc);
-    found.push(first)?;
-    further_names(alloc, found, rest, end)
-}
-
-// Further names, after those that were found.
-fn further_names(
-    alloc: Global,
-    found: List<Token>,
-    tokens: &[Token],
-    end: Place,
-) -> Parsed<'_, List<Token>>
-    ensures exact { (m : ℕ) → length tokens.now < m → Gives end (λ x. (x.0, x.1.now)) result (to (λ l. found ++ l) (many_of m is_name_token (kept is_name_token)) tokens.now) }
-    ensures shorter { IfOk result (λ r. length r.1.now ≤ length tokens.now) }
-{
-    let mut found = found;
-    let mut rest = tokens;
-    while at(rest, TokenClass::Name) {
-        let (name, after) = token(alloc, rest, end, TokenClass::Name)?;
-        found.push(name)?;
-        rest = after;
-    }
-    Ok((found, rest))
+    SomeOf(TokenClass::Name, TokenClass::Name).read(alloc, tokens, end)
 }
 
 /// Behind `dcl`: type name { name } ";"
@@ -121,9 +109,12 @@ pub fn declared_variables(
     ensures exact { (m : ℕ) → length tokens.now < m → Gives end (λ x. (x.0, x.1.now)) result (to (λ x. grammar.variables_of (keyword, x)) (grammar.variables_tail m) tokens.now) }
     ensures shorter { IfOk result (λ r. length r.1.now < length tokens.now) }
 {
-    let (ty, rest) = type_name(alloc, tokens, end)?;
-    let (names, rest) = names(alloc, rest, end)?;
-    let (semicolon, rest) = mark(rest, end, ";")?;
+    let rule = Then(
+        TypeRule,
+        Then(SomeOf(TokenClass::Name, TokenClass::Name), Mark(";")),
+    );
+    let (parts, rest) = rule.read(alloc, tokens, end)?;
+    let (ty, (names, semicolon)) = parts;
     let variables = VariableDeclaration {
         keyword,
         ty,
@@ -133,13 +124,23 @@ pub fn declared_variables(
     Ok((variables, rest))
 }
 
-// dcl type name { name } ";"
-fn variables(alloc: Global, tokens: &[Token], end: Place) -> Parsed<'_, VariableDeclaration>
-    ensures exact { (m : ℕ) → length tokens.now < m → Gives end (λ x. (x.0, x.1.now)) result (grammar.variables_rule m tokens.now) }
-    ensures shorter { IfOk result (λ r. length r.1.now < length tokens.now) }
-{
-    let (keyword, rest) = token(alloc, tokens, end, TokenClass::Declare)?;
-    declared_variables(alloc, keyword, rest, end)
+/// dcl type name { name } ";"
+pub struct VariablesRule;
+
+impl Rule for VariablesRule {
+    type Tree = VariableDeclaration;
+
+    ghost grammar = { λ s. grammar.variables_rule };
+
+    fn read<'t>(
+        &self,
+        alloc: Global,
+        tokens: &'t [Token],
+        end: Place,
+    ) -> Parsed<'t, VariableDeclaration> {
+        let (keyword, rest) = token(alloc, tokens, end, TokenClass::Declare)?;
+        declared_variables(alloc, keyword, rest, end)
+    }
 }
 
 /// The declarations of a method.
@@ -147,12 +148,5 @@ pub fn locals(alloc: Global, tokens: &[Token], end: Place) -> Parsed<'_, List<Va
     ensures exact { (m : ℕ) → length tokens.now < m → Gives end (λ x. (x.0, x.1.now)) result (many_of m is_dcl (grammar.variables_rule m) tokens.now) }
     ensures shorter { IfOk result (λ r. length r.1.now ≤ length tokens.now) }
 {
-    let mut found = List::new(alloc);
-    let mut rest = tokens;
-    while at(rest, TokenClass::Declare) {
-        let (variables, after) = variables(alloc, rest, end)?;
-        found.push(variables)?;
-        rest = after;
-    }
-    Ok((found, rest))
+    items_of(alloc, &TokenClass::Declare, &VariablesRule, tokens, end)
 }

@@ -4,7 +4,7 @@ use Rattle.ds2_grammar.specs.Parsers.{many_of}
 use Rattle.ds2_tree.specs.UnitViews.{global_tree}
 use Rattle.ds2_parse_rules.specs.GlobalGrammar.{begins_global, global_rule}
 use Rattle.ds2_parse_rules.proofs.RuleSteps.{exit}
-use Rattle.ds2_parse_declarations.proofs.UnitSteps.{item_found, item_stops, no_item, nothing_found}
+use Rattle.ds2_parse_rules.proofs.PartSteps.{item_found, item_stops, no_item, nothing_found}
 use Rattle.ds2_parse.proofs.globals.globals.Goals as goal
 
 pub loop-alloc-init : goal.loop-alloc-init

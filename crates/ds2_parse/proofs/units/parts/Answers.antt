@@ -4,7 +4,7 @@ use Rattle.ds2_grammar.specs.Parsers.{many_of}
 use Rattle.ds2_tree.specs.UnitViews.{part_tree}
 use Rattle.ds2_parse_rules.specs.UnitGrammar.{begins_part, part_rule}
 use Rattle.ds2_parse_rules.proofs.RuleSteps.{exit}
-use Rattle.ds2_parse_declarations.proofs.UnitSteps.{item_found, item_stops, no_item, nothing_found}
+use Rattle.ds2_parse_rules.proofs.PartSteps.{item_found, item_stops, no_item, nothing_found}
 use Rattle.ds2_parse.proofs.units.parts.Goals as goal
 
 pub loop-alloc-init : goal.loop-alloc-init

@@ -16,7 +16,7 @@ pub returns-then-starts_with-2-clause-exact : goal.returns-then-starts_with-2-cl
 returns-then-starts_with-2-clause-exact c m lt =
     subst (Gives c.args.end (λ x. (x.0, x.1.now)) c.of_thread.result)
     (sym (held (λ o. o ≡ to (λ x. declaration_of (c.args.keyword, Two (One x))) thread_instance_rule c.args.tokens.now) (λ x. declaration_of (c.args.keyword, x)) (choose_by (starts (codes "package")) (to One (seq (word_rule (codes "package")) (package_tail m))) (to Two (choose_by (starts (codes "thread")) (to One thread_instance_rule) (to Two (variables_tail m))))) c.args.tokens.now (on_no (starts (codes "package")) One (seq (word_rule (codes "package")) (package_tail m)) Two (choose_by (starts (codes "thread")) (to One thread_instance_rule) (to Two (variables_tail m))) (sym c.starts_with.ensures ∙ c.if-starts_with.false) (on_yes (starts (codes "thread")) One thread_instance_rule Two (variables_tail m) (sym c.starts_with-2.ensures ∙ c.if-starts_with-2.true) (taken refl)))))
-    c.of_thread.ensures.exact
+    (c.of_thread.ensures.exact m lt)
 
 pub returns-clause-exact : goal.returns-clause-exact
 returns-clause-exact c m lt =

@@ -15,7 +15,7 @@ returns-in_err-first-clause-exact c m lt =
 
 pub returns-then-at-clause-exact : goal.returns-then-at-clause-exact
 returns-then-at-clause-exact c m lt =
-    subst (Gives c.args.end (λ x. (x.0, x.1.now)) c.further_parameters.result)
+    subst (Gives c.args.end (λ x. (x.0, x.1.now)) c.further_of.result)
     (sym (first_item m begins_parameter parameter_behind parameter_rule c.args.tokens.now (sym c.at.ensures ∙ c.if-at.true) c.in_ok-first.first c.in_ok-first.rest.now c.in_ok-first.ensures.exact
     ∙ ap (λ n. to (λ l. n ++ l) (many_of m is_comma_mark (behind_comma parameter_behind parameter_rule)) c.in_ok-first.rest.now) (sym (c.in_ok-push.ensures.ok ∙ ap (λ l. l ++ c.in_ok-first.first ∷ []) c.new-found.ensures))))
-    (c.further_parameters.ensures.exact m (omega (arith, lt, c.in_ok-first.ensures.shorter)))
+    (c.further_of.ensures.exact m (omega (arith, lt, c.in_ok-first.ensures.shorter)))

@@ -10,7 +10,7 @@ pub returns-then-starts_with-clause-exact : goal.returns-then-starts_with-clause
 returns-then-starts_with-clause-exact c m lt =
     subst (Gives c.args.end (λ x. (x.0, x.1.now)) c.set_from.result)
     (sym (held (λ o. o ≡ to (λ x. reading_of_kind (One (c.in_ok-keyword.keyword, One x))) set_from_rule c.in_ok-keyword.rest.now) (λ x. reading_of_kind (One x)) (seq (word_rule (codes "set")) (choose_by (starts (codes "from")) (to One set_from_rule) (to Two (set_tables_rule m)))) c.args.tokens.now (on_read (word_rule (codes "set")) (choose_by (starts (codes "from")) (to One set_from_rule) (to Two (set_tables_rule m))) c.in_ok-keyword.ensures.exact (on_yes (starts (codes "from")) One set_from_rule Two (set_tables_rule m) (sym c.starts_with.ensures ∙ c.if-starts_with.true) (taken refl)))))
-    c.set_from.ensures.exact
+    (c.set_from.ensures.exact m (omega (arith, lt, c.in_ok-keyword.ensures.shorter)))
 
 pub returns-clause-exact : goal.returns-clause-exact
 returns-clause-exact c m lt =

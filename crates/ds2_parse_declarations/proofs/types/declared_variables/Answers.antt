@@ -1,13 +1,9 @@
-use Rattle.std.proofs.Common.{codes, arith}
-use Rattle.ds2_grammar.specs.Parsers.{to, seq}
-use Rattle.ds2_grammar.specs.Promise.{Fails}
-use Rattle.ds2_parse_rules.specs.GrammarTokens.{mark_rule}
-use Rattle.ds2_parse_rules.specs.GlobalGrammar.{type_rule, names_rule, variables_of}
-use Rattle.ds2_parse_rules.proofs.RuleSteps.{exit, held, on_read, on_stop}
+use Rattle.ds2_parse_rules.specs.GlobalGrammar.{variables_tail, variables_of}
+use Rattle.ds2_parse_rules.proofs.RuleSteps.{read_whole, read_stops}
 use Rattle.ds2_parse_declarations.proofs.types.declared_variables.Goals as goal
 
-pub returns-in_err-names-clause-exact : goal.returns-in_err-names-clause-exact
-returns-in_err-names-clause-exact c m lt =
-    exit c.args.end (λ x. (x.0, x.1.now)) c.from_residual-in_err-names.result c.in_err-names.field-0.0 (to (λ x. variables_of (c.args.keyword, x)) (seq type_rule (seq (names_rule m) (mark_rule (codes ";")))) c.args.tokens.now) c.from_residual-in_err-names.ensures.1
-    (held (Fails c.args.end c.in_err-names.field-0.0) (λ x. variables_of (c.args.keyword, x)) (seq type_rule (seq (names_rule m) (mark_rule (codes ";")))) c.args.tokens.now
-    (on_read type_rule (seq (names_rule m) (mark_rule (codes ";"))) c.in_ok-ty.ensures.exact (on_stop (names_rule m) (mark_rule (codes ";")) c.args.end c.in_err-names.field-0.0 (c.in_err-names.ensures.exact m (omega (arith, lt, c.in_ok-ty.ensures.shorter))))))
+pub returns-in_err-parts-clause-exact : goal.returns-in_err-parts-clause-exact
+returns-in_err-parts-clause-exact c m lt = read_stops c.args.end (λ x. (x.0, x.1.now)) c.from_residual.result c.in_err-parts.field-0.0 (λ x. variables_of (c.args.keyword, x)) (variables_tail m) c.args.tokens.now c.from_residual.ensures.1 (c.in_err-parts.ensures.exact m lt)
+
+pub returns-clause-exact : goal.returns-clause-exact
+returns-clause-exact c m lt = read_whole (λ x. variables_of (c.args.keyword, x)) (variables_tail m) c.args.tokens.now c.in_ok-parts.parts c.in_ok-parts.rest.now (c.in_ok-parts.ensures.exact m lt)

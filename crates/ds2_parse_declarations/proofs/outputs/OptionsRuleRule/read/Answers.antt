@@ -1,0 +1,12 @@
+use Rattle.std.proofs.Common.{codes}
+use Rattle.ds2_parse_rules.specs.GrammarTokens.{mark_rule}
+use Rattle.ds2_parse_rules.specs.UnitGrammar.{options_read, option_rule, begins_option}
+use Rattle.ds2_grammar.specs.Parsers.{seq, many_of}
+use Rattle.ds2_parse_rules.proofs.RuleSteps.{read_whole, read_stops}
+use Rattle.ds2_parse_declarations.proofs.outputs.OptionsRuleRule.read.Goals as goal
+
+pub returns-in_err-parts-clause-exact : goal.returns-in_err-parts-clause-exact
+returns-in_err-parts-clause-exact c m lt = read_stops c.args.end (λ x. (x.0, x.1.now)) c.from_residual.result c.in_err-parts.field-0.0 options_read (seq (mark_rule (codes "(")) (seq (many_of m begins_option (option_rule m)) (mark_rule (codes ")")))) c.args.tokens.now c.from_residual.ensures.1 (c.in_err-parts.ensures.exact m lt)
+
+pub returns-clause-exact : goal.returns-clause-exact
+returns-clause-exact c m lt = read_whole options_read (seq (mark_rule (codes "(")) (seq (many_of m begins_option (option_rule m)) (mark_rule (codes ")")))) c.args.tokens.now c.in_ok-parts.parts c.in_ok-parts.rest.now (c.in_ok-parts.ensures.exact m lt)

@@ -1,0 +1,12 @@
+use Rattle.ds2_token.specs.Words.{is_table}
+use Rattle.ds2_parse_rules.specs.GrammarTokens.{is_open_mark}
+use Rattle.ds2_parse_rules.specs.UnitGrammar.{options_rule, output_read}
+use Rattle.ds2_grammar.specs.Parsers.{kept, seq, optional}
+use Rattle.ds2_parse_rules.proofs.RuleSteps.{read_whole, read_stops}
+use Rattle.ds2_parse_declarations.proofs.outputs.OutputRuleRule.read.Goals as goal
+
+pub returns-in_err-parts-clause-exact : goal.returns-in_err-parts-clause-exact
+returns-in_err-parts-clause-exact c m lt = read_stops c.args.end (λ x. (x.0, x.1.now)) c.from_residual.result c.in_err-parts.field-0.0 output_read (seq (kept is_table) (optional is_open_mark (options_rule m))) c.args.tokens.now c.from_residual.ensures.1 (c.in_err-parts.ensures.exact m lt)
+
+pub returns-clause-exact : goal.returns-clause-exact
+returns-clause-exact c m lt = read_whole output_read (seq (kept is_table) (optional is_open_mark (options_rule m))) c.args.tokens.now c.in_ok-parts.parts c.in_ok-parts.rest.now (c.in_ok-parts.ensures.exact m lt)

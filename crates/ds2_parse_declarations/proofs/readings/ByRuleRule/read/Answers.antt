@@ -1,0 +1,12 @@
+use Rattle.std.proofs.Common.{codes}
+use Rattle.ds2_parse_rules.specs.GrammarTokens.{mark_rule, word_rule, one_or_more}
+use Rattle.ds2_parse_rules.specs.ReadingGrammar.{begins_by_variable, by_variable_rule, by_of}
+use Rattle.ds2_grammar.specs.Parsers.{seq}
+use Rattle.ds2_parse_rules.proofs.RuleSteps.{read_whole, read_stops}
+use Rattle.ds2_parse_declarations.proofs.readings.ByRuleRule.read.Goals as goal
+
+pub returns-in_err-parts-clause-exact : goal.returns-in_err-parts-clause-exact
+returns-in_err-parts-clause-exact c m lt = read_stops c.args.end (λ x. (x.0, x.1.now)) c.from_residual.result c.in_err-parts.field-0.0 by_of (seq (word_rule (codes "by")) (seq (one_or_more m begins_by_variable by_variable_rule) (mark_rule (codes ";")))) c.args.tokens.now c.from_residual.ensures.1 (c.in_err-parts.ensures.exact m lt)
+
+pub returns-clause-exact : goal.returns-clause-exact
+returns-clause-exact c m lt = read_whole by_of (seq (word_rule (codes "by")) (seq (one_or_more m begins_by_variable by_variable_rule) (mark_rule (codes ";")))) c.args.tokens.now c.in_ok-parts.parts c.in_ok-parts.rest.now (c.in_ok-parts.ensures.exact m lt)

@@ -1,0 +1,12 @@
+use Rattle.std.proofs.Common.{codes}
+use Rattle.ds2_parse_rules.specs.GrammarTokens.{mark_rule, word_rule}
+use Rattle.ds2_parse_rules.specs.ReadingGrammar.{merge_retain_of}
+use Rattle.ds2_grammar.specs.Parsers.{seq}
+use Rattle.ds2_parse_rules.proofs.RuleSteps.{read_whole, read_stops}
+use Rattle.ds2_parse_declarations.proofs.readings.MergeRetainRuleRule.read.Goals as goal
+
+pub returns-in_err-parts-clause-exact : goal.returns-in_err-parts-clause-exact
+returns-in_err-parts-clause-exact c m lt = read_stops c.args.end (λ x. (x.0, x.1.now)) c.from_residual.result c.in_err-parts.field-0.0 merge_retain_of (seq (mark_rule (codes "/")) (word_rule (codes "retain"))) c.args.tokens.now c.from_residual.ensures.1 (c.in_err-parts.ensures.exact m lt)
+
+pub returns-clause-exact : goal.returns-clause-exact
+returns-clause-exact c m lt = read_whole merge_retain_of (seq (mark_rule (codes "/")) (word_rule (codes "retain"))) c.args.tokens.now c.in_ok-parts.parts c.in_ok-parts.rest.now (c.in_ok-parts.ensures.exact m lt)
