@@ -25,7 +25,7 @@ use Rattle.ds2_meaning.specs.TypedExpression as tree
 use Rattle.ds2_names.specs.NameRules.{is_flag_word}
 use Rattle.ds2_names.specs.SourceUnit.{spelled_name}
 use Rattle.ds2_names.specs.Uses.{first_place, method_named}
-use Rattle.ds2_elaboration.specs.ExpressionTypes.{TypeScope, ObjectCalls, InstanceCalls, HashCalls, IteratorCalls, ParameterCalls, KnownVariable, hash_function_named, iterator_function_named, known_parameter, known_global, global_variable, known_before_globals, known_variable, variable_node, value_of_variable, elaborated_variable, flag_node, elaborated_flag, object_in_scope, member_of_object, elaborated_member, number_of_method, ElaboratedArguments, arguments_for, result_of_method, elaborated_method_call, method_or_function_call, values_for, elaborated_hash_call, elaborated_iterator_call, elaborated_instance_call, elaborated_object_call, elaborated_call, ElaboratedLinks, is_truth_chain, link_refusals, elaborated, truth_links, value_links, elaborated_arguments}
+use Rattle.ds2_elaboration.specs.ExpressionTypes.{TypeScope, ObjectCalls, InstanceCalls, HashCalls, IteratorCalls, ParameterCalls, KnownVariable, hash_function_named, iterator_function_named, known_parameter, known_global, global_variable, known_before_globals, known_variable, variable_node, value_of_variable, elaborated_variable, flag_node, elaborated_flag, object_in_scope, member_of_object, elaborated_member, number_of_method, ElaboratedArguments, arguments_for, result_of_method, elaborated_method_call, method_or_function_call, values_for, elaborated_hash_call, elaborated_iterator_call, elaborated_instance_call, elaborated_object_call, elaborated_call, ElaboratedLinks, truth_links, ChainSoFar, chain_of_first, chain_up_to, link_refusals, value_links, is_truth_chain, elaborated, elaborated_operands, elaborated_arguments}
 use Rattle.ds2_elaboration.specs.FunctionTypes.{ElaboratedArgument}
 use Rattle.ds2_elaboration.specs.OperatorTypes.{elaborated_link}
 use Rattle.ds2_elaboration.specs.SourceTypes.{elaborated_parameters, returned_type}
@@ -188,7 +188,7 @@ module _ (scope : TypeScope) (names : NamesInScope) (stands : ScopeStands scope 
 
   -- a chain of `and` or `or` with an operand behind its first ends as a BIGINT
   truth_end : (kind : ChainKind) → is_truth_chain kind ≡ true → (before : TypeRefusals) (ty : Ty) (rest : Operands) → HasOperand rest
-      → chain_type ty (truth_links scope kind before rest).links ≡ BigInt
+      → chain_type ty (truth_links kind before (elaborated_operands scope rest)).links ≡ BigInt
   truth_end kind k before ty NoOperand o = absurd o
   truth_end chain.And k before ty (Operand operator value NoOperand) o = refl
   truth_end chain.And k before ty (Operand operator value (Operand next second rest)) o =
@@ -247,35 +247,35 @@ module _ (scope : TypeScope) (names : NamesInScope) (stands : ScopeStands scope 
     expression_typed (Parenthesis opening inner closing) g = expression_typed inner g
     expression_typed (Sign operator operand) g = sign_typed names operator (elaborated scope operand) (expression_typed operand g.1.0)
     expression_typed (Chain chain.And first rest) g =
-        truth_chain_from (first_place first) (elaborated scope first) (truth_links scope chain.And (truth_refusals (first_place first) (elaborated scope first)) rest)
+        truth_chain_from (first_place first) (elaborated scope first) (truth_links chain.And (truth_refusals (first_place first) (elaborated scope first)) (elaborated_operands scope rest))
         (expression_typed first g.0.0)
         (λ n h. truth_typed chain.And refl (truth_refusals (first_place first) (elaborated scope first)) (expression_type (elaborated scope first).node) rest g.1.0 n h)
         (truth_end chain.And refl (truth_refusals (first_place first) (elaborated scope first)) (expression_type (elaborated scope first).node) rest g.1.1)
     expression_typed (Chain chain.Or first rest) g =
-        truth_chain_from (first_place first) (elaborated scope first) (truth_links scope chain.Or (truth_refusals (first_place first) (elaborated scope first)) rest)
+        truth_chain_from (first_place first) (elaborated scope first) (truth_links chain.Or (truth_refusals (first_place first) (elaborated scope first)) (elaborated_operands scope rest))
         (expression_typed first g.0.0)
         (λ n h. truth_typed chain.Or refl (truth_refusals (first_place first) (elaborated scope first)) (expression_type (elaborated scope first).node) rest g.1.0 n h)
         (truth_end chain.Or refl (truth_refusals (first_place first) (elaborated scope first)) (expression_type (elaborated scope first).node) rest g.1.1)
     expression_typed (Chain chain.Sum first rest) g =
         let x = elaborated scope first in
-        value_chain_from x (value_links scope chain.Sum x.typing (expression_type x.node) x.refusals rest) (expression_typed first g.0.0)
-        (λ l h. value_typed chain.Sum refl x.typing (expression_type x.node) x.refusals rest g.1.0 l h)
+        value_chain_from x (value_links chain.Sum (chain_of_first x) (elaborated_operands scope rest)) (expression_typed first g.0.0)
+        (λ l h. value_typed chain.Sum refl (chain_of_first x) rest g.1.0 l h)
     expression_typed (Chain chain.Product first rest) g =
         let x = elaborated scope first in
-        value_chain_from x (value_links scope chain.Product x.typing (expression_type x.node) x.refusals rest) (expression_typed first g.0.0)
-        (λ l h. value_typed chain.Product refl x.typing (expression_type x.node) x.refusals rest g.1.0 l h)
+        value_chain_from x (value_links chain.Product (chain_of_first x) (elaborated_operands scope rest)) (expression_typed first g.0.0)
+        (λ l h. value_typed chain.Product refl (chain_of_first x) rest g.1.0 l h)
     expression_typed (Chain chain.Concatenation first rest) g =
         let x = elaborated scope first in
-        value_chain_from x (value_links scope chain.Concatenation x.typing (expression_type x.node) x.refusals rest) (expression_typed first g.0.0)
-        (λ l h. value_typed chain.Concatenation refl x.typing (expression_type x.node) x.refusals rest g.1.0 l h)
+        value_chain_from x (value_links chain.Concatenation (chain_of_first x) (elaborated_operands scope rest)) (expression_typed first g.0.0)
+        (λ l h. value_typed chain.Concatenation refl (chain_of_first x) rest g.1.0 l h)
     expression_typed (Comparison left operator right) g =
         comparison_typed names operator (elaborated scope left) (elaborated scope right) (expression_typed left g.0.0) (expression_typed right g.2.0)
     expression_typed (Not operator operand) g = not_typed names (first_place operand) (elaborated scope operand) (expression_typed operand g.1.0)
 
     -- the further operands of a chain of `and` or `or`
     truth_typed : (kind : ChainKind) → is_truth_chain kind ≡ true → (before : TypeRefusals) (ty : Ty) (rest : Operands) → AreOperands kind rest
-        → (before ≡ [] → IsNumeric ty) → (truth_links scope kind before rest).refusals ≡ []
-        → (before ≡ []) × AreTypedLinks names ty (truth_links scope kind before rest).links
+        → (before ≡ [] → IsNumeric ty) → (truth_links kind before (elaborated_operands scope rest)).refusals ≡ []
+        → (before ≡ []) × AreTypedLinks names ty (truth_links kind before (elaborated_operands scope rest)).links
     truth_typed kind k before ty NoOperand g n h = (h, tt)
     truth_typed chain.And k before ty (Operand operator value rest) g n h =
         let x = elaborated scope value in
@@ -296,20 +296,21 @@ module _ (scope : TypeScope) (names : NamesInScope) (stands : ScopeStands scope 
     truth_typed chain.Concatenation k before ty (Operand operator value rest) g n h = cc
 
     -- those of another chain
-    value_typed : (kind : ChainKind) → is_truth_chain kind ≡ false → (left : Typing) (ty : Ty) (before : TypeRefusals) (rest : Operands) → AreOperands kind rest
-        → (before ≡ [] → IsLeft left ty) → (value_links scope kind left ty before rest).refusals ≡ []
-        → (before ≡ []) × AreTypedLinks names ty (value_links scope kind left ty before rest).links
-        × (in_bounds (chain_type ty (value_links scope kind left ty before rest).links) ≡ true)
-    value_typed kind k left ty before NoOperand g l h = (h, tt, left_in_bounds left ty (l h))
-    value_typed kind k left ty before (Operand operator value rest) g l h =
+    value_typed : (kind : ChainKind) → is_truth_chain kind ≡ false → (left : ChainSoFar) (rest : Operands) → AreOperands kind rest
+        → (left.refusals ≡ [] → IsLeft left.typing left.ty) → (value_links kind left (elaborated_operands scope rest)).refusals ≡ []
+        → (left.refusals ≡ []) × AreTypedLinks names left.ty (value_links kind left (elaborated_operands scope rest)).links
+        × (in_bounds (chain_type left.ty (value_links kind left (elaborated_operands scope rest)).links) ≡ true)
+    value_typed kind k left NoOperand g l h = (h, tt, left_in_bounds left.typing left.ty (l h))
+    value_typed kind k left (Operand operator value rest) g l h =
         let x = elaborated scope value in
-        let own = link_refusals kind operator left x in
-        let link = elaborated_link kind operator ty x.node in
-        let fits : before ++ own ≡ [] → LinkFits names ty link =
-        λ e. let q = both_empty before own e in next_link names kind k operator left ty x (l q.0) (expression_typed value g.1.0) q.1 in
-        let p = value_typed kind k (typing_behind (before ++ own) link.ty) link.ty (before ++ own) rest g.2 (λ e. left_behind (before ++ own) link.ty (fits e).bounds e) h in
+        let own = link_refusals kind operator left.typing x in
+        let broken = left.refusals ++ own in
+        let link = elaborated_link kind operator left.ty x.node in
+        let fits : broken ≡ [] → LinkFits names left.ty link =
+        λ e. let q = both_empty left.refusals own e in next_link names kind k operator left.typing left.ty x (l q.0) (expression_typed value g.1.0) q.1 in
+        let p = value_typed kind k (chain_up_to link broken) rest g.2 (λ e. left_behind broken link.ty (fits e).bounds e) h in
         let f = fits p.0 in
-        ((both_empty before own p.0).0, (f.operand, f.left, p.1), p.2)
+        ((both_empty left.refusals own p.0).0, (f.operand, f.left, p.1), p.2)
 
     -- arguments in order
     pub arguments_typed : (xs : Arguments) → AreArguments xs → AllByRecursion (IsSoundArgument names) (elaborated_arguments scope xs)

@@ -356,16 +356,53 @@ elaborated_call scope (callee.Function name) xs = elaborated_named_call scope na
 elaborated_call scope (callee.Null keyword) xs = elaborated_null_test keyword.place xs
 elaborated_call scope (callee.Method object dot method) xs = elaborated_object_call object method xs (object_in_scope scope (spelled_name object))
 
--- ---- expressions
+-- ---- chains
+
+-- a further operand of a chain: the operator before it, the place of its first token, and what becomes of it
+pub record ElaboratedOperand : Type 0 where
+  pub operator : Token
+  pub place : Place
+  pub value : ElaboratedExpression
 
 -- what becomes of the further operands of a chain: the rules that are broken up to its end, and the links
 pub record ElaboratedLinks : Type 0 where
   pub refusals : TypeRefusals
   pub links : tree.Links
 
+-- the end of a chain in which these rules are broken
+abbrev pub end_of_links : TypeRefusals → ElaboratedLinks
+end_of_links broken = record { refusals = broken; links = tree.NoLink }
+
 -- a link in front of further ones
 abbrev pub with_link : ElaboratedLink → ElaboratedLinks → ElaboratedLinks
 with_link link rest = record { refusals = rest.refusals; links = tree.Link link.widens link.operation link.operand link.ty rest.links }
+
+-- the further operands of a chain of `and` or `or`, behind these broken rules: each is a condition, by itself
+abbrev pub truth_links : ChainKind → (broken : TypeRefusals) → List ElaboratedOperand → ElaboratedLinks
+truth_links kind broken [] = end_of_links broken
+truth_links kind broken (x ∷ xs) =
+    with_link (elaborated_link kind x.operator BigInt x.value.node) (truth_links kind (broken ++ truth_refusals x.place x.value) xs)
+
+-- a chain of `and` or `or`, whose first token stands at this place, is a BIGINT always; its first operand is a condition too
+abbrev pub elaborated_truth_chain : ChainKind → Place → ElaboratedExpression → List ElaboratedOperand → ElaboratedExpression
+elaborated_truth_chain kind place first rest =
+    let further = truth_links kind (truth_refusals place first) rest in
+    form_of_type BigInt further.refusals (tree.Chain first.node further.links)
+
+-- all that stands left of an operator of another chain: what is known of its type, the type that its typed expression has, and the rules
+-- that are broken in it
+pub record ChainSoFar : Type 0 where
+  pub typing : Typing
+  pub ty : Ty
+  pub refusals : TypeRefusals
+
+-- left of the first operator stands the first operand
+abbrev pub chain_of_first : ElaboratedExpression → ChainSoFar
+chain_of_first x = record { typing = x.typing; ty = expression_type x.node; refusals = x.refusals }
+
+-- left of each further operator stands the chain up to the link before it; its type is known where no rule is broken in it
+abbrev pub chain_up_to : ElaboratedLink → (broken : TypeRefusals) → ChainSoFar
+chain_up_to link broken = record { typing = typing_behind broken link.ty; ty = link.ty; refusals = broken }
 
 -- a further operand of a chain breaks its own rules; it and what stands before it are each such as the operator takes them, else
 -- TypeClash at the operator, and null may stand on neither side; what is wrong with both together is looked at where both are known
@@ -376,17 +413,32 @@ link_refusals kind operator left x =
     ++ operand_clash (is_operand_type kind) operator.place x.typing
     ++ where_both_known left x.typing (pair_refusals kind operator)
 
--- the operands of a chain of `and` or `or` are numbers, each by itself
+-- the further operands of another chain, from the left: each operator takes what stands left of it and the operand behind it
+abbrev pub value_links : ChainKind → (left : ChainSoFar) → List ElaboratedOperand → ElaboratedLinks
+value_links kind left [] = end_of_links left.refusals
+value_links kind left (x ∷ xs) =
+    let link = elaborated_link kind x.operator left.ty x.value.node in
+    let broken = left.refusals ++ link_refusals kind x.operator left.typing x.value in
+    with_link link (value_links kind (chain_up_to link broken) xs)
+
+-- a chain of numbers or of texts, whose type depends on its operands
+abbrev pub elaborated_value_chain : ChainKind → ElaboratedExpression → List ElaboratedOperand → ElaboratedExpression
+elaborated_value_chain kind first rest =
+    let further = value_links kind (chain_of_first first) rest in
+    form_of_operands further.refusals (tree.Chain first.node further.links)
+
+-- a chain of `and` or `or`, and no other
 abbrev pub is_truth_chain : ChainKind → Bool
 is_truth_chain chain.And = true
 is_truth_chain chain.Or = true
 is_truth_chain _ = false
 
--- a chain: that of `and` or `or` is a BIGINT always
-abbrev pub elaborated_chain : ChainKind → ElaboratedExpression → ElaboratedLinks → ElaboratedExpression
-elaborated_chain kind x rest =
-    if is_truth_chain kind then form_of_type BigInt rest.refusals (tree.Chain x.node rest.links)
-    else form_of_operands rest.refusals (tree.Chain x.node rest.links)
+-- a chain of this first operand, whose first token stands at this place, and these further ones
+abbrev pub elaborated_chain : ChainKind → Place → ElaboratedExpression → List ElaboratedOperand → ElaboratedExpression
+elaborated_chain kind place first rest =
+    if is_truth_chain kind then elaborated_truth_chain kind place first rest else elaborated_value_chain kind first rest
+
+-- ---- expressions
 
 module _ (scope : TypeScope) where
   abbrev mutual
@@ -399,28 +451,15 @@ module _ (scope : TypeScope) where
     elaborated (Call f opening arguments closing) = elaborated_call scope f (elaborated_arguments arguments)
     elaborated (Parenthesis opening inner closing) = elaborated inner
     elaborated (Sign operator operand) = elaborated_sign operator (elaborated operand)
-    elaborated (Chain kind first rest) =
-        let x = elaborated first in
-        if is_truth_chain kind then elaborated_chain kind x (truth_links kind (truth_refusals (first_place first) x) rest)
-        else elaborated_chain kind x (value_links kind x.typing (expression_type x.node) x.refusals rest)
+    elaborated (Chain kind first rest) = elaborated_chain kind (first_place first) (elaborated first) (elaborated_operands rest)
     elaborated (Comparison left operator right) = elaborated_comparison operator (elaborated left) (elaborated right)
     elaborated (Not operator operand) = elaborated_not (first_place operand) (elaborated operand)
 
-    -- the further operands of a chain of `and` or `or`, behind these broken rules
-    pub truth_links : ChainKind → TypeRefusals → Operands → ElaboratedLinks
-    truth_links kind before NoOperand = record { refusals = before; links = tree.NoLink }
-    truth_links kind before (Operand operator value rest) =
-        let x = elaborated value in
-        with_link (elaborated_link kind operator BigInt x.node) (truth_links kind (before ++ truth_refusals (first_place value) x) rest)
-
-    -- the further operands of another chain, behind what has this type and breaks these rules
-    pub value_links : ChainKind → Typing → Ty → TypeRefusals → Operands → ElaboratedLinks
-    value_links kind left ty before NoOperand = record { refusals = before; links = tree.NoLink }
-    value_links kind left ty before (Operand operator value rest) =
-        let x = elaborated value in
-        let broken = before ++ link_refusals kind operator left x in
-        let link = elaborated_link kind operator ty x.node in
-        with_link link (value_links kind (typing_behind broken link.ty) link.ty broken rest)
+    -- what becomes of the further operands of a chain, in order
+    pub elaborated_operands : Operands → List ElaboratedOperand
+    elaborated_operands NoOperand = []
+    elaborated_operands (Operand operator value rest) =
+        record { operator = operator; place = first_place value; value = elaborated value } ∷ elaborated_operands rest
 
     -- what becomes of arguments, in order
     pub elaborated_arguments : Arguments → List ElaboratedArgument

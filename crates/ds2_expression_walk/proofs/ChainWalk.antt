@@ -6,7 +6,6 @@ use Rattle.ds2_base.specs.declared.place.Refusal.{Refusal}
 use Rattle.ds2_base.specs.declared.stop.OutOfMemory.{OutOfMemory}
 use Rattle.ds2_value.specs.declared.ty.Ty.{Ty}
 use Rattle.ds2_value.specs.declared.ty.Ty.TheVariants.{BigInt}
-use Rattle.ds2_meaning.specs.IsTyped.{expression_type}
 use Rattle.ds2_meaning.specs.TypedExpression as tree
 use Rattle.ds2_meaning.specs.declared.refusals.TypeKind.{TypeKind}
 use Rattle.ds2_token.specs.declared.token.Token.{Token}
@@ -15,10 +14,9 @@ use Rattle.ds2_tree.specs.ExpressionViews.{expression_tree, operands_of}
 use Rattle.ds2_tree.specs.declared.expressions.ChainKind.{ChainKind}
 use Rattle.ds2_tree.specs.declared.expressions.Operand as code_operand
 use Rattle.ds2_names.specs.Uses.{first_place}
-use Rattle.ds2_elaboration.specs.ExpressionTypes.{TypeScope, ElaboratedLinks, with_link, link_refusals, is_truth_chain, elaborated_chain, elaborated, value_links, truth_links}
+use Rattle.ds2_elaboration.specs.ExpressionTypes.{TypeScope, ElaboratedOperand, ElaboratedLinks, end_of_links, with_link, truth_links, elaborated_truth_chain, ChainSoFar, chain_of_first, chain_up_to, link_refusals, value_links, elaborated_value_chain, is_truth_chain, elaborated_chain, elaborated, elaborated_operands}
 use Rattle.ds2_elaboration.specs.OperatorTypes.{ElaboratedLink, elaborated_link}
 use Rattle.ds2_elaboration.specs.Typings.{TypeRefusals, Typing, ElaboratedExpression, form_of_type, form_of_operands, typing_behind, truth_refusals}
-use Rattle.ds2_expression_walk.specs.ChainForms.{chain_behind}
 use Rattle.ds2_expression_types.specs.ChainLinks.{links_in_order}
 use Rattle.ds2_expression_types.specs.Growth.{IsGrownChain, IsGrowth}
 use Rattle.ds2_expression_types.specs.declared.growth.Grown.{Grown}
@@ -36,7 +34,7 @@ before_push [] l rest = refl
 before_push (k ∷ ls) l rest = ap (λ (m : ElaboratedLinks). with_link k m) (before_push ls l rest)
 
 before_end : (ls : List ElaboratedLink) (refusals : TypeRefusals)
-    → links_before ls (record { refusals = refusals; links = tree.NoLink }) ≡ record { refusals = refusals; links = links_in_order ls }
+    → links_before ls (end_of_links refusals) ≡ record { refusals = refusals; links = links_in_order ls }
 before_end [] refusals = refl
 before_end (l ∷ ls) refusals = ap (λ (m : ElaboratedLinks). with_link l m) (before_end ls refusals)
 
@@ -55,11 +53,9 @@ last_operand os i h = at_drop_all operands_of os i h
 -- a chain as far as it was walked: what is still to come of all operands comes of those that are left
 pub record HasGrown (scope : TypeScope) (kind : ChainKind) (e : ElaboratedExpression) (all rest : Operands) (g : code_growth.Growth) : Type 0 where
   pub links : List ElaboratedLink
-  pub ty : Ty
-  pub refusals : TypeRefusals
-  pub left : Typing
-  pub grown : IsGrowth e.node links ty refusals left g
-  pub same : value_links scope kind e.typing (expression_type e.node) e.refusals all ≡ links_before links (value_links scope kind left ty refusals rest)
+  pub left : ChainSoFar
+  pub grown : IsGrowth e.node links left.ty left.refusals left.typing g
+  pub same : value_links kind (chain_of_first e) (elaborated_operands scope all) ≡ links_before links (value_links kind left (elaborated_operands scope rest))
 
 -- what a chain with one more operand is to be
 abbrev pub Grows : ChainKind → tree.TypedExpression → Token → ElaboratedExpression → code_growth.Growth → code_growth.Growth → Type 0
@@ -70,54 +66,41 @@ Grows kind first operator x g next =
 
 module _ (scope : TypeScope) (kind : ChainKind) (e : ElaboratedExpression) (all : Operands) where
   pub begun : (g : code_growth.Growth) → IsGrowth e.node [] (expression_type e.node) e.refusals e.typing g → HasGrown scope kind e all all g
-  begun g h = record { links = []; ty = expression_type e.node; refusals = e.refusals; left = e.typing; grown = h; same = refl }
+  begun g h = record { links = []; left = chain_of_first e; grown = h; same = refl }
 
   pub grown_on : (operator : Token) (value : Expression) (more rest : Operands) (g next : code_growth.Growth) → HasGrown scope kind e all more g
       → more ≡ Operand operator value rest → Grows kind e.node operator (elaborated scope value) g next → HasGrown scope kind e all rest next
   grown_on operator value more rest g next h m further =
-      let link = elaborated_link kind operator h.ty (elaborated scope value).node in
-      let broken = h.refusals ++ link_refusals kind operator h.left (elaborated scope value) in
+      let link = elaborated_link kind operator h.left.ty (elaborated scope value).node in
+      let left = chain_up_to link (h.left.refusals ++ link_refusals kind operator h.left.typing (elaborated scope value)) in
       record {
         links = h.links ++ link ∷ [];
-        ty = link.ty;
-        refusals = broken;
-        left = typing_behind broken link.ty;
-        grown = further h.links h.ty h.refusals h.left h.grown;
+        left = left;
+        grown = further h.links h.left.ty h.left.refusals h.left.typing h.grown;
         same =
-            h.same ∙ ap (λ (os : Operands). links_before h.links (value_links scope kind h.left h.ty h.refusals os)) m
-            ∙ before_push h.links link (value_links scope kind (typing_behind broken link.ty) link.ty broken rest);
+            h.same ∙ ap (λ (os : Operands). links_before h.links (value_links kind h.left (elaborated_operands scope os))) m
+            ∙ before_push h.links link (value_links kind left (elaborated_operands scope rest));
       }
 
-  value_form : (l : ElaboratedLinks) → is_truth_chain kind ≡ false → form_of_operands l.refusals (tree.Chain e.node l.links) ≡ elaborated_chain kind e l
-  value_form l h = by (is_truth_chain kind) h
-    where
-      by : (b : Bool) → b ≡ false
-          → form_of_operands l.refusals (tree.Chain e.node l.links)
-          ≡ (if b then form_of_type BigInt l.refusals (tree.Chain e.node l.links) else form_of_operands l.refusals (tree.Chain e.node l.links))
-      by true k = cc
-      by false k = refl
-
   -- the chain as a whole
-  pub grown_whole : (rest : Operands) (g : code_growth.Growth) (result : Result Judgement OutOfMemory) → is_truth_chain kind ≡ false → HasGrown scope kind e all rest g → rest ≡ NoOperand
+  pub grown_whole : (rest : Operands) (g : code_growth.Growth) (result : Result Judgement OutOfMemory) → HasGrown scope kind e all rest g → rest ≡ NoOperand
       → ((links : List ElaboratedLink) (ty : Ty) (refusals : TypeRefusals) (left : Typing) → IsGrowth e.node links ty refusals left g
       → Judges (form_of_operands refusals (tree.Chain e.node (links_in_order links))) result)
-      → Judges (elaborated_chain kind e (value_links scope kind e.typing (expression_type e.node) e.refusals all)) result
-  grown_whole rest g result t h m further =
-      let walked = value_links scope kind e.typing (expression_type e.node) e.refusals all in
-      let same : walked ≡ record { refusals = h.refusals; links = links_in_order h.links } =
-      h.same ∙ ap (λ (os : Operands). links_before h.links (value_links scope kind h.left h.ty h.refusals os)) m ∙ before_end h.links h.refusals in
-      subst (λ (x : ElaboratedExpression). Judges x result)
-      (ap (λ (l : ElaboratedLinks). form_of_operands l.refusals (tree.Chain e.node l.links)) (sym same) ∙ value_form walked t)
-      (further h.links h.ty h.refusals h.left h.grown)
+      → Judges (elaborated_value_chain kind e (elaborated_operands scope all)) result
+  grown_whole rest g result h m further =
+      let same : value_links kind (chain_of_first e) (elaborated_operands scope all) ≡ record { refusals = h.left.refusals; links = links_in_order h.links } =
+      h.same ∙ ap (λ (os : Operands). links_before h.links (value_links kind h.left (elaborated_operands scope os))) m ∙ before_end h.links h.left.refusals in
+      subst (λ (l : ElaboratedLinks). Judges (form_of_operands l.refusals (tree.Chain e.node l.links)) result) (sym same)
+      (further h.links h.left.ty h.left.refusals h.left.typing h.grown)
 
 -- ---- `and` and `or`
 
--- a chain as far as it was walked
-pub record HasGrownTruth (scope : TypeScope) (kind : ChainKind) (e : ElaboratedExpression) (before : TypeRefusals) (all rest : Operands) (g : Result Grown (Refusal TypeKind)) : Type 0 where
+-- a chain as far as it was walked, whose first token stands at this place
+pub record HasGrownTruth (scope : TypeScope) (kind : ChainKind) (start : Place) (e : ElaboratedExpression) (all rest : Operands) (g : Result Grown (Refusal TypeKind)) : Type 0 where
   pub links : List ElaboratedLink
   pub refusals : TypeRefusals
   pub grown : IsOutcome (IsGrownChain e.node links BigInt) refusals g
-  pub same : truth_links scope kind before all ≡ links_before links (truth_links scope kind refusals rest)
+  pub same : truth_links kind (truth_refusals start e) (elaborated_operands scope all) ≡ links_before links (truth_links kind refusals (elaborated_operands scope rest))
 
 -- what a chain with one more operand is to be
 abbrev pub GrowsTruth : ChainKind → tree.TypedExpression → Token → Place → ElaboratedExpression → Result Grown (Refusal TypeKind) → Result Grown (Refusal TypeKind) → Type 0
@@ -125,13 +108,13 @@ GrowsTruth kind first operator place x g next =
     (links : List ElaboratedLink) (refusals : TypeRefusals) → IsOutcome (IsGrownChain first links BigInt) refusals g
     → IsOutcome (IsGrownChain first (links ++ elaborated_link kind operator BigInt x.node ∷ []) BigInt) (refusals ++ truth_refusals place x) next
 
-module _ (scope : TypeScope) (kind : ChainKind) (e : ElaboratedExpression) (before : TypeRefusals) (all : Operands) where
-  pub begun_truth : (g : Result Grown (Refusal TypeKind)) → IsOutcome (IsGrownChain e.node [] BigInt) before g → HasGrownTruth scope kind e before all all g
-  begun_truth g h = record { links = []; refusals = before; grown = h; same = refl }
+module _ (scope : TypeScope) (kind : ChainKind) (start : Place) (e : ElaboratedExpression) (all : Operands) where
+  pub begun_truth : (g : Result Grown (Refusal TypeKind)) → IsOutcome (IsGrownChain e.node [] BigInt) (truth_refusals start e) g → HasGrownTruth scope kind start e all all g
+  begun_truth g h = record { links = []; refusals = truth_refusals start e; grown = h; same = refl }
 
   pub grown_on_truth : (operator : Token) (value : Expression) (place : Place) (more rest : Operands) (g next : Result Grown (Refusal TypeKind))
-      → HasGrownTruth scope kind e before all more g → more ≡ Operand operator value rest → place ≡ first_place value
-      → GrowsTruth kind e.node operator place (elaborated scope value) g next → HasGrownTruth scope kind e before all rest next
+      → HasGrownTruth scope kind start e all more g → more ≡ Operand operator value rest → place ≡ first_place value
+      → GrowsTruth kind e.node operator place (elaborated scope value) g next → HasGrownTruth scope kind start e all rest next
   grown_on_truth operator value place more rest g next h m p further =
       let link = elaborated_link kind operator BigInt (elaborated scope value).node in
       let broken = h.refusals ++ truth_refusals (first_place value) (elaborated scope value) in
@@ -142,51 +125,33 @@ module _ (scope : TypeScope) (kind : ChainKind) (e : ElaboratedExpression) (befo
             subst (λ (q : Place). IsOutcome (IsGrownChain e.node (h.links ++ link ∷ []) BigInt) (h.refusals ++ truth_refusals q (elaborated scope value)) next) p
             (further h.links h.refusals h.grown);
         same =
-            h.same ∙ ap (λ (os : Operands). links_before h.links (truth_links scope kind h.refusals os)) m
-            ∙ before_push h.links link (truth_links scope kind broken rest);
+            h.same ∙ ap (λ (os : Operands). links_before h.links (truth_links kind h.refusals (elaborated_operands scope os))) m
+            ∙ before_push h.links link (truth_links kind broken (elaborated_operands scope rest));
       }
 
-  truth_form : (l : ElaboratedLinks) → is_truth_chain kind ≡ true → form_of_type BigInt l.refusals (tree.Chain e.node l.links) ≡ elaborated_chain kind e l
-  truth_form l h = by (is_truth_chain kind) h
-    where
-      by : (b : Bool) → b ≡ true
-          → form_of_type BigInt l.refusals (tree.Chain e.node l.links)
-          ≡ (if b then form_of_type BigInt l.refusals (tree.Chain e.node l.links) else form_of_operands l.refusals (tree.Chain e.node l.links))
-      by true k = refl
-      by false k = cc
-
   -- the chain as a whole
-  pub grown_whole_truth : (rest : Operands) (g : Result Grown (Refusal TypeKind)) (result : Result Judgement OutOfMemory) → is_truth_chain kind ≡ true
-      → HasGrownTruth scope kind e before all rest g → rest ≡ NoOperand
+  pub grown_whole_truth : (rest : Operands) (g : Result Grown (Refusal TypeKind)) (result : Result Judgement OutOfMemory) → HasGrownTruth scope kind start e all rest g → rest ≡ NoOperand
       → ((links : List ElaboratedLink) (refusals : TypeRefusals) → IsOutcome (IsGrownChain e.node links BigInt) refusals g
       → Judges (form_of_type BigInt refusals (tree.Chain e.node (links_in_order links))) result)
-      → Judges (elaborated_chain kind e (truth_links scope kind before all)) result
-  grown_whole_truth rest g result t h m further =
-      let walked = truth_links scope kind before all in
-      let same : walked ≡ record { refusals = h.refusals; links = links_in_order h.links } =
-      h.same ∙ ap (λ (os : Operands). links_before h.links (truth_links scope kind h.refusals os)) m ∙ before_end h.links h.refusals in
-      subst (λ (x : ElaboratedExpression). Judges x result)
-      (ap (λ (l : ElaboratedLinks). form_of_type BigInt l.refusals (tree.Chain e.node l.links)) (sym same) ∙ truth_form walked t) (further h.links h.refusals h.grown)
+      → Judges (elaborated_truth_chain kind start e (elaborated_operands scope all)) result
+  grown_whole_truth rest g result h m further =
+      let same : truth_links kind (truth_refusals start e) (elaborated_operands scope all) ≡ record { refusals = h.refusals; links = links_in_order h.links } =
+      h.same ∙ ap (λ (os : Operands). links_before h.links (truth_links kind h.refusals (elaborated_operands scope os))) m ∙ before_end h.links h.refusals in
+      subst (λ (l : ElaboratedLinks). Judges (form_of_type BigInt l.refusals (tree.Chain e.node l.links)) result) (sym same) (further h.links h.refusals h.grown)
 
 -- ---- both
 
-module _ (scope : TypeScope) (kind : ChainKind) (place : Place) (e : ElaboratedExpression) (rest : Operands) (result : Result Judgement OutOfMemory) where
-  pub chain_of_truth : is_truth_chain kind ≡ true → Judges (elaborated_chain kind e (truth_links scope kind (truth_refusals place e) rest)) result
-      → Judges (chain_behind scope kind place e rest) result
+module _ (kind : ChainKind) (place : Place) (e : ElaboratedExpression) (rest : List ElaboratedOperand) (result : Result Judgement OutOfMemory) where
+  pub chain_of_truth : is_truth_chain kind ≡ true → Judges (elaborated_truth_chain kind place e rest) result → Judges (elaborated_chain kind place e rest) result
   chain_of_truth h k = by (is_truth_chain kind) h
     where
-      by : (b : Bool) → b ≡ true
-          → Judges (if b then elaborated_chain kind e (truth_links scope kind (truth_refusals place e) rest)
-          else elaborated_chain kind e (value_links scope kind e.typing (expression_type e.node) e.refusals rest)) result
+      by : (b : Bool) → b ≡ true → Judges (if b then elaborated_truth_chain kind place e rest else elaborated_value_chain kind e rest) result
       by true g = k
       by false g = cc
 
-  pub chain_of_values : is_truth_chain kind ≡ false → Judges (elaborated_chain kind e (value_links scope kind e.typing (expression_type e.node) e.refusals rest)) result
-      → Judges (chain_behind scope kind place e rest) result
+  pub chain_of_values : is_truth_chain kind ≡ false → Judges (elaborated_value_chain kind e rest) result → Judges (elaborated_chain kind place e rest) result
   chain_of_values h k = by (is_truth_chain kind) h
     where
-      by : (b : Bool) → b ≡ false
-          → Judges (if b then elaborated_chain kind e (truth_links scope kind (truth_refusals place e) rest)
-          else elaborated_chain kind e (value_links scope kind e.typing (expression_type e.node) e.refusals rest)) result
+      by : (b : Bool) → b ≡ false → Judges (if b then elaborated_truth_chain kind place e rest else elaborated_value_chain kind e rest) result
       by true g = cc
       by false g = k

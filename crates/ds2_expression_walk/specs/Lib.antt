@@ -1,3 +1,2 @@
 pub mod ArgumentCounts
 pub mod FunctionNames
-pub mod ChainForms

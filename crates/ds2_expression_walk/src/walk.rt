@@ -1,7 +1,8 @@
 //! Expressions: what is known of their types, and their typed trees or the rules that they break.
 ghost use Rattle.std.specs.Prelude.{◌≡◌, ◌++◌, ◌∷◌, [], true, false, List as Items, IfOk, Some, map};
-ghost use Rattle.ds2_elaboration.specs.ExpressionTypes.{TypeScope, ObjectCalls, is_truth_chain, arguments_for, values_for, object_in_scope, elaborated_named_call, elaborated_instance_call, elaborated_object_call, elaborated_call, elaborated_chain, value_links, truth_links, elaborated, elaborated_arguments};
-ghost use Rattle.ds2_elaboration.specs.Typings.{TypeRefusals, ElaboratedExpression, clash_unless, form_of_operands};
+ghost use Rattle.ds2_base.specs.declared.place.Place.{Place as PlaceOf};
+ghost use Rattle.ds2_elaboration.specs.ExpressionTypes.{TypeScope, ObjectCalls, is_truth_chain, arguments_for, values_for, object_in_scope, elaborated_named_call, elaborated_instance_call, elaborated_object_call, elaborated_call, elaborated_truth_chain, elaborated_value_chain, elaborated_chain, elaborated, elaborated_operands, elaborated_arguments};
+ghost use Rattle.ds2_elaboration.specs.Typings.{TypeRefusals, ElaboratedExpression, clash_unless, form_of_operands, truth_refusals};
 ghost use Rattle.ds2_meaning.specs.IsTyped.{expression_type};
 ghost use Rattle.ds2_meaning.specs.TypedExpression as typed;
 ghost use Rattle.ds2_meaning.specs.declared.globals.Variable.{Variable};
@@ -14,7 +15,6 @@ ghost use Rattle.ds2_types.specs.Judgements.{IsOutcome, IsJudged, Judges};
 ghost use Rattle.ds2_value.specs.declared.ty.Ty.TheVariants.{BigInt};
 ghost use Rattle.ds2_expression_types.specs.Arguments.{AreJudged};
 ghost use Rattle.ds2_reference_types.specs.ArgumentTrees.{argument_in};
-ghost use Rattle.ds2_expression_walk.specs.ChainForms.{chain_behind};
 ghost use Rattle.ds2_expression_types.specs.Growth.{IsGrownChain, IsGrowth};
 ghost use Rattle.ds2_reference_types.specs.Passing.{ArePassed, AreAllPassed, passed_part, passed_refusals};
 ghost use Rattle.ds2_reference_types.specs.Scopes.{AreKnownMethods, IsKnownObject, IsScopeOf, value_parameter};
@@ -51,8 +51,8 @@ fn value_chain(
     kind: ChainKind,
     begun: Growth,
 ) -> Result<Judgement, OutOfMemory>
-    ensures { (types : TypeScope) (e : ElaboratedExpression) → IsScopeOf types scope.now → is_truth_chain kind ≡ false → IsGrowth e.node [] (expression_type e.node) e.refusals e.typing begun
-        → Judges (elaborated_chain kind e (value_links types kind e.typing (expression_type e.node) e.refusals (operands_of rest.now))) result }
+    ensures { (types : TypeScope) (e : ElaboratedExpression) → IsScopeOf types scope.now → IsGrowth e.node [] (expression_type e.node) e.refusals e.typing begun
+        → Judges (elaborated_value_chain kind e (elaborated_operands types (operands_of rest.now))) result }
 {
     let mut growth = begun;
     'operands: for operand in rest {
@@ -71,8 +71,8 @@ fn truth_chain(
     kind: ChainKind,
     begun: GrownOutcome,
 ) -> Result<Judgement, OutOfMemory>
-    ensures { (types : TypeScope) (e : ElaboratedExpression) (refusals : TypeRefusals) → IsScopeOf types scope.now → is_truth_chain kind ≡ true → IsOutcome (IsGrownChain e.node [] BigInt) refusals begun
-        → Judges (elaborated_chain kind e (truth_links types kind refusals (operands_of rest.now))) result }
+    ensures { (types : TypeScope) (e : ElaboratedExpression) (place : PlaceOf) → IsScopeOf types scope.now → is_truth_chain kind ≡ true → IsOutcome (IsGrownChain e.node [] BigInt) (truth_refusals place e) begun
+        → Judges (elaborated_truth_chain kind place e (elaborated_operands types (operands_of rest.now))) result }
 {
     let mut grown = begun;
     'operands: for operand in rest {
@@ -93,7 +93,7 @@ fn chain(
     place: Place,
     first: Judgement,
 ) -> Result<Judgement, OutOfMemory>
-    ensures { (types : TypeScope) (e : ElaboratedExpression) → IsScopeOf types scope.now → IsJudged e first → Judges (chain_behind types kind place e (operands_of rest.now)) result }
+    ensures { (types : TypeScope) (e : ElaboratedExpression) → IsScopeOf types scope.now → IsJudged e first → Judges (elaborated_chain kind place e (elaborated_operands types (operands_of rest.now))) result }
 {
     match kind {
         ChainKind::And => truth_chain(alloc, scope, rest, kind, seed_truth(alloc, place, first)),

@@ -1,7 +1,7 @@
 use Rattle.std.proofs.Common.{ℕ, ◌+◌, ◌++◌, false, List, map, Option, Some, None, drop, sym, ap, ◌∙◌, subst, arith}
 use Rattle.ds2_base.specs.declared.place.Place.{Place}
 use Rattle.ds2_elaboration.specs.OperatorTypes.{elaborated_not}
-use Rattle.ds2_elaboration.specs.Typings.{TypeRefusals, clash_unless, form_of_operands, truth_refusals}
+use Rattle.ds2_elaboration.specs.Typings.{TypeRefusals, clash_unless, form_of_operands}
 use Rattle.ds2_meaning.specs.TypedExpression as tree
 use Rattle.ds2_names.specs.SourceUnit.{spelled_name}
 use Rattle.ds2_types.specs.Judgements.{IsJudged, Judges}
@@ -17,14 +17,13 @@ use Rattle.ds2_tree.specs.declared.expressions.Operand as code_operand
 use Rattle.ds2_tree.specs.declared.expressions.Argument as code_argument
 use Rattle.ds2_meaning.specs.declared.methods.Parameter.{Parameter}
 use Rattle.ds2_tree.proofs.Rows.{chain_is, call_is}
-use Rattle.ds2_elaboration.specs.ExpressionTypes.{ObjectCalls, is_truth_chain, elaborated, elaborated_arguments, elaborated_member, arguments_for, result_of_method, elaborated_object_call, elaborated_call}
+use Rattle.ds2_elaboration.specs.ExpressionTypes.{ObjectCalls, is_truth_chain, elaborated_chain, elaborated, elaborated_operands, elaborated_arguments, elaborated_member, arguments_for, result_of_method, elaborated_object_call, elaborated_call}
 use Rattle.ds2_reference_types.specs.ArgumentTrees.{argument_in}
 use Rattle.ds2_reference_types.specs.Passing.{AreAllPassed}
 use Rattle.ds2_reference_types.specs.Scopes.{value_parameter, AreKnownCalls, IsInstance, IsThreadObject}
 use Rattle.ds2_reference_types.specs.declared.scopes.KnownCalls.{KnownCalls}
 use Rattle.ds2_reference_types.proofs.ObjectForms.{no_object, an_object, values_refused}
 use Rattle.ds2_reference_types.proofs.ArgumentWalk.{next_argument, last_argument, none_judged, one_judged, all_judged, HasPassed, none_passed, one_passed, too_many, at_their_end}
-use Rattle.ds2_expression_walk.specs.ChainForms.{chain_behind}
 use Rattle.ds2_expression_walk.proofs.ChainWalk.{next_operand, last_operand, begun, grown_on, grown_whole, begun_truth, grown_on_truth, grown_whole_truth, chain_of_truth, chain_of_values}
 use Rattle.ds2_expression_walk.proofs.Told.{IsJudgedAs, told, told_call, no_method, a_method, method_result, no_instance_method, an_instance_method}
 use Rattle.ds2_expression_walk.proofs.walk.+judge.Goals as goal
@@ -45,56 +44,56 @@ value_chain-operands-preserved t c = λ types e s g.
     (λ links ty refusals left h. c.in_ok-growth.ensures e.node links ty refusals left x h (c.in_ok-x.ensures types s))
 
 pub value_chain-returns : goal.value_chain-returns
-value_chain-returns t c = λ types e s k g.
+value_chain-returns t c = λ types e s g.
     let rest = c.args.rest.now in
-    grown_whole types c.args.kind e (operands_of rest) (operands_of (drop c.operands.operand-index rest)) c.operands.growth c.finished.result k (c.operands.invariant types e s g)
+    grown_whole types c.args.kind e (operands_of rest) (operands_of (drop c.operands.operand-index rest)) c.operands.growth c.finished.result (c.operands.invariant types e s g)
     (last_operand rest c.operands.operand-index (omega arith)) (λ links ty refusals left h. c.finished.ensures e.node links ty refusals left h)
 
 pub truth_chain-operands-init : goal.truth_chain-operands-init
-truth_chain-operands-init t c = λ types e refusals s k g. begun_truth types c.args.kind e refusals (operands_of c.args.rest.now) c.args.begun g
+truth_chain-operands-init t c = λ types e start s k g. begun_truth types c.args.kind start e (operands_of c.args.rest.now) c.args.begun g
 
 pub truth_chain-operands-preserved : goal.truth_chain-operands-preserved
-truth_chain-operands-preserved t c = λ types e refusals s k g.
+truth_chain-operands-preserved t c = λ types e start s k g.
     let o = c.operand-item.result in
     let i = c.operands.operand-index in
     let rest = c.args.rest.now in
     let x = elaborated types (expression_tree o.value) in
-    grown_on_truth types c.args.kind e refusals (operands_of rest) o.operator (expression_tree o.value) c.first_place-place.result (operands_of (drop i rest)) (operands_of (drop (i + 1) rest))
-    c.operands.grown c.in_ok-grown.grown (c.operands.invariant types e refusals s k g) (next_operand rest i o (omega arith) c.operand-item.is) c.first_place-place.ensures
+    grown_on_truth types c.args.kind start e (operands_of rest) o.operator (expression_tree o.value) c.first_place-place.result (operands_of (drop i rest)) (operands_of (drop (i + 1) rest))
+    c.operands.grown c.in_ok-grown.grown (c.operands.invariant types e start s k g) (next_operand rest i o (omega arith) c.operand-item.is) c.first_place-place.ensures
     (λ links before h. c.in_ok-grown.ensures e.node links before x k h (c.in_ok-x.ensures types s))
 
 pub truth_chain-returns : goal.truth_chain-returns
-truth_chain-returns t c = λ types e refusals s k g.
+truth_chain-returns t c = λ types e start s k g.
     let rest = c.args.rest.now in
-    grown_whole_truth types c.args.kind e refusals (operands_of rest) (operands_of (drop c.operands.operand-index rest)) c.operands.grown c.finished_truth.result k
-    (c.operands.invariant types e refusals s k g) (last_operand rest c.operands.operand-index (omega arith)) (λ links before h. c.finished_truth.ensures e.node links before h)
+    grown_whole_truth types c.args.kind start e (operands_of rest) (operands_of (drop c.operands.operand-index rest)) c.operands.grown c.finished_truth.result k
+    (c.operands.invariant types e start s k g) (last_operand rest c.operands.operand-index (omega arith)) (λ links before h. c.finished_truth.ensures e.node links before h)
 
 pub chain-returns-in-And : goal.chain-returns-in-And
 chain-returns-in-And t c = λ types e s h.
     let k = ap is_truth_chain c.in-And.is in
-    chain_of_truth types c.args.kind c.args.place e (operands_of c.args.rest.now) c.truth_chain.result k
-    (c.truth_chain.ensures types e (truth_refusals c.args.place e) s k (c.seed_truth.ensures e h))
+    chain_of_truth c.args.kind c.args.place e (elaborated_operands types (operands_of c.args.rest.now)) c.truth_chain.result k
+    (c.truth_chain.ensures types e c.args.place s k (c.seed_truth.ensures e h))
 
 pub chain-returns-in-Or : goal.chain-returns-in-Or
 chain-returns-in-Or t c = λ types e s h.
     let k = ap is_truth_chain c.in-Or.is in
-    chain_of_truth types c.args.kind c.args.place e (operands_of c.args.rest.now) c.truth_chain-in-Or.result k
-    (c.truth_chain-in-Or.ensures types e (truth_refusals c.args.place e) s k (c.seed_truth-in-Or.ensures e h))
+    chain_of_truth c.args.kind c.args.place e (elaborated_operands types (operands_of c.args.rest.now)) c.truth_chain-in-Or.result k
+    (c.truth_chain-in-Or.ensures types e c.args.place s k (c.seed_truth-in-Or.ensures e h))
 
 pub chain-returns-in-Concatenation : goal.chain-returns-in-Concatenation
 chain-returns-in-Concatenation t c = λ types e s h.
     let k = ap is_truth_chain c.in-Concatenation.is in
-    chain_of_values types c.args.kind c.args.place e (operands_of c.args.rest.now) c.value_chain.result k (c.value_chain.ensures types e s k (c.seed.ensures e h))
+    chain_of_values c.args.kind c.args.place e (elaborated_operands types (operands_of c.args.rest.now)) c.value_chain.result k (c.value_chain.ensures types e s (c.seed.ensures e h))
 
 pub chain-returns-in-Sum : goal.chain-returns-in-Sum
 chain-returns-in-Sum t c = λ types e s h.
     let k = ap is_truth_chain c.in-Sum.is in
-    chain_of_values types c.args.kind c.args.place e (operands_of c.args.rest.now) c.value_chain-in-Sum.result k (c.value_chain-in-Sum.ensures types e s k (c.seed-in-Sum.ensures e h))
+    chain_of_values c.args.kind c.args.place e (elaborated_operands types (operands_of c.args.rest.now)) c.value_chain-in-Sum.result k (c.value_chain-in-Sum.ensures types e s (c.seed-in-Sum.ensures e h))
 
 pub chain-returns-in-Product : goal.chain-returns-in-Product
 chain-returns-in-Product t c = λ types e s h.
     let k = ap is_truth_chain c.in-Product.is in
-    chain_of_values types c.args.kind c.args.place e (operands_of c.args.rest.now) c.value_chain-in-Product.result k (c.value_chain-in-Product.ensures types e s k (c.seed-in-Product.ensures e h))
+    chain_of_values c.args.kind c.args.place e (elaborated_operands types (operands_of c.args.rest.now)) c.value_chain-in-Product.result k (c.value_chain-in-Product.ensures types e s (c.seed-in-Product.ensures e h))
 
 -- ---- arguments
 
@@ -293,8 +292,8 @@ judge-returns-in_ok-x-in-Chain t c = λ types s.
     let x = elaborated types (expression_tree c.in-Chain.first.value) in
     let place = c.first_place-place.ensures ∙ ap (λ (e : code.Expression). first_place (expression_tree e)) c.deref-in-Chain.ensures in
     told types (expression_tree c.args.e.now) _ c.chain.result (chain_is _ _ _ _ c.in-Chain.is)
-    (subst (λ (p : Place). Judges (chain_behind types kind p x (operands_of c.in-Chain.rest)) c.chain.result) place
-    (subst (λ (l : List code_operand.Operand). Judges (chain_behind types kind c.first_place-place.result x (operands_of l)) c.chain.result) c.as_slice-in-Chain.ensures
+    (subst (λ (p : Place). Judges (elaborated_chain kind p x (elaborated_operands types (operands_of c.in-Chain.rest))) c.chain.result) place
+    (subst (λ (l : List code_operand.Operand). Judges (elaborated_chain kind c.first_place-place.result x (elaborated_operands types (operands_of l))) c.chain.result) c.as_slice-in-Chain.ensures
     (c.chain.ensures types x s (subst (IsJudgedAs types c.in_ok-x-in-Chain.x) c.deref-in-Chain-2.ensures (c.in_ok-x-in-Chain.ensures types s)))))
 
 pub judge-returns-in_ok-b-in-Comparison : goal.judge-returns-in_ok-b-in-Comparison

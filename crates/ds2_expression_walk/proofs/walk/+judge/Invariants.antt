@@ -1,7 +1,8 @@
 use Rattle.std.proofs.Common.{◌≡◌, true, [], drop}
+use Rattle.ds2_base.specs.declared.place.Place.{Place}
 use Rattle.ds2_value.specs.declared.ty.Ty.TheVariants.{BigInt}
 use Rattle.ds2_meaning.specs.IsTyped.{expression_type}
-use Rattle.ds2_elaboration.specs.Typings.{TypeRefusals, ElaboratedExpression}
+use Rattle.ds2_elaboration.specs.Typings.{ElaboratedExpression, truth_refusals}
 use Rattle.ds2_types.specs.Judgements.{IsOutcome}
 use Rattle.ds2_expression_types.specs.Growth.{IsGrownChain, IsGrowth}
 use Rattle.ds2_tree.specs.ExpressionViews.{operands_of, arguments_of}
@@ -18,9 +19,9 @@ invariant-value_chain-operands l =
 
 abbrev pub invariant-truth_chain-operands : goal.invariant-truth_chain-operands
 invariant-truth_chain-operands l =
-    (types : TypeScope) (e : ElaboratedExpression) (refusals : TypeRefusals) → IsScopeOf types l.scope → is_truth_chain l.kind ≡ true
-    → IsOutcome (IsGrownChain e.node [] BigInt) refusals l.fn.begun
-    → HasGrownTruth types l.kind e refusals (operands_of l.rest) (operands_of (drop l.operand-index l.rest)) l.grown
+    (types : TypeScope) (e : ElaboratedExpression) (place : Place) → IsScopeOf types l.scope → is_truth_chain l.kind ≡ true
+    → IsOutcome (IsGrownChain e.node [] BigInt) (truth_refusals place e) l.fn.begun
+    → HasGrownTruth types l.kind place e (operands_of l.rest) (operands_of (drop l.operand-index l.rest)) l.grown
 
 abbrev pub invariant-judged_arguments-arguments : goal.invariant-judged_arguments-arguments
 invariant-judged_arguments-arguments l =
