@@ -1,4 +1,4 @@
-//! What the statements of a method see: names of variables and of methods, looked up by their hashes.
+//! What the statements of a method see: names of variables, of methods and of objects, looked up in tables.
 ghost use Rattle.std.specs.Prelude.{◌≡◌, nat_eq};
 ghost use Rattle.std.specs.Cmp.Lexicographic.{pointwise};
 ghost use Rattle.std.specs.HashMap.{get};
@@ -7,6 +7,7 @@ ghost use Rattle.ds2_reference_types.specs.Scopes.{known_in, object_in};
 
 use ds2_base::{Bytes, List, Name, Refusal};
 use ds2_meaning::{Parameter, TypeKind};
+use ds2_scope::NameTable;
 use ds2_value::Ty;
 use std::collections::HashMap;
 
@@ -67,7 +68,7 @@ pub type KnownNames = HashMap<Bytes, KnownName>;
 pub type KnownBys = HashMap<Bytes, Name>;
 
 /// Methods by their names.
-pub type KnownMethods = HashMap<Bytes, KnownMethod>;
+pub type KnownMethods = NameTable<KnownMethod>;
 
 /// Objects by their names.
 pub type KnownObjects = HashMap<Bytes, KnownObject>;

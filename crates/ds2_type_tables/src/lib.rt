@@ -1,4 +1,4 @@
-//! Hashed tables of what the names of a method stand for, of which `ds2_expression_walk` makes its scopes.
+//! Tables of what the names of a method stand for, of which `ds2_expression_walk` makes its scopes.
 //!
 //! Each table tells of each name what the definitions of `ds2_elaboration` do, which look at lists: a use of a name takes one
 //! look-up, however many names there are.

@@ -13,10 +13,9 @@ use ds2_base::OutOfMemory;
 use ds2_declared_types::spelled::returned_type;
 use ds2_declared_types::variables::parameters;
 use ds2_reference_types::scopes::{KnownMethod, KnownMethods};
-use ds2_scope::{UnitKind, is_system_name, spelled_name};
+use ds2_scope::{NameTable, UnitKind, is_system_name, spelled_name};
 use ds2_tree::{GlobalItem, Method};
 use std::alloc::Global;
-use std::collections::HashMap;
 
 /// What is known of the method of this number.
 fn known_method(alloc: Global, number: u32, m: &Method) -> Result<KnownMethod, OutOfMemory>
@@ -124,7 +123,7 @@ pub fn methods(
 ) -> Result<KnownMethods, OutOfMemory>
     ensures { IfOk result (λ table. HasCallables table (methods_to_call (unit_kind kind) (source_methods (map global_tree globals.now)))) }
 {
-    let mut table: KnownMethods = HashMap::new(alloc);
+    let mut table: KnownMethods = NameTable::new(alloc);
     let mut number = 0;
     'globals: for global in globals {
         number = note_global(alloc, kind, &mut table, number, global)?;
