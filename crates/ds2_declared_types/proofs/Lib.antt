@@ -1,4 +1,5 @@
 pub mod NameForms
 pub mod VariableForms
+pub mod InputForms
 pub mod ColumnForms
 pub mod UnitReadings

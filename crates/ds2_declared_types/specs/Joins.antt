@@ -1,16 +1,18 @@
 -- Variables and columns, one by one.
-use Rattle.std.specs.Prelude.{ℕ, Bool, true, false, List, [], ◌∷◌, ◌++◌, map, Option, Some, None}
+use Rattle.std.specs.Prelude.{ℕ, nat_eq, Bool, true, false, List, [], ◌∷◌, ◌++◌, map, Option, Some, None}
+use Rattle.std.specs.Cmp.Lexicographic.{pointwise}
+use Rattle.std.specs.HashMap.{get}
 use Rattle.ds2_base.specs.declared.place.Place.{Place}
 use Rattle.ds2_token.specs.declared.token.Token.{Token}
 use Rattle.ds2_tree.specs.Globals.{GlobalItem, Declared}
 use Rattle.ds2_tree.specs.declared.globals.Declaration.TheVariants as declaration
 use Rattle.ds2_tree.specs.declared.globals.Parameter as source_parameter
-use Rattle.ds2_tree.specs.declared.readings.Input as source_input
-use Rattle.ds2_value.specs.Row.{Columns}
 use Rattle.ds2_value.specs.declared.ty.Ty.{Ty}
 use Rattle.ds2_meaning.specs.declared.globals.Variable.{Variable}
-use Rattle.ds2_names.specs.SourceUnit.{TableColumns, PlacedName, spelled_name}
-use Rattle.ds2_elaboration.specs.SourceTypes.{spelled_type, ColumnTyping, Absent, Joined, Clashed, type_of_column, with_table, joined_type, joined_over, clash_at_table, clashing_table}
+use Rattle.ds2_names.specs.SourceUnit.{PlacedName, spelled_name}
+use Rattle.ds2_elaboration.specs.SourceTypes.{spelled_type, ColumnTyping, Absent, Joined, Clashed, with_table, joined_type, clash_at_table}
+use Rattle.ds2_declared_types.specs.InputColumns.{TypesByName, column_found, joined_columns, clash_of_columns}
+use Rattle.ds2_declared_types.specs.declared.input_types.InputTypes.{InputTypes}
 use Rattle.ds2_declared_types.specs.declared.joins.ColumnTyping as code_typing
 use Rattle.ds2_declared_types.specs.declared.joins.ColumnTyping.TheVariants as code
 
@@ -44,24 +46,25 @@ abbrev pub places_in : Option Place → List Place
 places_in None = []
 places_in (Some place) = place ∷ []
 
--- what is known of the type of a column before the tables: what the rows of a thread program with these columns give
-abbrev pub typing_of_rows : Columns → Option Ty → List ℕ → ColumnTyping
-typing_of_rows rows declared name = with_table declared Absent (type_of_column name rows)
+-- what is known of the type of a column before the tables: what the rows of a thread program give whose columns have these types
+abbrev pub typing_of_rows : TypesByName → Option Ty → List ℕ → ColumnTyping
+typing_of_rows rows declared name = with_table declared Absent (get (pointwise nat_eq) rows name)
 
 -- the place of the instance behind `set from`, where its rows do not join with a declared variable
 abbrev pub clash_at_rows : Option Place → ColumnTyping → List Place
 clash_at_rows None typing = []
 clash_at_rows (Some place) typing = clash_at_table place Absent typing
 
--- what is read from: the tables of a reading statement, and the instance behind `set from` with the columns of its rows
-module _ (tables : TableColumns) (inputs : List source_input.Input) (stage : Option Place) (rows : Columns) where
+-- what is read from: the tables of a reading statement, and the instance behind `set from` with the types of the columns of its rows
+module _ (inputs : List InputTypes) (stage : Option Place) (rows : TypesByName) where
   -- what is known of the type of a column
   abbrev pub column_type_over : Option Ty → List ℕ → ColumnTyping
-  column_type_over declared name = joined_over tables declared name (typing_of_rows rows declared name) inputs
+  column_type_over declared name = joined_columns declared (typing_of_rows rows declared name) (map (column_found name) inputs)
 
   -- the first place at which the join of a column, or the join with a declared variable, fails
   abbrev pub clashes_over : Option Ty → List ℕ → List Place
-  clashes_over declared name = clash_at_rows stage (typing_of_rows rows declared name) ++ clashing_table tables declared name (typing_of_rows rows declared name) inputs
+  clashes_over declared name =
+      clash_at_rows stage (typing_of_rows rows declared name) ++ clash_of_columns declared (typing_of_rows rows declared name) (map (column_found name) inputs)
 
   -- a column with the type that it is read as
   abbrev pub column_over : PlacedName → Variable

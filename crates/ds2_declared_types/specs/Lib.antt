@@ -1,4 +1,5 @@
 -- What the code holds of declared variables and of columns.
 pub mod Numbers
+pub mod InputColumns
 pub mod Joins
 pub mod UnitReading

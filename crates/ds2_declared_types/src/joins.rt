@@ -4,7 +4,8 @@ ghost use Rattle.ds2_base.specs.declared.place.Place.{Place as PlaceOf};
 ghost use Rattle.ds2_elaboration.specs.SourceTypes.{type_of_column, is_joined_to, agrees_with_declared, agreed, with_table, clash_at_table, joined_type};
 ghost use Rattle.ds2_declared_types.specs.Joins.{clash_at_rows, column_typing_of, is_clash, places_in, typing_of_rows};
 
-use ds2_base::Place;
+use ds2_base::{Bytes, Place};
+use ds2_scope::NameTable;
 use ds2_types::rules::is_one;
 use ds2_value::{Column, Ty, join_types};
 
@@ -104,11 +105,12 @@ fn is_clash(typing: ColumnTyping) -> bool
     }
 }
 
-/// What is known of the type of a column before the tables: what the rows of a thread program with these columns give.
-pub fn typing_of_rows(rows: &[Column], declared: Option<Ty>, name: &[u8]) -> ColumnTyping
+/// What is known of the type of a column before the tables: what the rows of a thread program give whose columns have these types.
+pub fn typing_of_rows(rows: &NameTable<Ty>, declared: Option<Ty>, name: &Bytes) -> ColumnTyping
     ensures { column_typing_of result ≡ typing_of_rows rows.now declared name.now }
 {
-    with_table(declared, ColumnTyping::Absent, type_of_column(rows, name))
+    let own = rows.get(name).copied();
+    with_table(declared, ColumnTyping::Absent, own)
 }
 
 /// The place of the instance behind `set from`, where its rows do not join with a declared variable.

@@ -20,7 +20,7 @@ abbrev pub rule_at : List Place → Option (Refusal TypeKind)
 rule_at places = first_type_refusal (broken_at TypeClash places)
 
 -- the rule that is given of a column
-pub rule_of_column : (tables : TableColumns) (before : UnitsBefore) (u : UnitSource) (variables : List Variable) (name : List ℕ) (own : Option Ty) (spelled : List ℕ) (found : Option Place)
-    → own ≡ type_in variables name → spelled ≡ name → places_in found ≡ clashing_at tables before u own spelled
+pub rule_of_column : (tables : TableColumns) (before : UnitsBefore) (u : UnitSource) (variables : List Variable) (name : List ℕ) (own : Option Ty) (found : Option Place)
+    → own ≡ type_in variables name → places_in found ≡ clashing_at tables before u own name
     → rule_at (places_in found) ≡ first_type_refusal (column_rules tables before u variables name)
-rule_of_column tables before u variables name own spelled found o s f = ap rule_at f ∙ (λ i. rule_at (clashing_at tables before u (o i) (s i)))
+rule_of_column tables before u variables name own found o f = ap rule_at f ∙ ap (λ (ty : Option Ty). rule_at (clashing_at tables before u ty name)) o

@@ -2,9 +2,10 @@
 use Rattle.std.specs.Prelude.{◌≡◌, length, option_copied}
 use Rattle.std.specs.Option.{option_map}
 use Rattle.ds2_meaning.specs.View.{typed_thread_program}
-use Rattle.ds2_names.specs.SourceUnit.{SourceNames, TableColumns, UnitSource, columns_stored, source_instances}
+use Rattle.ds2_names.specs.SourceUnit.{SourceNames, TableColumns, UnitSource, columns_stored, source_instances, tables_of_reading}
 use Rattle.ds2_elaboration.specs.SourceTypes.{program_variables, unit_names, unit_stage}
 use Rattle.ds2_elaboration.specs.UnitsBefore.{UnitsBefore, typed_stage_columns}
+use Rattle.ds2_declared_types.specs.InputColumns.{FindColumns, HasTypes}
 use Rattle.ds2_declared_types.specs.UnitReading.{ReadsAsUnit}
 use Rattle.ds2_scope.specs.CodeUnits.{instances_in_source, unit_source}
 use Rattle.ds2_scope.specs.UnitNames.{NamesAre, reading_in_unit}
@@ -15,8 +16,10 @@ use Rattle.ds2_program_types.specs.declared.at_hand.UnitReading.{UnitReading}
 pub record IsReadingOf (tables : TableColumns) (before : UnitsBefore) (u : UnitSource) (r : UnitReading) : Type 0 where
   pub instances : instances_in_source r.instances ≡ source_instances u.globals
   pub reading : option_copied r.reading ≡ reading_in_unit u
+  pub inputs : FindColumns tables (tables_of_reading (reading_in_unit u)) r.inputs
   pub stage : option_map typed_thread_program (option_copied r.stage) ≡ unit_stage tables before u
   pub rows : r.rows ≡ typed_stage_columns (unit_stage tables before u)
+  pub row_types : HasTypes r.row_types r.rows
   pub declared : r.declared ≡ length (program_variables u)
 
 -- the columns of the tables that a unit may read

@@ -4,7 +4,7 @@ ghost use Rattle.std.specs.Option.{option_map};
 ghost use Rattle.ds2_elaboration.specs.SourceTypes.{unit_names};
 ghost use Rattle.ds2_elaboration.specs.UnitsBefore.{UnitsBefore};
 ghost use Rattle.ds2_known_types.specs.TypesKnown.{TellsTypes};
-ghost use Rattle.ds2_names.specs.SourceUnit.{KnownUnit, TableColumns, columns_stored, names_of_unit};
+ghost use Rattle.ds2_names.specs.SourceUnit.{KnownUnit, columns_stored, names_of_unit};
 ghost use Rattle.ds2_program_types.specs.UnitsAtHand.{IsAtHand, IsReadingOf};
 ghost use Rattle.ds2_scope.specs.CodeUnits.{unit_source};
 ghost use Rattle.ds2_scope.specs.UnitNames.{NamesAre};
@@ -13,17 +13,18 @@ ghost use Rattle.ds2_token.specs.declared.token.Token.{Token as TokenOf};
 
 use ds2_base::{List, OutOfMemory, Place};
 use ds2_declared_types::columns::ReadFrom;
+use ds2_declared_types::input_types::{InputTypes, types_of_columns, types_of_inputs};
 use ds2_declared_types::variables::program_variables;
 use ds2_known_types::{KnownTypes, stage_behind, stage_columns};
 use ds2_meaning::{Shared, TypedThread};
 use ds2_names::{NamedSchema, PlacedName};
 use ds2_scope::{
-    Instance, KnownUnits, Unit, UnitNames, instances_of, names_of_unit, reading_of_unit, stage_of,
-    tables_of,
+    Instance, KnownUnits, NameTable, Unit, UnitNames, instances_of, names_of_unit, reading_of_unit,
+    stage_of, tables_of,
 };
 use ds2_token::Token;
 use ds2_tree::Reading;
-use ds2_value::Column;
+use ds2_value::{Column, Ty};
 use std::alloc::Global;
 
 /// What a unit declares and reads.
@@ -32,10 +33,14 @@ pub struct UnitReading<'t, 'k> {
     pub instances: List<Instance<'t>>,
     /// Its reading statement, which a package has not.
     pub reading: Option<&'t Reading>,
+    /// The tables of that statement, with the types of their columns.
+    pub inputs: List<InputTypes>,
     /// The thread program that it reads from.
     pub stage: Option<&'k Shared<TypedThread>>,
     /// The columns of that one's rows.
     pub rows: List<Column>,
+    /// The types of these by their names.
+    pub row_types: NameTable<Ty>,
     /// How many variables it declares.
     pub declared: usize,
 }
@@ -66,24 +71,29 @@ pub fn unit_names(
     Ok(names)
 }
 
-/// What a unit declares and reads, behind packages and thread programs that are known.
+/// What a unit declares and reads, over tables and behind packages and thread programs that are known.
 pub fn unit_reading<'t, 'k>(
     alloc: Global,
+    tables: &[NamedSchema],
     known: &'k KnownTypes<'_>,
     unit: Unit<'t>,
 ) -> Result<UnitReading<'t, 'k>, OutOfMemory>
-    ensures { IfOk result (λ r. (tables : TableColumns) (before : UnitsBefore) → TellsTypes known.now before → IsReadingOf tables before (unit_source unit.entry) r) }
+    ensures { IfOk result (λ r. (before : UnitsBefore) → TellsTypes known.now before → IsReadingOf (columns_stored tables.now) before (unit_source unit.entry) r) }
 {
     let instances = instances_of(alloc, unit.globals)?;
     let reading = reading_of_unit(alloc, unit)?;
+    let inputs = types_of_inputs(alloc, tables, tables_of(reading))?;
     let stage = stage_behind(alloc, known, instances.as_slice(), stage_of(reading))?;
     let rows = stage_columns(alloc, stage)?;
+    let row_types = types_of_columns(alloc, rows.as_slice())?;
     let variables = program_variables(alloc, unit.globals)?;
     Ok(UnitReading {
         instances,
         reading,
+        inputs,
         stage,
         rows,
+        row_types,
         declared: variables.len(),
     })
 }
@@ -121,7 +131,7 @@ pub fn at_hand<'a, 't>(
     ensures tables { result.from.tables.now ≡ tables.now }
     ensures hand { (before : UnitsBefore) → IsReadingOf (columns_stored tables.now) before (unit_source unit.entry) read.now → NamesAre names.now (unit_names (columns_stored tables.now) before (unit_source unit.entry)) → IsAtHand before result }
 {
-    let inputs = tables_of(read.reading);
+    let inputs = read.inputs.as_slice();
     let stage = stage_place(stage_of(read.reading));
     let columns = columns_among(names, read.declared);
     let instances = read.instances.as_slice();
@@ -136,6 +146,7 @@ pub fn at_hand<'a, 't>(
             inputs,
             stage,
             rows,
+            row_types: &read.row_types,
         },
     }
 }

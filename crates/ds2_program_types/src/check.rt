@@ -143,7 +143,7 @@ pub fn check_package(
         → IfOk result (IsOutcome (IsTypedPackage (columns_stored tables.now) before unit.now) (broken_type_rules (columns_stored tables.now) before (unit_of_package (package_tree unit.now)))) }
 {
     let own = unit_of_package(unit);
-    let read = unit_reading(alloc, known, own)?;
+    let read = unit_reading(alloc, tables, known, own)?;
     let hand = at_hand(tables, names, own, &read);
     let typed = typed_package(alloc, made, known, hand, unit)?;
     Ok(typed)

@@ -26,20 +26,14 @@ use ds2_unit_parts::declared::declared_type;
 use std::alloc::Global;
 
 /// What a column of this name breaks.
-fn clash_of(
-    alloc: Global,
-    from: ReadFrom<'_>,
-    declared: &KnownNames,
-    name: &Bytes,
-) -> Result<Option<Refusal<TypeKind>>, OutOfMemory>
+fn clash_of(from: ReadFrom<'_>, declared: &KnownNames, name: &Bytes) -> Option<Refusal<TypeKind>>
     ensures { (before : UnitsBefore) (u : UnitSource) (variables : Items VariableOf) → ReadsAsUnit before u from.entry → HasLocals declared.now variables
-        → IfOk result (λ r. r ≡ first_type_refusal (column_rules (columns_stored from.entry.tables.now) before u variables name.now)) }
+        → result ≡ first_type_refusal (column_rules (columns_stored from.entry.tables.now) before u variables name.now) }
 {
     let own = declared_type(declared, name);
-    let found = clash_over(alloc, from, own, name.as_slice())?;
-    match found {
-        None => Ok(None),
-        Some(place) => Ok(Some(refusal(TypeKind::TypeClash, place))),
+    match clash_over(from, own, name) {
+        None => None,
+        Some(place) => Some(refusal(TypeKind::TypeClash, place)),
     }
 }
 
@@ -56,7 +50,7 @@ fn of_declared(
     let mut found: Option<Refusal<TypeKind>> = None;
     'variables: for v in variables {
         let name = List::from_slice(alloc, v.name.as_str().as_bytes())?;
-        let own = clash_of(alloc, from, declared, &name)?;
+        let own = clash_of(from, declared, &name);
         found = lesser(found, own);
     }
     Ok(found)
@@ -64,20 +58,19 @@ fn of_declared(
 
 /// The rule that is given of those that columns break which are not declared.
 fn of_undeclared(
-    alloc: Global,
     from: ReadFrom<'_>,
     declared: &KnownNames,
     columns: &[PlacedName],
-) -> Result<Option<Refusal<TypeKind>>, OutOfMemory>
+) -> Option<Refusal<TypeKind>>
     ensures { (before : UnitsBefore) (u : UnitSource) (all : Items VariableOf) → ReadsAsUnit before u from.entry → HasLocals declared.now all
-        → IfOk result (λ r. r ≡ first_type_refusal (from_each (λ (n : PlacedOf). column_rules (columns_stored from.entry.tables.now) before u all n.name) columns.now)) }
+        → result ≡ first_type_refusal (from_each (λ (n : PlacedOf). column_rules (columns_stored from.entry.tables.now) before u all n.name) columns.now) }
 {
     let mut found: Option<Refusal<TypeKind>> = None;
     'columns: for n in columns {
-        let own = clash_of(alloc, from, declared, &n.name)?;
+        let own = clash_of(from, declared, &n.name);
         found = lesser(found, own);
     }
-    Ok(found)
+    found
 }
 
 /// The rule that is given of those that the columns of a unit break, those of declared variables and the others.
@@ -92,6 +85,6 @@ pub fn of_columns(
     let variables = declared.as_slice();
     let known = locals(alloc, variables)?;
     let first = of_declared(alloc, unit.from, &known, variables)?;
-    let second = of_undeclared(alloc, unit.from, &known, unit.columns)?;
+    let second = of_undeclared(unit.from, &known, unit.columns);
     Ok(lesser(first, second))
 }

@@ -116,7 +116,7 @@ pub fn staged_program(
         → NamesAre names.now (unit_names (columns_stored tables.now) before (unit_source unit.entry))
         → IfOk result (IsOutcome (IsStagedProgram (columns_stored tables.now) before (unit_source unit.entry)) (broken_type_rules (columns_stored tables.now) before (unit_source unit.entry))) }
 {
-    let read = unit_reading(alloc, known, unit)?;
+    let read = unit_reading(alloc, tables, known, unit)?;
     let hand = at_hand(tables, names, unit, &read);
     let typed = with_stage(alloc, made, known, hand, read.stage)?;
     Ok(typed)

@@ -1,5 +1,4 @@
-use Rattle.std.proofs.Common.{Option, [], ◌+◌, drop, refl, sym, ap, ◌∙◌, arith}
-use Rattle.ds2_names.specs.SourceUnit.{columns_stored}
+use Rattle.std.proofs.Common.{◌+◌, drop, refl, sym, ap, ◌∙◌, arith}
 use Rattle.ds2_elaboration.specs.SourceTypes.{with_table}
 use Rattle.ds2_declared_types.specs.Joins.{column_typing_of}
 use Rattle.ds2_declared_types.proofs.ColumnForms.{no_clash, clash_at, no_clash_left}
@@ -10,22 +9,20 @@ inputs-init c = refl
 
 pub inputs-preserved : goal.inputs-preserved
 inputs-preserved c =
-    let i = c.input-item.result in
-    no_clash (columns_stored c.args.tables.now) c.args.declared c.args.name.now c.args.inputs.now c.inputs.input-index i (column_typing_of c.inputs.typing) (column_typing_of c.with_table-behind.result)
+    let t = c.input-item.result in
+    no_clash c.args.declared c.args.name.now c.args.inputs.now c.inputs.input-index t (column_typing_of c.inputs.typing) (column_typing_of c.with_table-behind.result)
     c.clashes_here-clashes.result (omega arith) c.input-item.is
-    (c.with_table-behind.ensures ∙ ap (with_table c.args.declared (column_typing_of c.inputs.typing)) c.in_ok-own.ensures) (c.clashes_here-clashes.ensures i.table.place) c.if-clashes.false
+    (c.with_table-behind.ensures ∙ ap (with_table c.args.declared (column_typing_of c.inputs.typing)) c.type_of-own.ensures) (c.clashes_here-clashes.ensures t.place) c.if-clashes.false
     ∙ c.inputs.invariant
 
 pub returns-then-clashes : goal.returns-then-clashes
 returns-then-clashes c =
-    let i = c.input-item.result in
+    let t = c.input-item.result in
     sym
-    (clash_at (columns_stored c.args.tables.now) c.args.declared c.args.name.now c.args.inputs.now c.inputs.input-index i (column_typing_of c.inputs.typing) (column_typing_of c.with_table-behind.result)
+    (clash_at c.args.declared c.args.name.now c.args.inputs.now c.inputs.input-index t (column_typing_of c.inputs.typing) (column_typing_of c.with_table-behind.result)
     c.clashes_here-clashes.result (omega arith) c.input-item.is
-    (c.with_table-behind.ensures ∙ ap (with_table c.args.declared (column_typing_of c.inputs.typing)) c.in_ok-own.ensures) (c.clashes_here-clashes.ensures i.table.place) c.if-clashes.true)
+    (c.with_table-behind.ensures ∙ ap (with_table c.args.declared (column_typing_of c.inputs.typing)) c.type_of-own.ensures) (c.clashes_here-clashes.ensures t.place) c.if-clashes.true)
     ∙ c.inputs.invariant
 
 pub returns : goal.returns
-returns c =
-    sym (no_clash_left (columns_stored c.args.tables.now) c.args.declared c.args.name.now c.args.inputs.now c.inputs.input-index (column_typing_of c.inputs.typing) (omega arith))
-    ∙ c.inputs.invariant
+returns c = sym (no_clash_left c.args.declared c.args.name.now c.args.inputs.now c.inputs.input-index (column_typing_of c.inputs.typing) (omega arith)) ∙ c.inputs.invariant

@@ -6,4 +6,4 @@ use Rattle.ds2_declared_types.proofs.columns.columns_over.Goals as goal
 
 pub returns : goal.returns
 returns c = λ before u h e.
-    subst (λ (l : List Variable). IfOk c.columns_read.result (λ variables. variables ≡ l)) (columns_are before u c.args.from c.args.columns.now h e) c.columns_read.ensures
+    subst (λ (l : List Variable). IfOk c.columns_read.result (λ variables. variables ≡ l)) (columns_are before u c.args.from h c.args.columns.now e) c.columns_read.ensures

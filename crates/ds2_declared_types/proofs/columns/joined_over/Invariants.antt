@@ -1,9 +1,8 @@
 use Rattle.std.proofs.Common.{◌≡◌, drop}
-use Rattle.ds2_names.specs.SourceUnit.{columns_stored}
-use Rattle.ds2_elaboration.specs.SourceTypes.{joined_over}
 use Rattle.ds2_declared_types.specs.Joins.{column_typing_of}
+use Rattle.ds2_declared_types.proofs.ColumnForms.{joined_behind}
 use Rattle.ds2_declared_types.proofs.columns.joined_over.Given as goal
 
 abbrev pub invariant-inputs : goal.invariant-inputs
 invariant-inputs l =
-    joined_over (columns_stored l.tables) l.declared l.name (column_typing_of l.typing) (drop l.input-index l.inputs) ≡ joined_over (columns_stored l.tables) l.declared l.name (column_typing_of l.fn.begun) l.inputs
+    joined_behind l.declared l.name (column_typing_of l.typing) (drop l.input-index l.inputs) ≡ joined_behind l.declared l.name (column_typing_of l.fn.begun) l.inputs

@@ -17,4 +17,4 @@ returns c = λ before m t n.
     let hand = c.at_hand-hand.ensures in
     let named = subst (λ (w : UnitSource). NamesAre c.args.names.now (unit_names tables before w)) (sym own) n in
     subst (λ (l : List NamedSchema). IsOutcome (IsTypedPackage (columns_stored l) before c.args.unit.now) (broken_type_rules (columns_stored l) before u) c.in_ok-typed.typed) hand.tables
-    (c.in_ok-typed.ensures before t m (hand.hand before (c.in_ok-read.ensures tables before t) named) (hand.unit ∙ own))
+    (c.in_ok-typed.ensures before t m (hand.hand before (c.in_ok-read.ensures before t) named) (hand.unit ∙ own))

@@ -10,11 +10,11 @@ use Rattle.ds2_program_types.proofs.column_clashes.clash_of.Goals as goal
 pub returns-in-None : goal.returns-in-None
 returns-in-None c = λ before u variables r h.
     ap (λ (o : Option Place). rule_at (places_in o)) (sym c.in-None.is)
-    ∙ rule_of_column (columns_stored c.args.from.tables.now) before u variables c.args.name.now c.declared_type-own.result c.as_slice.result.now c.in_ok-found.found
-    (c.declared_type-own.ensures variables h) c.as_slice.ensures (c.in_ok-found.ensures before u r)
+    ∙ rule_of_column (columns_stored c.args.from.tables.now) before u variables c.args.name.now c.declared_type-own.result c.clash_over.result (c.declared_type-own.ensures variables h)
+    (c.clash_over.ensures before u r)
 
 pub returns-in-Some : goal.returns-in-Some
 returns-in-Some c = λ before u variables r h.
     ap (λ (r : Refusal TypeKind). Some r) c.refusal.ensures ∙ ap (λ (o : Option Place). rule_at (places_in o)) (sym c.in-Some.is)
-    ∙ rule_of_column (columns_stored c.args.from.tables.now) before u variables c.args.name.now c.declared_type-own.result c.as_slice.result.now c.in_ok-found.found
-    (c.declared_type-own.ensures variables h) c.as_slice.ensures (c.in_ok-found.ensures before u r)
+    ∙ rule_of_column (columns_stored c.args.from.tables.now) before u variables c.args.name.now c.declared_type-own.result c.clash_over.result (c.declared_type-own.ensures variables h)
+    (c.clash_over.ensures before u r)

@@ -12,8 +12,8 @@ variables-init c = λ before u all r h. refl
 pub variables-preserved : goal.variables-preserved
 variables-preserved c = λ before u all r h.
     let named : c.in_ok-name.name ≡ c.v-item.result.name = grind (arith, common_steps) in
-    let own = c.in_ok-own.ensures before u all r h ∙ ap (λ (n : List ℕ). first_type_refusal (column_rules (columns_stored c.args.from.tables.now) before u all n)) named in
-    one_more_ruled (λ v. column_rules (columns_stored c.args.from.tables.now) before u all v.name) c.args.variables.now c.variables.v-index c.v-item.result c.variables.found c.in_ok-own.own
+    let own = c.clash_of-own.ensures before u all r h ∙ ap (λ (n : List ℕ). first_type_refusal (column_rules (columns_stored c.args.from.tables.now) before u all n)) named in
+    one_more_ruled (λ v. column_rules (columns_stored c.args.from.tables.now) before u all v.name) c.args.variables.now c.variables.v-index c.v-item.result c.variables.found c.clash_of-own.result
     c.lesser-found.result (omega arith) c.v-item.is (c.variables.invariant before u all r h) own c.lesser-found.ensures
 
 pub returns : goal.returns

@@ -9,8 +9,8 @@ columns-init c = λ before u all r h. refl
 
 pub columns-preserved : goal.columns-preserved
 columns-preserved c = λ before u all r h.
-    one_more_ruled (λ n. column_rules (columns_stored c.args.from.tables.now) before u all n.name) c.args.columns.now c.columns.n-index c.n-item.result c.columns.found c.in_ok-own.own
-    c.lesser-found.result (omega arith) c.n-item.is (c.columns.invariant before u all r h) (c.in_ok-own.ensures before u all r h) c.lesser-found.ensures
+    one_more_ruled (λ n. column_rules (columns_stored c.args.from.tables.now) before u all n.name) c.args.columns.now c.columns.n-index c.n-item.result c.columns.found c.clash_of-own.result
+    c.lesser-found.result (omega arith) c.n-item.is (c.columns.invariant before u all r h) (c.clash_of-own.ensures before u all r h) c.lesser-found.ensures
 
 pub returns : goal.returns
 returns c = λ before u all r h.
