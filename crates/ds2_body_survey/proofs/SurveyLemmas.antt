@@ -7,7 +7,7 @@ use Rattle.ds2_meaning.specs.declared.statements.Arm as code_arm
 use Rattle.ds2_meaning.specs.TypedExpression.{TypedExpression, TypedExpressions}
 use Rattle.ds2_meaning.specs.TypedStatement.{TypedStatement, TypedStatements, Next, TypedWhens, When, has_output}
 use Rattle.ds2_meaning.specs.View.{in_a_row, if_tree}
-use Rattle.ds2_placement.specs.KeptTypes.{types_kept, all_types_kept, whens_types_kept}
+use Rattle.ds2_program_code.specs.KeptTypes.{types_kept, all_types_kept, whens_types_kept}
 use Rattle.ds2_statement_emitter.specs.Appending.{IfPart}
 use Rattle.ds2_statement_emitter.specs.Arms.{arm_tree, arm_of_chain}
 use Rattle.ds2_statement_emitter.proofs.Chains.{chain_tree, chained}

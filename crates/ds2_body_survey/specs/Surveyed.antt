@@ -2,7 +2,7 @@
 use Rattle.std.specs.Prelude.{Bool, ◌||◌, false, List, [], ◌∷◌, ◌++◌, Option, Some, None}
 use Rattle.ds2_value.specs.declared.ty.Ty.{Ty}
 use Rattle.ds2_meaning.specs.TypedStatement.{TypedStatement, has_output}
-use Rattle.ds2_placement.specs.KeptTypes.{types_kept}
+use Rattle.ds2_program_code.specs.KeptTypes.{types_kept}
 use Rattle.ds2_statement_emitter.specs.Appending.{IfPart}
 
 -- types with further ones behind them

@@ -3,7 +3,7 @@ ghost use Rattle.std.specs.Prelude.{◌≡◌, [], ◌∷◌, ◌++◌, List as 
 ghost use Rattle.std.specs.Option.{option_map};
 ghost use Rattle.ds2_meaning.specs.TypedStatement.{TypedStatement, TypedWhens};
 ghost use Rattle.ds2_meaning.specs.View.{in_a_row, all_statements, otherwise_part, typed_expression, typed_statement, typed_statements};
-ghost use Rattle.ds2_placement.specs.KeptTypes.{types_of_count, types_kept, all_types_kept, whens_types_kept};
+ghost use Rattle.ds2_program_code.specs.KeptTypes.{types_of_count, types_kept, all_types_kept, whens_types_kept};
 ghost use Rattle.ds2_statement_emitter.specs.Appending.{IfPart};
 ghost use Rattle.ds2_statement_emitter.specs.Arms.{when_tree, arm_of_chain, last_tree};
 ghost use Rattle.ds2_body_survey.specs.Surveyed.{with_types, types_of_rest};

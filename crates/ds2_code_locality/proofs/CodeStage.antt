@@ -16,7 +16,7 @@ use Rattle.ds2_meaning.specs.ProgramTree.{UnitTree, objects_of}
 use Rattle.ds2_code.specs.Desk.{ProgramData}
 use Rattle.ds2_gen.specs.CodeCells.{CodeCell, SlotCell, LocalCell, HashCell, IteratorCell, ParameterCell, CellHas}
 use Rattle.ds2_gen.specs.UnitCode.{data_cells}
-use Rattle.ds2_placement.specs.PlacedProgram.{number_of_first, number_of_location, slot_locations, hash_locations, iterator_locations, parameter_locations, first_cell, program_cell, layout_size}
+use Rattle.ds2_program_code.specs.PlacedProgram.{number_of_first, number_of_location, slot_locations, hash_locations, iterator_locations, parameter_locations, first_cell, program_cell, layout_size}
 use Rattle.ds2_program_code.specs.CodeParts.{code_slots}
 use Rattle.ds2_program_code.specs.ProgramRuns.{HoldsProgram}
 use Rattle.ds2_locality.specs.Independence.{UnitsGave}

@@ -33,9 +33,9 @@ use Rattle.ds2_gen.specs.MethodCode.{HasMethod, method_ending, method_end, metho
 use Rattle.ds2_gen.specs.StatementCode.{store_kept, outputs_code, statements_code}
 use Rattle.ds2_gen.specs.UnitCode.{implicit_outputs, locals_code, body_start, body_end, unit_exits}
 use Rattle.ds2_gen.specs.UnitTheorem.{IsCodeOfUnits}
-use Rattle.ds2_placement.specs.PlacedProgram.{slot_locations, program_cell, layout_size, first_of_run, own_slots}
-use Rattle.ds2_placement.specs.PlacementLaws.{code_role}
-use Rattle.ds2_placement.proofs.Placements.{global_cell, location_is}
+use Rattle.ds2_program_code.specs.PlacedProgram.{slot_locations, program_cell, layout_size, first_of_run, own_slots}
+use Rattle.ds2_program_code.specs.PlacementLaws.{code_role}
+use Rattle.ds2_program_code.proofs.Placements.{global_cell, location_is}
 use Rattle.ds2_program_code.specs.CodeMethods.{CodeMethod, callee_of}
 use Rattle.ds2_program_code.specs.CodeParts.{layout_slot, code_slots, slots_of_body}
 use Rattle.ds2_program_code.specs.ProgramCode.{init_numbers, run_numbers, term_numbers, method_numbers, run_body, run_entry, program_code}

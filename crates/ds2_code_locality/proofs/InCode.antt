@@ -17,7 +17,7 @@ use Rattle.ds2_code.specs.CodeUnit.{code_run}
 use Rattle.ds2_code.specs.Desk.{ProgramData}
 use Rattle.ds2_gen.specs.CodeCells.{CodeCell, SlotCell, LocalCell, HashCell, IteratorCell, ParameterCell}
 use Rattle.ds2_gen.specs.UnitTheorem.{AreSameSettings}
-use Rattle.ds2_placement.specs.PlacedProgram.{program_cell, first_of_run, system_placement}
+use Rattle.ds2_program_code.specs.PlacedProgram.{program_cell, first_of_run, system_placement}
 use Rattle.ds2_program_code.specs.CodeParts.{slot_of_global}
 use Rattle.ds2_program_code.specs.LoadSettings.{slot_settings, LoadsHaveSlots, TypedLoadsHaveSlots}
 use Rattle.ds2_program_code.specs.ProgramCode.{program_code}

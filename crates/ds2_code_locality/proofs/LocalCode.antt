@@ -21,7 +21,7 @@ use Rattle.ds2_gen.specs.GenLaws.{way_meant}
 use Rattle.ds2_program_code.specs.LoadSettings.{slot_settings, table_load, stage_load}
 use Rattle.ds2_program_code.specs.ProgramCode.{program_code}
 use Rattle.ds2_program_code.specs.ProgramRuns.{HoldsProgram, EndsLikeUnit, RunsLikeUnit, UnitsRunAsMeant, TypedUnitsRunAsMeant}
-use Rattle.ds2_unit_counts.specs.CountsByWay.{RunsCountByWay, CountsByWay, TypedUnitsCountByWay}
+use Rattle.ds2_program_code.specs.CountsByWay.{RunsCountByWay, CountsByWay, TypedUnitsCountByWay}
 use Rattle.ds2_locality.specs.Independence.{UnitsGave, earlier_fault, gave_then, unit_ended, LocatedLoad, located, settings_at, seen_way, thread_stage, loads_of_tables, located_group, IsTableGroup, IsRowGroup, IsGroupOfReading, fixed_locations, IsIndependentAt}
 use Rattle.ds2_locality.specs.Soundness.{LocalIsIndependent}
 use Rattle.ds2_code_locality.specs.CodeIndependence.{seen_count, coded_stage, AreSameCodeRuns, IsCodeIndependentAt, LocalCodeIsIndependent}

@@ -9,7 +9,7 @@ use Rattle.ds2_meaning.specs.Location.{Location, Content, Holds, Items, Position
 use Rattle.ds2_meaning.specs.ProgramTree.{UnitTree}
 use Rattle.ds2_code.specs.Desk.{ProgramData}
 use Rattle.ds2_gen.specs.CodeCells.{CodeCell, SlotCell, LocalCell, HashCell, IteratorCell, ParameterCell}
-use Rattle.ds2_placement.specs.PlacedProgram.{slot_locations, hash_locations, iterator_locations, parameter_locations, program_cell, layout_size}
+use Rattle.ds2_program_code.specs.PlacedProgram.{slot_locations, hash_locations, iterator_locations, parameter_locations, program_cell, layout_size}
 use Rattle.ds2_program_code.specs.CodeParts.{code_slots}
 use Rattle.ds2_locality.specs.declared.locality.Verdict.TheVariants.{Local}
 use Rattle.ds2_locality.specs.Independence.{IsGroupOfReading, is_fixed}

@@ -6,7 +6,7 @@ use Rattle.ds2_meaning.specs.Location.{Location}
 use Rattle.ds2_meaning.specs.ProgramTree.{UnitTree}
 use Rattle.ds2_code.specs.Desk.{ProgramData}
 use Rattle.ds2_gen.specs.CodeCells.{CodeCell, SlotCell, HashCell, IteratorCell, ParameterCell}
-use Rattle.ds2_placement.specs.PlacedProgram.{program_cell}
+use Rattle.ds2_program_code.specs.PlacedProgram.{program_cell}
 use Rattle.ds2_program_code.specs.ProgramCode.{program_code}
 use Rattle.ds2_locality.specs.declared.locality.Verdict.TheVariants.{Local}
 use Rattle.ds2_locality.specs.Independence.{IsGroupOfReading, is_fixed}

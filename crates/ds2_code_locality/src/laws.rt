@@ -12,7 +12,7 @@ pub fn local_code_is_independent()
 {
     ds2_locality::laws::local_is_independent();
     ds2_program_code::laws::typed_units_run_as_meant();
-    ds2_unit_counts::laws::typed_units_count_by_way();
+    ds2_program_code::count_laws::typed_units_count_by_way();
 }
 
 /// The code of a typed thread program that the verdict calls local at a grain makes a stage whose groups are independent there: data of the

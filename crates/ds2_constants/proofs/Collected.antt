@@ -6,7 +6,7 @@ use Rattle.ds2_value.specs.declared.ty.Ty.{Ty}
 use Rattle.ds2_meaning.specs.declared.location.Reference.{Reference}
 use Rattle.ds2_meaning.specs.declared.expressions.Operation.{Operation}
 use Rattle.ds2_meaning.specs.TypedExpression.{TypedExpression, Links, NoLink, Link, TypedExpressions, NoExpression, Then, TypedArguments, NoArgument, ByValue, InOut}
-use Rattle.ds2_placement.specs.UsedConstants.{UsedConstant, constants_used, constants_of_links, constants_of_all, constants_of_arguments}
+use Rattle.ds2_program_code.specs.UsedConstants.{UsedConstant, constants_used, constants_of_links, constants_of_all, constants_of_arguments}
 use Rattle.ds2_program_code.specs.CodeConstants.{with_used_constant}
 use Rattle.ds2_constants.specs.UsedOnce.{with_used}
 

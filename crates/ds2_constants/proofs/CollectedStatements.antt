@@ -7,7 +7,7 @@ use Rattle.ds2_meaning.specs.TypedStatement.{TypedStatement, TypedStatements, Ne
 use Rattle.ds2_meaning.specs.View.{in_a_row, if_tree}
 use Rattle.ds2_gen.specs.StatementCode.{text_type, label_of}
 use Rattle.ds2_value.specs.declared.value.Value.TheVariants.{Txt}
-use Rattle.ds2_placement.specs.UsedConstants.{UsedConstant, constants_used, constants_of_all, constants_of_items, constants_of_parameters, constants_of_statement, constants_of_body, constants_of_whens}
+use Rattle.ds2_program_code.specs.UsedConstants.{UsedConstant, constants_used, constants_of_all, constants_of_items, constants_of_parameters, constants_of_statement, constants_of_body, constants_of_whens}
 use Rattle.ds2_program_code.specs.CodeConstants.{with_used_constant}
 use Rattle.ds2_statement_emitter.specs.Appending.{IfPart}
 use Rattle.ds2_statement_emitter.specs.Arms.{arm_tree, arm_of_chain}

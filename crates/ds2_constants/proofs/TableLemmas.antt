@@ -10,8 +10,8 @@ use Rattle.std.proofs.Math.Seq.{drop-cons}
 use Rattle.ds2_value.specs.Value.{is_null}
 use Rattle.ds2_value.specs.declared.value.Value.{Value}
 use Rattle.ds2_code.specs.declared.parts.Constant.{Constant}
-use Rattle.ds2_placement.specs.PlacedProgram.{number_of_first}
-use Rattle.ds2_placement.specs.UsedConstants.{UsedConstant}
+use Rattle.ds2_program_code.specs.PlacedProgram.{number_of_first}
+use Rattle.ds2_program_code.specs.UsedConstants.{UsedConstant}
 use Rattle.ds2_program_code.specs.CodeConstants.{is_one_constant, with_used_constant, constant_number, constant_part}
 use Rattle.ds2_constants.specs.declared.key.ConstantKey.{ConstantKey}
 use Rattle.ds2_constants.specs.ConstantKeys.{used_of_key, is_one_key, key_decides}

@@ -10,7 +10,7 @@ use Rattle.ds2_value.specs.declared.ty.Ty.{Ty}
 use Rattle.ds2_value.specs.declared.ty.Ty.TheVariants.{BigInt, Decimal as DecimalOf, Char, Varchar}
 use Rattle.ds2_value.specs.declared.value.Value.{Value}
 use Rattle.ds2_value.specs.declared.value.Value.TheVariants.{Null, Int, Dec, Txt}
-use Rattle.ds2_placement.specs.UsedConstants.{UsedConstant}
+use Rattle.ds2_program_code.specs.UsedConstants.{UsedConstant}
 use Rattle.ds2_program_code.specs.CodeConstants.{is_one_value, is_one_constant}
 use Rattle.ds2_constants.specs.declared.key.ConstantKey.{ConstantKey}
 

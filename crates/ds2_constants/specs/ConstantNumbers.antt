@@ -1,7 +1,7 @@
 -- Constants with their numbers, each found by the order of keys.
 use Rattle.std.specs.Prelude.{◌≡◌, ℕ, List, map}
 use Rattle.std.specs.BTreeMap.{BTreeMap, get}
-use Rattle.ds2_placement.specs.PlacedProgram.{number_of_first}
+use Rattle.ds2_program_code.specs.PlacedProgram.{number_of_first}
 use Rattle.ds2_program_code.specs.CodeConstants.{is_one_constant}
 use Rattle.ds2_constants.specs.ConstantKeys.{used_of_key}
 use Rattle.ds2_constants.specs.KeyOrder.{key_cmp}

@@ -2,7 +2,7 @@
 use Rattle.std.specs.Prelude.{List, [], ◌∷◌, ◌++◌, Option, Some, None}
 use Rattle.std.specs.List.{fold}
 use Rattle.ds2_meaning.specs.TypedStatement.{TypedStatement}
-use Rattle.ds2_placement.specs.UsedConstants.{UsedConstant, constants_used, constants_of_statement}
+use Rattle.ds2_program_code.specs.UsedConstants.{UsedConstant, constants_used, constants_of_statement}
 use Rattle.ds2_program_code.specs.CodeConstants.{with_used_constant}
 use Rattle.ds2_statement_emitter.specs.Appending.{IfPart}
 

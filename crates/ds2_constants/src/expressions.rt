@@ -2,7 +2,7 @@
 ghost use Rattle.std.specs.Prelude.{◌≡◌, map, OnOk};
 ghost use Rattle.ds2_meaning.specs.TypedExpression.{Links, NoLink, TypedArguments, NoArgument};
 ghost use Rattle.ds2_meaning.specs.View.{in_a_row, all_expressions, typed_expression, call_tree, link_tree, argument_tree};
-ghost use Rattle.ds2_placement.specs.UsedConstants.{constants_used, constants_of_links, constants_of_all, constants_of_arguments};
+ghost use Rattle.ds2_program_code.specs.UsedConstants.{constants_used, constants_of_links, constants_of_all, constants_of_arguments};
 ghost use Rattle.ds2_constants.specs.UsedOnce.{with_used};
 
 use crate::ConstantTable;

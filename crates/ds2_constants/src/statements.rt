@@ -5,7 +5,7 @@ ghost use Rattle.ds2_value.specs.declared.value.Value.TheVariants.{Txt};
 ghost use Rattle.ds2_meaning.specs.TypedStatement.{TypedStatement, TypedWhens, Item};
 ghost use Rattle.ds2_meaning.specs.View.{in_a_row, all_statements, otherwise_part, typed_statement, typed_expression, item_tree, parameter_tree};
 ghost use Rattle.ds2_gen.specs.StatementCode.{text_type, label_of};
-ghost use Rattle.ds2_placement.specs.UsedConstants.{constants_of_items, constants_of_step, constants_of_parameters, constants_of_statement, constants_of_body, constants_of_whens};
+ghost use Rattle.ds2_program_code.specs.UsedConstants.{constants_of_items, constants_of_step, constants_of_parameters, constants_of_statement, constants_of_body, constants_of_whens};
 ghost use Rattle.ds2_program_code.specs.CodeConstants.{with_used_constant};
 ghost use Rattle.ds2_statement_emitter.specs.Appending.{IfPart};
 ghost use Rattle.ds2_statement_emitter.specs.Arms.{when_tree, arm_of_chain, last_tree};

@@ -22,7 +22,7 @@ pub struct ConstantTable {
 
 impl Model for ConstantTable {
     ghost use Rattle.std.specs.Prelude.{List as Items, map};
-    ghost use Rattle.ds2_placement.specs.UsedConstants.{UsedConstant};
+    ghost use Rattle.ds2_program_code.specs.UsedConstants.{UsedConstant};
     ghost use Rattle.ds2_constants.specs.ConstantKeys.{used_of_key};
 
     ghost Value = { Items UsedConstant };

@@ -4,7 +4,7 @@ use Rattle.std.proofs.lemmas.Bool.{true≢false}
 use Rattle.std.specs.List.{list_any}
 use Rattle.std.specs.Prelude.{◌||◌, if◌then◌else◌}
 use Rattle.ds2_meaning.specs.Location.{Location, is_same_location}
-use Rattle.ds2_placement.specs.PlacedProgram.{number_of_first, number_of_location}
+use Rattle.ds2_program_code.specs.PlacedProgram.{number_of_first, number_of_location}
 use Rattle.ds2_locality.proofs.Near.{location_self}
 use Rattle.ds2_deeds.specs.NamedLocations.{with_location, with_locations, AreDistinct}
 use Rattle.ds2_deeds.proofs.NumberLemmas.{some_is}

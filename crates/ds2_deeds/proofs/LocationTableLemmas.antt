@@ -5,7 +5,7 @@ use Rattle.std.specs.BTreeMap.{BTreeMap, get, is_at}
 use Rattle.std.specs.Cmp.{eq_by_cmp_equiv}
 use Rattle.std.specs.Option.{is_some}
 use Rattle.ds2_meaning.specs.Location.{is_same_location}
-use Rattle.ds2_placement.specs.PlacedProgram.{number_of_first, number_of_location}
+use Rattle.ds2_program_code.specs.PlacedProgram.{number_of_first, number_of_location}
 use Rattle.ds2_locality.proofs.Frame.{location_is}
 use Rattle.ds2_deeds.specs.declared.location.LocationName.{LocationName}
 use Rattle.ds2_deeds.specs.LocationNumbers.{HaveFirstNumbers}

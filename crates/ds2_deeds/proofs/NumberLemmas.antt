@@ -3,7 +3,7 @@ use Rattle.std.proofs.Common.{◌≡◌, ◌<◌, ℕ, zero, suc, ◌+◌, Bool,
 use Rattle.std.specs.List.{list_any}
 use Rattle.std.specs.Prelude.{◌||◌, if◌then◌else◌, slice_get, unwrap_or, is_some}
 use Rattle.ds2_meaning.specs.Location.{Location, is_same_location}
-use Rattle.ds2_placement.specs.PlacedProgram.{number_of_first, number_of_location}
+use Rattle.ds2_program_code.specs.PlacedProgram.{number_of_first, number_of_location}
 use Rattle.ds2_locality.proofs.Frame.{location_is}
 use Rattle.std.proofs.lemmas.Option.{slice_get-map}
 use Rattle.ds2_deeds.specs.declared.location.LocationName.{LocationName}

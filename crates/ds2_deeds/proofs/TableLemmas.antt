@@ -4,7 +4,7 @@ use Rattle.std.specs.Prelude.{is_some}
 use Rattle.ds2_meaning.specs.HashObjects.{object_at}
 use Rattle.ds2_meaning.specs.Location.{Location, is_same_location}
 use Rattle.ds2_locality.specs.Verdict.{own_object_at}
-use Rattle.ds2_placement.specs.PlacedProgram.{number_of_location}
+use Rattle.ds2_program_code.specs.PlacedProgram.{number_of_location}
 use Rattle.ds2_deeds.specs.NamedLocations.{with_location, with_locations}
 use Rattle.ds2_deeds.proofs.NumberLemmas.{any_numbered}
 

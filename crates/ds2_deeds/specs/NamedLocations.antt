@@ -4,7 +4,7 @@ use Rattle.std.specs.Prelude.{◌≡◌, ℕ, if◌then◌else◌, List, [], ◌
 use Rattle.ds2_meaning.specs.declared.location.Global.{Global}
 use Rattle.ds2_meaning.specs.declared.location.Global.TheVariants as global
 use Rattle.ds2_meaning.specs.Location.{Home, Location, is_same_location}
-use Rattle.ds2_placement.specs.PlacedProgram.{number_of_location}
+use Rattle.ds2_program_code.specs.PlacedProgram.{number_of_location}
 use Rattle.ds2_deeds.specs.declared.location.CodeHome.{CodeHome}
 use Rattle.ds2_deeds.specs.declared.location.CodeHome.TheVariants as code_home_is
 use Rattle.ds2_deeds.specs.declared.location.GlobalName.{GlobalName}

@@ -4,7 +4,7 @@ use Rattle.std.specs.List.{range_with_len}
 use Rattle.ds2_meaning.specs.Location.{Home}
 use Rattle.ds2_meaning.specs.ProgramTree.{InstanceTree, UnitTree}
 use Rattle.ds2_locality.specs.Deeds.{MethodAt, is_same_method}
-use Rattle.ds2_placement.specs.PlacedProgram.{number_of_first}
+use Rattle.ds2_program_code.specs.PlacedProgram.{number_of_first}
 use Rattle.ds2_deeds.specs.declared.methods.MethodName.{MethodName}
 use Rattle.ds2_deeds.specs.NamedLocations.{code_home}
 

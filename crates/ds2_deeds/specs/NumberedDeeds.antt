@@ -5,7 +5,7 @@ use Rattle.ds2_locality.specs.Deeds.{MethodAt, Deed, Mention, MentionObject, Cha
 use Rattle.ds2_deeds.specs.declared.deed.NumberedDeed.{NumberedDeed}
 use Rattle.ds2_deeds.specs.declared.deed.NumberedDeed.TheVariants as numbered
 use Rattle.ds2_deeds.specs.declared.numbers.Numbers.{Numbers}
-use Rattle.ds2_placement.specs.PlacedProgram.{number_of_location}
+use Rattle.ds2_program_code.specs.PlacedProgram.{number_of_location}
 use Rattle.ds2_deeds.specs.NamedLocations.{locations_named}
 use Rattle.ds2_deeds.specs.NamedMethods.{methods_named, number_among_methods}
 

@@ -4,7 +4,7 @@ ghost use Rattle.ds2_meaning.specs.declared.location.Global.TheVariants.{Named, 
 ghost use Rattle.ds2_meaning.specs.HashObjects.{object_at};
 ghost use Rattle.ds2_meaning.specs.Location.{is_same_home, is_same_global, is_same_location};
 ghost use Rattle.ds2_locality.specs.Deeds.{global_at};
-ghost use Rattle.ds2_placement.specs.PlacedProgram.{number_of_location};
+ghost use Rattle.ds2_program_code.specs.PlacedProgram.{number_of_location};
 ghost use Rattle.ds2_deeds.specs.NamedLocations.{code_home, global_named, location_named, locations_named};
 
 use ds2_base::Name;

@@ -3,7 +3,7 @@
 //! A location is looked for by halves, in an order of locations that nothing rests on: what is found there is compared, and where it is
 //! another one all locations are walked.
 ghost use Rattle.std.specs.Prelude.{◌≡◌};
-ghost use Rattle.ds2_placement.specs.PlacedProgram.{number_of_location};
+ghost use Rattle.ds2_program_code.specs.PlacedProgram.{number_of_location};
 ghost use Rattle.ds2_deeds.specs.NamedLocations.{location_named, locations_named, AreDistinct};
 ghost use Rattle.ds2_deeds.specs.NamedMethods.{method_of_name, methods_named, number_among_methods, AreOwnFirst};
 

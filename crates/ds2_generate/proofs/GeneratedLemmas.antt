@@ -8,7 +8,7 @@ use Rattle.ds2_program_code.specs.Opening.{TypedProgramsOpenAlike}
 use Rattle.ds2_program_code.specs.ProgramCode.{program_code}
 use Rattle.ds2_program_code.specs.ProgramRuns.{TypedUnitsRunAsMeant}
 use Rattle.ds2_program_code.specs.ValidProgram.{TypedStagesAreValid}
-use Rattle.ds2_unit_counts.specs.CountsByWay.{TypedUnitsCountByWay}
+use Rattle.ds2_program_code.specs.CountsByWay.{TypedUnitsCountByWay}
 use Rattle.ds2_generate.specs.Generated.{codes_of, code_with_stages, DoesAs, DoAllAs, FitsStagedLimits}
 
 module _ (runs : TypedUnitsRunAsMeant) (opens : TypedProgramsOpenAlike) (counts : TypedUnitsCountByWay) where

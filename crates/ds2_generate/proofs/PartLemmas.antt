@@ -18,7 +18,7 @@ use Rattle.ds2_code.specs.declared.parts.ProgramParts.{ProgramParts}
 use Rattle.ds2_code.specs.declared.parts.ReadingPart.{ReadingPart}
 use Rattle.ds2_code.specs.declared.parts.Slot.{Slot}
 use Rattle.ds2_gen.specs.BodyCode.{bodies_code}
-use Rattle.ds2_placement.specs.UsedConstants.{UsedConstant}
+use Rattle.ds2_program_code.specs.UsedConstants.{UsedConstant}
 use Rattle.ds2_program_code.specs.CodeConstants.{constant_part}
 use Rattle.ds2_program_code.specs.CodeMethods.{code_methods}
 use Rattle.ds2_program_code.specs.CodeParts.{code_slots, hash_parts, iterator_parts, reading_part, output_part, slot_of_global}

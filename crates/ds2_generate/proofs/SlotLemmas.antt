@@ -11,8 +11,8 @@ use Rattle.ds2_meaning.specs.View.{constructors_first, init_tree, system_tree}
 use Rattle.ds2_layout.specs.declared.slot.LayoutSlot.{LayoutSlot}
 use Rattle.ds2_layout.specs.Layout.{program_slots, location_of_slot}
 use Rattle.ds2_code.specs.declared.parts.Slot.{Slot}
-use Rattle.ds2_placement.specs.KeptTypes.{all_types_kept, EachValueHasType}
-use Rattle.ds2_placement.specs.PlacedProgram.{own_slots, layout_size, first_of_run, first_of_term}
+use Rattle.ds2_program_code.specs.KeptTypes.{all_types_kept, EachValueHasType}
+use Rattle.ds2_program_code.specs.PlacedProgram.{own_slots, layout_size, first_of_run, first_of_term}
 use Rattle.ds2_program_code.specs.CodeParts.{layout_slot, own_types, slots_of_body}
 use Rattle.ds2_generate.specs.declared.unit.Unit.{Unit}
 use Rattle.ds2_generate.specs.OwnSlots.{kept_slot, AreProgramSlots}

@@ -13,8 +13,8 @@ use Rattle.ds2_gen.specs.BodyCode.{OfSystem, code_of_body, bodies_code}
 use Rattle.ds2_gen.specs.CodeCells.{Nameable, GlobalAt, LocalNamed, CodeCell}
 use Rattle.ds2_gen.specs.ExpressionCode.{CodeNumbers}
 use Rattle.ds2_gen.specs.MethodCode.{method_code}
-use Rattle.ds2_placement.specs.PlacedProgram.{layout_size}
-use Rattle.ds2_placement.specs.UsedConstants.{UsedConstant}
+use Rattle.ds2_program_code.specs.PlacedProgram.{layout_size}
+use Rattle.ds2_program_code.specs.UsedConstants.{UsedConstant}
 use Rattle.ds2_program_code.specs.CodeMethods.{CodeMethod, methods_at, code_methods}
 use Rattle.ds2_program_code.specs.ProgramCode.{code_constants, system_numbers, method_numbers, init_body, run_body, term_body, method_body, code_bodies, run_entry, term_entry, methods_entry, method_part, method_parts}
 use Rattle.ds2_numbering.specs.declared.frame.Frame.{Frame}

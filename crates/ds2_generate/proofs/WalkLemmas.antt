@@ -9,7 +9,7 @@ use Rattle.ds2_meaning.specs.Method.{MethodTree}
 use Rattle.ds2_meaning.specs.ProgramTree.{InstanceTree, UnitTree}
 use Rattle.ds2_meaning.specs.TypedExpression.{TypedArguments}
 use Rattle.ds2_meaning.specs.TypedStatement.{TypedStatements, Finish, Next, Construct}
-use Rattle.ds2_placement.specs.UsedConstants.{UsedConstant, constants_of_arguments, constants_of_body}
+use Rattle.ds2_program_code.specs.UsedConstants.{UsedConstant, constants_of_arguments, constants_of_body}
 use Rattle.ds2_program_code.specs.CodeConstants.{with_used_constant}
 use Rattle.ds2_program_code.specs.CodeMethods.{CodeMethod, methods_at, code_methods}
 use Rattle.ds2_program_code.specs.ProgramCode.{code_constants}

@@ -2,7 +2,7 @@
 use Rattle.std.specs.Prelude.{List, flat_map}
 use Rattle.ds2_meaning.specs.Method.{MethodTree}
 use Rattle.ds2_meaning.specs.ProgramTree.{InstanceTree}
-use Rattle.ds2_placement.specs.UsedConstants.{UsedConstant, constants_of_body}
+use Rattle.ds2_program_code.specs.UsedConstants.{UsedConstant, constants_of_body}
 
 -- those of methods in order
 abbrev pub constants_of_methods : List MethodTree → List UsedConstant

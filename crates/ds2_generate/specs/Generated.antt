@@ -12,13 +12,13 @@ use Rattle.ds2_code.specs.declared.parts.ProgramParts.{ProgramParts}
 use Rattle.ds2_code.specs.declared.parts.StagedParts.{StagedParts}
 use Rattle.ds2_code.specs.CodeUnit.{code_init, code_run, code_term, opening_data}
 use Rattle.ds2_code.specs.Desk.{ProgramData}
-use Rattle.ds2_placement.specs.PlacedProgram.{parameter_locations}
+use Rattle.ds2_program_code.specs.PlacedProgram.{parameter_locations}
 use Rattle.ds2_program_code.specs.LoadSettings.{slot_settings, table_load, stage_load}
 use Rattle.ds2_program_code.specs.Opening.{opening_tables}
 use Rattle.ds2_program_code.specs.ProgramCode.{program_code}
 use Rattle.ds2_program_code.specs.ProgramRuns.{HoldsProgram, EndsLikeUnit}
 use Rattle.ds2_program_code.specs.ValidProgram.{FitsObjectLimits}
-use Rattle.ds2_unit_counts.specs.CountsByWay.{CountsByWay}
+use Rattle.ds2_program_code.specs.CountsByWay.{CountsByWay}
 
 -- the code of a program and of the thread programs that it stands on
 abbrev pub codes_of : ProgramTree → List ProgramParts

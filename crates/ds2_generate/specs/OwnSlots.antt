@@ -4,7 +4,7 @@ use Rattle.ds2_value.specs.declared.ty.Ty.{Ty}
 use Rattle.ds2_meaning.specs.ProgramTree.{UnitTree}
 use Rattle.ds2_code.specs.declared.parts.Slot.{Slot}
 use Rattle.ds2_code.specs.declared.parts.SlotRole.TheVariants.{Kept}
-use Rattle.ds2_placement.specs.PlacedProgram.{layout_size, first_of_run, first_of_term}
+use Rattle.ds2_program_code.specs.PlacedProgram.{layout_size, first_of_run, first_of_term}
 use Rattle.ds2_program_code.specs.CodeParts.{code_slots}
 use Rattle.ds2_generate.specs.declared.program.ProgramSlots.{ProgramSlots}
 

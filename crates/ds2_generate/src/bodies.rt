@@ -4,7 +4,7 @@ ghost use Rattle.ds2_meaning.specs.declared.globals.Variable.{Variable as Variab
 ghost use Rattle.ds2_meaning.specs.View.{init_tree, instance_tree, system_tree, typed_method};
 ghost use Rattle.ds2_gen.specs.BodyCode.{OfSystem, code_of_body};
 ghost use Rattle.ds2_gen.specs.MethodCode.{method_code, parameter_part};
-ghost use Rattle.ds2_placement.specs.KeptTypes.{all_types_kept};
+ghost use Rattle.ds2_program_code.specs.KeptTypes.{all_types_kept};
 ghost use Rattle.ds2_program_code.specs.CodeMethods.{CodeMethod, methods_at};
 ghost use Rattle.ds2_program_code.specs.ProgramCode.{system_numbers, method_numbers, method_part};
 ghost use Rattle.ds2_numbering.specs.BodyTrees.{numbers_of_body};

@@ -2,7 +2,7 @@
 ghost use Rattle.std.specs.Prelude.{◌≡◌, [], map, flat_map, IfOk, OnOk};
 ghost use Rattle.ds2_meaning.specs.TypedStatement.{TypedStatements};
 ghost use Rattle.ds2_meaning.specs.View.{constructors_first, init_tree, instance_tree, system_tree, typed_method, unit_tree};
-ghost use Rattle.ds2_placement.specs.UsedConstants.{constants_of_body};
+ghost use Rattle.ds2_program_code.specs.UsedConstants.{constants_of_body};
 ghost use Rattle.ds2_program_code.specs.ProgramCode.{code_constants};
 ghost use Rattle.ds2_constants.specs.UsedOnce.{with_used};
 ghost use Rattle.ds2_generate.specs.ConstantWalk.{constants_of_methods, constants_of_instance};

@@ -9,7 +9,7 @@ ghost use Rattle.ds2_meaning.specs.View.{system_tree, typed_method, unit_tree};
 ghost use Rattle.ds2_layout.specs.Layout.{layout_of, program_slots, projection};
 ghost use Rattle.ds2_gen.specs.BodyCode.{code_of_body, bodies_code};
 ghost use Rattle.ds2_gen.specs.UnitCode.{implicit_outputs};
-ghost use Rattle.ds2_placement.specs.PlacedProgram.{layout_size, first_of_run, first_of_term};
+ghost use Rattle.ds2_program_code.specs.PlacedProgram.{layout_size, first_of_run, first_of_term};
 ghost use Rattle.ds2_program_code.specs.CodeMethods.{code_methods};
 ghost use Rattle.ds2_program_code.specs.ProgramCode.{program_code, run_body, run_entry, term_entry, methods_entry, method_parts, code_bodies};
 ghost use Rattle.ds2_numbering.specs.CellNumbers.{tree_of};
@@ -45,7 +45,7 @@ fn all_slots(unit: &Unit<'_, '_>) -> Result<ProgramSlots, OutOfMemory>
     requires { IsLaidOut unit.now }
     ensures { IfOk result (λ s. AreProgramSlots (tree_of_unit unit.now) s) }
 {
-    ds2_placement::laws::each_value_has_type();
+    ds2_program_code::placement_laws::each_value_has_type();
     let alloc = unit.alloc;
     let program = unit.program;
     let mut slots = layout_slots(alloc, unit.slots.as_slice())?;

@@ -3,7 +3,7 @@ ghost use Rattle.std.specs.Prelude.{◌≡◌, ◌++◌, length, map, IfOk, OnOk
 ghost use Rattle.ds2_meaning.specs.declared.globals.Variable.{Variable as VariableModel};
 ghost use Rattle.ds2_meaning.specs.View.{system_tree};
 ghost use Rattle.ds2_meaning.specs.ProgramMeaning.{global_name};
-ghost use Rattle.ds2_placement.specs.PlacementLaws.{code_role};
+ghost use Rattle.ds2_program_code.specs.PlacementLaws.{code_role};
 ghost use Rattle.ds2_program_code.specs.CodeParts.{layout_slot, own_types, slots_of_body};
 ghost use Rattle.ds2_base.specs.Name.{IsOwnName};
 ghost use Rattle.ds2_generate.specs.OwnSlots.{kept_slot};

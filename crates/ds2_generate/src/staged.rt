@@ -97,7 +97,7 @@ pub fn generate(alloc: Global, program: &TypedData) -> Result<Option<ProgramCode
     ds2_program_code::laws::typed_units_run_as_meant();
     ds2_program_code::laws::typed_programs_open_alike();
     ds2_program_code::laws::typed_stages_are_valid();
-    ds2_unit_counts::laws::typed_units_count_by_way();
+    ds2_program_code::count_laws::typed_units_count_by_way();
     let parts = staged_parts(alloc, program)?;
     verify(alloc, parts)
 }

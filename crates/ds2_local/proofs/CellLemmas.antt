@@ -6,7 +6,7 @@ use Rattle.std.proofs.lemmas.List.FromFn.{length-map-range_with_len}
 use Rattle.std.proofs.lemmas.Option.{slice_get-map, slice_get_within}
 use Rattle.ds2_value.specs.declared.fault.TheConstants.{CALL_DEPTH}
 use Rattle.ds2_meaning.specs.Location.{Location}
-use Rattle.ds2_placement.specs.PlacedProgram.{number_of_location}
+use Rattle.ds2_program_code.specs.PlacedProgram.{number_of_location}
 use Rattle.ds2_meaning.specs.ProgramTree.{UnitTree}
 use Rattle.ds2_locality.specs.Deeds.{body_deeds, system_scope, run_can_change, run_deeds}
 use Rattle.ds2_locality.specs.KeptLocations.{is_kept}

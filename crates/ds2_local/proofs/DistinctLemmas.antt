@@ -5,7 +5,7 @@ use Rattle.std.specs.Option.{option_or}
 use Rattle.std.specs.Prelude.{◌||◌, if◌then◌else◌}
 use Rattle.std.proofs.lemmas.List.Folds.{find-append}
 use Rattle.ds2_meaning.specs.Location.{Location, is_same_location}
-use Rattle.ds2_placement.specs.PlacedProgram.{number_of_location}
+use Rattle.ds2_program_code.specs.PlacedProgram.{number_of_location}
 use Rattle.ds2_locality.proofs.Frame.{location_is}
 use Rattle.ds2_deeds.specs.NamedLocations.{with_location, with_locations, told_once}
 

@@ -5,7 +5,7 @@ use Rattle.std.proofs.lemmas.Bool.{and_parts}
 use Rattle.std.proofs.lemmas.Bool.Decides.{Decides-eqb}
 use Rattle.std.proofs.lemmas.Option.{same_Some}
 use Rattle.ds2_meaning.specs.Location.{Home, is_same_home, Location, is_same_location}
-use Rattle.ds2_placement.specs.PlacedProgram.{number_of_first, number_of_location}
+use Rattle.ds2_program_code.specs.PlacedProgram.{number_of_first, number_of_location}
 use Rattle.ds2_locality.specs.Deeds.{MethodAt, is_same_method}
 use Rattle.ds2_locality.proofs.Frame.{home_is, location_is}
 use Rattle.ds2_deeds.specs.NamedMethods.{number_among_methods}

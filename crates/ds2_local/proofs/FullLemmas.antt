@@ -2,7 +2,7 @@
 use Rattle.std.proofs.Common.{◌≡◌, ℕ, suc, Bool, true, false, List, [], ◌∷◌, length, replicate, Option, Some, None, option_map, refl, sym, ap, ◌∙◌}
 use Rattle.std.specs.Prelude.{◌&&◌, if◌then◌else◌, is_some}
 use Rattle.ds2_meaning.specs.Location.{Location, is_same_location}
-use Rattle.ds2_placement.specs.PlacedProgram.{number_of_location}
+use Rattle.ds2_program_code.specs.PlacedProgram.{number_of_location}
 use Rattle.ds2_locality.specs.Walk.{DirtySet, united, WaysOut, at_end}
 use Rattle.ds2_recorded_walk.specs.LocationBits.{is_number_on, either_on, set_of_bits}
 use Rattle.ds2_recorded_walk.specs.RecordedWalks.{of_those}

@@ -6,7 +6,7 @@ use Rattle.std.proofs.lemmas.List.{length-map}
 use Rattle.ds2_base.specs.declared.place.Place.{Place}
 use Rattle.ds2_meaning.specs.Location.{Location}
 use Rattle.ds2_meaning.specs.Reading.{bys_of}
-use Rattle.ds2_placement.specs.PlacedProgram.{number_of_location}
+use Rattle.ds2_program_code.specs.PlacedProgram.{number_of_location}
 use Rattle.ds2_locality.specs.KeptLocations.{is_flag_before}
 use Rattle.ds2_locality.specs.Verdict.{JudgedThread, is_cell, walk_run, known_first, second_walk, ground_of_walk}
 use Rattle.ds2_locality.specs.Walk.{DirtySet, no_flag, united, WalkEnd, then_walk}

@@ -6,7 +6,7 @@ use Rattle.std.proofs.lemmas.Bool.Decides.{Decides-eqb}
 use Rattle.std.proofs.lemmas.List.Folds.{list_any-append}
 use Rattle.std.proofs.lemmas.Option.{same_Some}
 use Rattle.ds2_meaning.specs.Location.{Location, is_same_location}
-use Rattle.ds2_placement.specs.PlacedProgram.{number_of_location}
+use Rattle.ds2_program_code.specs.PlacedProgram.{number_of_location}
 use Rattle.ds2_locality.specs.Deeds.{Deed, Mention, MentionObject, Change, CallOf, WriteAt, mentions_location, changes_location}
 use Rattle.ds2_locality.proofs.Frame.{location_is}
 use Rattle.ds2_locality.proofs.Near.{location_self}

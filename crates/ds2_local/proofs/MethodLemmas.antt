@@ -13,7 +13,7 @@ use Rattle.ds2_value.specs.declared.fault.TheConstants.{CALL_DEPTH}
 use Rattle.ds2_base.specs.declared.place.Place.{Place}
 use Rattle.ds2_meaning.specs.Location.{Home, is_same_home, Location}
 use Rattle.ds2_meaning.specs.ProgramTree.{InstanceTree, UnitTree, instance_methods, methods_of}
-use Rattle.ds2_placement.specs.PlacedProgram.{number_of_first}
+use Rattle.ds2_program_code.specs.PlacedProgram.{number_of_first}
 use Rattle.ds2_locality.specs.Deeds.{MethodAt, is_same_method, deeds_of_method, method_deeds, is_among_methods, reached_from, number_of_methods, may_be_called, with_callees, mentions_location}
 use Rattle.ds2_locality.specs.Verdict.{JudgedThread, locations_in_order, is_on_cycle, read_on_cycle, walk_body, walk_method}
 use Rattle.ds2_locality.specs.Walk.{DirtySet, GoesOn, read_locations}

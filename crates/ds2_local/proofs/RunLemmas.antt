@@ -16,7 +16,7 @@ use Rattle.ds2_meaning.specs.ProgramTree.{UnitTree, sources, program_has_output}
 use Rattle.ds2_meaning.specs.Reading.{bys_of}
 use Rattle.ds2_meaning.specs.TypedStatement.{TypedStatements}
 use Rattle.ds2_meaning.specs.View.{system_tree, reading_with_run}
-use Rattle.ds2_placement.specs.PlacedProgram.{number_of_location}
+use Rattle.ds2_program_code.specs.PlacedProgram.{number_of_location}
 use Rattle.ds2_locality.specs.Deeds.{MethodAt, CodeScope, method_deeds, system_scope, columns_written, number_of_methods}
 use Rattle.ds2_locality.specs.KeptLocations.{is_flag_of_by, is_first_of_by}
 use Rattle.ds2_locality.specs.Verdict.{JudgedThread, walk_method, walk_run}

@@ -11,7 +11,7 @@ use Rattle.ds2_meaning.specs.Location.{Home, Location}
 use Rattle.ds2_meaning.specs.Method.{MethodTree}
 use Rattle.ds2_meaning.specs.ProgramTree.{methods_of}
 use Rattle.ds2_meaning.specs.View.{unit_tree}
-use Rattle.ds2_placement.specs.PlacedProgram.{number_of_location}
+use Rattle.ds2_program_code.specs.PlacedProgram.{number_of_location}
 use Rattle.ds2_locality.specs.Deeds.{MethodAt, CodeScope, method_scope, method_deeds, mentions_location}
 use Rattle.ds2_locality.specs.Verdict.{JudgedThread, locations_in_order, read_on_cycle, past_body, walk_body, walk_method}
 use Rattle.ds2_locality.specs.Walk.{DirtySet, WalkEnd, read_locations, CallWalks, walk_all}

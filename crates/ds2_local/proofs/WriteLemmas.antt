@@ -3,7 +3,7 @@ use Rattle.std.proofs.Common.{◌≡◌, ◌<◌, ◌≤◌, ◌⊎◌, inl, inr
 use Rattle.std.specs.Prelude.{◌&&◌, ◌==◌, nat_lt, if◌then◌else◌}
 use Rattle.std.proofs.lemmas.Bool.{cases_lt, cases_order, or_cases, or_parts, and_parts, ltb-true, eqb-true, lt-ltb, eq-eqb}
 use Rattle.ds2_base.specs.declared.place.Place.{Place}
-use Rattle.ds2_placement.specs.PlacedProgram.{number_of_location}
+use Rattle.ds2_program_code.specs.PlacedProgram.{number_of_location}
 use Rattle.ds2_locality.specs.Deeds.{Deed, Mention, MentionObject, Change, CallOf, WriteAt}
 use Rattle.ds2_locality.specs.Verdict.{stands_before, earlier_place, first_write}
 use Rattle.ds2_deeds.specs.declared.deed.NumberedDeed.{NumberedDeed}

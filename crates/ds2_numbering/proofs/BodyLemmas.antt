@@ -8,7 +8,7 @@ use Rattle.ds2_value.specs.declared.value.Value.TheVariants as value
 use Rattle.ds2_code.specs.declared.instr.Instr.TheVariants.{Null as PushesNull, Const}
 use Rattle.ds2_gen.specs.CodeCells.{CodeCell}
 use Rattle.ds2_gen.specs.ExpressionCode.{CodeNumbers, constant_instr}
-use Rattle.ds2_placement.specs.PlacedProgram.{first_cell}
+use Rattle.ds2_program_code.specs.PlacedProgram.{first_cell}
 use Rattle.ds2_numbering.specs.BodyTrees.{pushed_by}
 
 pub null_pushed : (numbers : Value → Ty → ℕ) (v : Value) (ty : Ty) → is_null v ≡ true → pushed_by numbers v ty ≡ PushesNull ty

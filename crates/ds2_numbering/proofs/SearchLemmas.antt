@@ -9,7 +9,7 @@ use Rattle.ds2_meaning.specs.declared.readings.Reading.TheVariants as reading
 use Rattle.ds2_meaning.specs.Location.{Location}
 use Rattle.ds2_meaning.specs.Reading.{stage_instance}
 use Rattle.ds2_meaning.specs.View.{reading_with_run}
-use Rattle.ds2_placement.specs.PlacedProgram.{number_of_first, parameters_at}
+use Rattle.ds2_program_code.specs.PlacedProgram.{number_of_first, parameters_at}
 use Rattle.ds2_numbering.specs.declared.search.Search.{Search}
 use Rattle.ds2_numbering.specs.CellNumbers.{read_parameters}
 use Rattle.ds2_numbering.specs.Searching.{first_or_this, unbegun, looked_on, search_by}

@@ -11,7 +11,7 @@ use Rattle.ds2_code.specs.declared.instr.Instr.{Instr}
 use Rattle.ds2_code.specs.declared.instr.Instr.TheVariants.{Null as PushesNull, Const}
 use Rattle.ds2_gen.specs.CodeCells.{CodeCell, HashCell, IteratorCell, ParameterCell}
 use Rattle.ds2_gen.specs.ExpressionCode.{CodeNumbers}
-use Rattle.ds2_placement.specs.PlacedProgram.{number_of_location, hash_locations, iterator_locations, parameter_locations, first_cell}
+use Rattle.ds2_program_code.specs.PlacedProgram.{number_of_location, hash_locations, iterator_locations, parameter_locations, first_cell}
 use Rattle.ds2_numbering.specs.declared.body_numbers.BodyNumbers.{BodyNumbers}
 use Rattle.ds2_numbering.specs.FrameNumbers.{frame_numbers}
 

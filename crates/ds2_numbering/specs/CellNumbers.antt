@@ -9,7 +9,7 @@ use Rattle.ds2_meaning.specs.View.{unit_tree}
 use Rattle.ds2_layout.specs.declared.slot.LayoutSlot.{LayoutSlot}
 use Rattle.ds2_layout.specs.Layout.{location_of_slot}
 use Rattle.ds2_gen.specs.CodeCells.{CodeCell, SlotCell, LocalCell, HashCell, IteratorCell, ParameterCell}
-use Rattle.ds2_placement.specs.PlacedProgram.{number_of_location, hashes_at, iterators_at, parameters_at, hash_locations, iterator_locations, parameter_locations, first_cell}
+use Rattle.ds2_program_code.specs.PlacedProgram.{number_of_location, hashes_at, iterators_at, parameters_at, hash_locations, iterator_locations, parameter_locations, first_cell}
 use Rattle.ds2_numbering.specs.declared.cell.Cell.{Cell}
 use Rattle.ds2_numbering.specs.declared.cell.Cell.TheVariants as cell
 

@@ -11,8 +11,8 @@ use Rattle.ds2_layout.specs.declared.slot.LayoutSlot.{LayoutSlot}
 use Rattle.ds2_gen.specs.CodeCells.{Nameable, GlobalAt, LocalNamed, CodeCell, SlotCell, LocalCell}
 use Rattle.ds2_gen.specs.ExpressionCode.{CodeNumbers}
 use Rattle.ds2_gen.specs.StatementCode.{statements_keep}
-use Rattle.ds2_placement.specs.PlacedProgram.{number_of_name, names_of_variables, frame_names, frame_size, system_reserved, method_reserved}
-use Rattle.ds2_placement.specs.UsedConstants.{UsedConstant}
+use Rattle.ds2_program_code.specs.PlacedProgram.{number_of_name, names_of_variables, frame_names, frame_size, system_reserved, method_reserved}
+use Rattle.ds2_program_code.specs.UsedConstants.{UsedConstant}
 use Rattle.ds2_program_code.specs.CodeConstants.{constant_number}
 use Rattle.ds2_program_code.specs.CodeMethods.{callee_of}
 use Rattle.ds2_emitter.specs.declared.returning.Returning.{Returning}

@@ -2,7 +2,7 @@
 use Rattle.std.specs.Prelude.{◌≡◌, ℕ, bytes_eq, List, Option}
 use Rattle.std.specs.Borrow.{Bor}
 use Rattle.std.specs.HashMap.{HashMap, get_by}
-use Rattle.ds2_placement.specs.PlacedProgram.{number_of_name}
+use Rattle.ds2_program_code.specs.PlacedProgram.{number_of_name}
 
 -- the number that a name has
 abbrev pub number_under : {S : Type 0} → HashMap (Bor (List ℕ)) ℕ S → List ℕ → Option ℕ

@@ -3,7 +3,7 @@ use Rattle.std.specs.Prelude.{◌≡◌, ℕ, List, map}
 use Rattle.std.specs.HashMap.{HashMap, get}
 use Rattle.ds2_layout.specs.declared.slot.LayoutSlot.{LayoutSlot}
 use Rattle.ds2_layout.specs.Layout.{location_of_slot}
-use Rattle.ds2_placement.specs.PlacedProgram.{number_of_location}
+use Rattle.ds2_program_code.specs.PlacedProgram.{number_of_location}
 use Rattle.ds2_numbering.specs.declared.sought.Sought.{Sought}
 use Rattle.ds2_numbering.specs.SoughtKeys.{is_one_sought}
 use Rattle.ds2_numbering.specs.SoughtLocations.{location_sought}

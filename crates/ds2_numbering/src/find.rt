@@ -3,7 +3,7 @@ ghost use Rattle.std.specs.Prelude.{◌≡◌, [], IfOk, map, flat_map, bytes_eq
 ghost use Rattle.ds2_meaning.specs.View.{instance_tree, objects_tree, reading_with_run};
 ghost use Rattle.ds2_meaning.specs.declared.globals.Variable.{Variable as VariableModel};
 ghost use Rattle.ds2_meaning.specs.Reading.{stage_instance};
-ghost use Rattle.ds2_placement.specs.PlacedProgram.{number_of_location, hashes_at, iterators_at, hash_locations, iterator_locations, parameter_locations};
+ghost use Rattle.ds2_program_code.specs.PlacedProgram.{number_of_location, hashes_at, iterators_at, hash_locations, iterator_locations, parameter_locations};
 ghost use Rattle.ds2_numbering.specs.SoughtLocations.{home_of_name, location_sought, stage_parameter_at};
 ghost use Rattle.ds2_numbering.specs.Searching.{search_among};
 ghost use Rattle.ds2_numbering.specs.CellNumbers.{instance_hashes, instance_iterators, read_parameters, tree_of};

@@ -3,7 +3,7 @@ ghost use Rattle.std.specs.Prelude.{◌≡◌, ◌+◌, IfOk};
 ghost use Rattle.std.specs.Option.{option_map};
 ghost use Rattle.ds2_meaning.specs.View.{typed_method};
 ghost use Rattle.ds2_gen.specs.CodeCells.{SlotCell, LocalCell};
-ghost use Rattle.ds2_placement.specs.PlacedProgram.{number_of_name, names_of_variables, frame_names};
+ghost use Rattle.ds2_program_code.specs.PlacedProgram.{number_of_name, names_of_variables, frame_names};
 ghost use Rattle.ds2_numbering.specs.CellNumbers.{code_cell};
 ghost use Rattle.ds2_numbering.specs.FrameNumbers.{home_in, local_in, kept_in, way_in};
 ghost use Rattle.ds2_numbering.specs.SoughtLocations.{home_of_name};

@@ -2,7 +2,7 @@
 ghost use Rattle.std.specs.Prelude.{◌≡◌, ℕ, List as Items, IfOk, OnOk, bytes_eq, map};
 ghost use Rattle.ds2_meaning.specs.declared.methods.Parameter.{Parameter as ParameterModel};
 ghost use Rattle.ds2_meaning.specs.View.{typed_method};
-ghost use Rattle.ds2_placement.specs.PlacedProgram.{number_of_name, names_of_variables, frame_names};
+ghost use Rattle.ds2_program_code.specs.PlacedProgram.{number_of_name, names_of_variables, frame_names};
 ghost use Rattle.ds2_numbering.specs.NameNumbers.{number_under, AreNamed};
 ghost use Rattle.ds2_numbering.specs.Searching.{first_or_this, search_names};
 
@@ -26,7 +26,7 @@ impl<'p> Model for VariableTable<'p> {
 
     ghost Value = { Items VariableModel };
 
-    ghost use Rattle.ds2_placement.specs.PlacedProgram.{names_of_variables};
+    ghost use Rattle.ds2_program_code.specs.PlacedProgram.{names_of_variables};
     ghost use Rattle.ds2_numbering.specs.NameNumbers.{AreNamed};
 
     ghost view = { λ t. t.variables.now };
@@ -50,7 +50,7 @@ impl<'p> Model for MethodTable<'p> {
     ghost coded = { the_row.coded };
 
     ghost use Rattle.ds2_meaning.specs.View.{typed_method};
-    ghost use Rattle.ds2_placement.specs.PlacedProgram.{frame_names};
+    ghost use Rattle.ds2_program_code.specs.PlacedProgram.{frame_names};
     ghost use Rattle.ds2_numbering.specs.NameNumbers.{AreNamed};
 
     ghost view = { λ t. t.method.now };

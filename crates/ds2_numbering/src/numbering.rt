@@ -4,7 +4,7 @@ ghost use Rattle.std.specs.Option.{option_map};
 ghost use Rattle.ds2_meaning.specs.Evaluation.{callee_home};
 ghost use Rattle.ds2_gen.specs.CodeCells.{ParameterCell};
 ghost use Rattle.ds2_gen.specs.ExpressionCode.{cell_of};
-ghost use Rattle.ds2_placement.specs.PlacedProgram.{number_of_location, parameter_locations};
+ghost use Rattle.ds2_program_code.specs.PlacedProgram.{number_of_location, parameter_locations};
 ghost use Rattle.ds2_program_code.specs.CodeConstants.{constant_number};
 ghost use Rattle.ds2_numbering.specs.CellNumbers.{cell_among, code_cell, tree_of};
 ghost use Rattle.ds2_numbering.specs.FrameNumbers.{way_in};

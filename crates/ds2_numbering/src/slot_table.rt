@@ -2,7 +2,7 @@
 ghost use Rattle.std.specs.Prelude.{◌≡◌, IfOk, OnOk, map};
 ghost use Rattle.std.specs.HashMap.{get};
 ghost use Rattle.ds2_layout.specs.Layout.{location_of_slot};
-ghost use Rattle.ds2_placement.specs.PlacedProgram.{number_of_location};
+ghost use Rattle.ds2_program_code.specs.PlacedProgram.{number_of_location};
 ghost use Rattle.ds2_numbering.specs.declared.sought.Sought.{Sought as SoughtModel};
 ghost use Rattle.ds2_numbering.specs.Searching.{first_or_this};
 ghost use Rattle.ds2_numbering.specs.SoughtKeys.{is_one_sought};

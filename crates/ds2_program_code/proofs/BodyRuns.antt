@@ -24,17 +24,17 @@ use Rattle.ds2_gen.specs.MethodCode.{method_ending, method_end, method_exits, me
 use Rattle.ds2_gen.specs.StatementCode.{outputs_code, construct_code, statement_size, statements_size, statement_code, statements_code}
 use Rattle.ds2_gen.specs.UnitCode.{locals_code, body_start, body_end, unit_exits, body_code, implicit_outputs}
 use Rattle.ds2_gen.proofs.SizeLemmas.{size_is, sizes_are}
-use Rattle.ds2_placement.specs.KeptTypes.{all_types_kept}
-use Rattle.ds2_placement.specs.PlacedProgram.{names_of_variables, system_cell, system_placement}
-use Rattle.ds2_placement.specs.UsedConstants.{constants_of_arguments, constants_of_body}
+use Rattle.ds2_program_code.specs.KeptTypes.{all_types_kept}
+use Rattle.ds2_program_code.specs.PlacedProgram.{names_of_variables, system_cell, system_placement}
+use Rattle.ds2_program_code.specs.UsedConstants.{constants_of_arguments, constants_of_body}
 use Rattle.ds2_program_code.specs.CodeParts.{code_slots, output_part}
 use Rattle.ds2_program_code.specs.ProgramCode.{system_numbers, method_numbers, method_part, program_code}
 use Rattle.ds2_program_code.specs.TypedCode.{FitsCodeLimits, StageParametersFit}
-use Rattle.ds2_operand_types.specs.TypedOperands.{OperandsLead, HaveConstantsOfTypes}
-use Rattle.ds2_operand_types.specs.TypedRuns.{OperandsRun, AreOpenPlaces, ReturnsOfRole, KeptHaveTypes, AllPutsAreShort, StatementsRun}
-use Rattle.ds2_operand_types.proofs.OperandLeads.{front_types, back_types}
-use Rattle.ds2_operand_types.proofs.PlainStatements.{outputs_lead, invoke_leads}
-use Rattle.ds2_operand_types.proofs.RunPieces.{plain_runs, runs_append, plain_then, runs_one, open_behind, open_front, Anywhere, all_open}
+use Rattle.ds2_program_code.specs.TypedOperands.{OperandsLead, HaveConstantsOfTypes}
+use Rattle.ds2_program_code.specs.TypedRuns.{OperandsRun, AreOpenPlaces, ReturnsOfRole, KeptHaveTypes, AllPutsAreShort, StatementsRun}
+use Rattle.ds2_program_code.proofs.OperandLeads.{front_types, back_types}
+use Rattle.ds2_program_code.proofs.PlainStatements.{outputs_lead, invoke_leads}
+use Rattle.ds2_program_code.proofs.RunPieces.{plain_runs, runs_append, plain_then, runs_one, open_behind, open_front, Anywhere, all_open}
 use Rattle.ds2_program_code.proofs.Bodies.{owned}
 use Rattle.ds2_program_code.proofs.BodyTypes.{role_of, system_kept, body_types, init_types, method_kept, method_types}
 use Rattle.ds2_program_code.proofs.Lists.{slice_in_front, slice_mapped, slice_below}

@@ -22,14 +22,14 @@ use Rattle.ds2_code.specs.OperandTypes.{CodeRole, OfUnit, OfMethod, signature_of
 use Rattle.ds2_gen.specs.CodeCells.{LocalNamed, SlotCell, LocalCell, Placement}
 use Rattle.ds2_gen.specs.ExpressionCode.{cell_of}
 use Rattle.ds2_gen.specs.MethodCode.{parameter_part}
-use Rattle.ds2_placement.specs.KeptTypes.{all_types_kept}
-use Rattle.ds2_placement.specs.PlacedProgram.{system_placement, frame_size, method_placement}
+use Rattle.ds2_program_code.specs.KeptTypes.{all_types_kept}
+use Rattle.ds2_program_code.specs.PlacedProgram.{system_placement, frame_size, method_placement}
 use Rattle.ds2_program_code.specs.CodeMethods.{first_method_of}
 use Rattle.ds2_program_code.specs.CodeParts.{code_slots}
 use Rattle.ds2_program_code.specs.ProgramCode.{body_numbers, system_numbers, method_numbers, method_part, program_code}
 use Rattle.ds2_program_code.specs.TypedCode.{FitsCodeLimits}
-use Rattle.ds2_operand_types.specs.TypedOperands.{HasCellOfType, HasTypedPart, NamesHaveTypes}
-use Rattle.ds2_operand_types.specs.TypedRuns.{KeptHaveTypes}
+use Rattle.ds2_program_code.specs.TypedOperands.{HasCellOfType, HasTypedPart, NamesHaveTypes}
+use Rattle.ds2_program_code.specs.TypedRuns.{KeptHaveTypes}
 use Rattle.ds2_program_code.proofs.Bodies.{owned, number_listed, declared_stands}
 use Rattle.ds2_program_code.proofs.Layouts.{in_bounds_of}
 use Rattle.ds2_program_code.proofs.Lists.{same_some, slice_in_front, slice_in_back}

@@ -12,11 +12,11 @@ use Rattle.ds2_meaning.specs.Location.{Home}
 use Rattle.ds2_meaning.specs.ProgramTree.{UnitTree}
 use Rattle.ds2_code.specs.declared.parts.Constant.{Constant}
 use Rattle.ds2_gen.specs.CodeCells.{Placement}
-use Rattle.ds2_placement.specs.UsedConstants.{UsedConstant, constants_of_body}
+use Rattle.ds2_program_code.specs.UsedConstants.{UsedConstant, constants_of_body}
 use Rattle.ds2_program_code.specs.CodeConstants.{is_one_value, is_one_constant, constant_number, constant_part}
 use Rattle.ds2_program_code.specs.CodeMethods.{CodeMethod, code_methods}
 use Rattle.ds2_program_code.specs.ProgramCode.{constants_of_program, code_constants, body_numbers, program_code}
-use Rattle.ds2_operand_types.specs.TypedOperands.{HasConstantOfType, HaveConstantsOfTypes}
+use Rattle.ds2_program_code.specs.TypedOperands.{HasConstantOfType, HaveConstantsOfTypes}
 use Rattle.ds2_program_code.proofs.Constants.{is_listed_in, AreListed, all_listed}
 use Rattle.ds2_program_code.proofs.Lists.{same_some, number_of_any, number_passes, slice_mapped}
 

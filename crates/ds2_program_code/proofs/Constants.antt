@@ -19,7 +19,7 @@ use Rattle.ds2_code.specs.declared.parts.ProgramParts.{ProgramParts}
 use Rattle.ds2_code.specs.Desk.{constant_value}
 use Rattle.ds2_gen.specs.CoveredForms.{HasConstant}
 use Rattle.ds2_gen.specs.ExpressionCode.{CodeNumbers}
-use Rattle.ds2_placement.specs.UsedConstants.{UsedConstant, constants_of_body, HaveConstants}
+use Rattle.ds2_program_code.specs.UsedConstants.{UsedConstant, constants_of_body, HaveConstants}
 use Rattle.ds2_program_code.specs.CodeConstants.{is_one_value, is_one_constant, with_used_constant, constant_number, constant_part}
 use Rattle.ds2_program_code.specs.CodeMethods.{CodeMethod}
 use Rattle.ds2_program_code.specs.ProgramCode.{constants_of_program, code_constants}

@@ -10,7 +10,7 @@ use Rattle.ds2_meaning.specs.HashObjects.{DeclaredObjects, no_objects}
 use Rattle.ds2_meaning.specs.IsTyped.{are_distinct, variable_names, object_names, AreTypedIterators, AreTypedInstances, IsTypedUnit}
 use Rattle.ds2_meaning.specs.Location.{Home, is_same_home}
 use Rattle.ds2_meaning.specs.ProgramTree.{InstanceTree, UnitTree, data_vector, is_listed, instance_objects, objects_of}
-use Rattle.ds2_placement.specs.PlacedProgram.{number_of_first}
+use Rattle.ds2_program_code.specs.PlacedProgram.{number_of_first}
 use Rattle.ds2_program_code.proofs.Lists.{same_some, bytes_swap, bytes_self, any_append, none_in_both, any_in_back, none_mapped, number_of_any, number_in_front, number_in_back, number_inside, slice_of_front, slice_in_back, Beside, beside_in_front, beside_in_back}
 
 -- a home with its variables and objects

@@ -37,8 +37,8 @@ use Rattle.ds2_code.specs.ValidCode.{joins_to_slot, columns_fit, is_flag_slot, i
 use Rattle.ds2_program_code.specs.CodeParts.{slot_of_global, code_slots, variable_slots, columns_of_variables, hash_table_part, hash_part, hash_parts, input_part, by_variable_part, reading_part, output_part}
 use Rattle.ds2_program_code.specs.ProgramCode.{program_code}
 use Rattle.ds2_program_code.specs.LayoutsFit.{TypedLayoutsFit}
-use Rattle.ds2_placement.specs.KeptTypes.{EachValueHasType}
-use Rattle.ds2_placement.specs.PlacedProgram.{number_of_first}
+use Rattle.ds2_program_code.specs.KeptTypes.{EachValueHasType}
+use Rattle.ds2_program_code.specs.PlacedProgram.{number_of_first}
 use Rattle.ds2_program_code.proofs.Homes.{UnitHome, homes_of, homes_apart, AreLookedUp, all_looked}
 use Rattle.ds2_program_code.proofs.Lists.{same_some, bytes_swap, bytes_self, slice_mapped, Beside, beside_here, beside_later}
 use Rattle.ds2_program_code.proofs.Names.{position_numbered, slot_at_number}

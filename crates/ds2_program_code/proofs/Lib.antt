@@ -24,3 +24,13 @@ pub mod Values
 pub mod StageParameters
 pub mod Validity
 pub mod Openings
+pub mod Placements
+pub mod Roles
+pub mod KeptTypes
+pub mod Covered
+pub mod TypeBounds
+pub mod OperandLeads
+pub mod RunPieces
+pub mod PlainStatements
+pub mod StatementOperands
+pub mod Counted

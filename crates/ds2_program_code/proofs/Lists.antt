@@ -6,7 +6,7 @@ use Rattle.std.proofs.lemmas.Bool.{true≢false, or_from}
 use Rattle.std.proofs.lemmas.Slice.Eq.{bytes_eq-Decides}
 use Rattle.ds2_code.specs.declared.instr.Instr.{Instr}
 use Rattle.ds2_gen.specs.CodePieces.{StandsAt}
-use Rattle.ds2_placement.specs.PlacedProgram.{number_of_first}
+use Rattle.ds2_program_code.specs.PlacedProgram.{number_of_first}
 
 pub same_some : {X : Type 0} (a b : X) → Some a ≡ Some b → a ≡ b
 same_some a b e = cc

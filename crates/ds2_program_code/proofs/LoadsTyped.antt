@@ -16,7 +16,7 @@ use Rattle.ds2_meaning.specs.IsTyped.{type_in, flag_type, is_by, is_flag_of, is_
 use Rattle.ds2_meaning.specs.ProgramTree.{UnitTree, data_vector}
 use Rattle.ds2_meaning.specs.Reading.{InputTables, Settings, inputs_of, bys_of, nulls, all_nulls, row_settings, row_numbered, settings_of_row, tables_settings, present_setting, present_settings, by_settings, settings_in, settings_of, stage_columns}
 use Rattle.ds2_gen.specs.UnitTheorem.{AreSameSettings}
-use Rattle.ds2_placement.specs.PlacedProgram.{first_of_run, system_placement}
+use Rattle.ds2_program_code.specs.PlacedProgram.{first_of_run, system_placement}
 use Rattle.ds2_program_code.specs.LoadSettings.{slot_settings, TypedLoadsHaveSlots}
 use Rattle.ds2_program_code.proofs.Lists.{bytes_self}
 use Rattle.ds2_program_code.proofs.Slots.{slot_cell}

@@ -26,8 +26,8 @@ use Rattle.ds2_layout.specs.Layout.{program_slots, location_of_slot, slot_at, so
 use Rattle.ds2_gen.specs.CodeCells.{LocalNamed, CodeCell, SlotCell, LocalCell, HashCell, IteratorCell, ParameterCell, Placement, IsValueCell}
 use Rattle.ds2_gen.specs.CoveredForms.{HasValueCell, AreSourceSlots, HasOutput, IsParameterCell}
 use Rattle.ds2_gen.specs.ExpressionCode.{Callee}
-use Rattle.ds2_placement.specs.PlacedProgram.{number_of_first, number_of_location, number_of_name, slot_locations, hashes_at, iterators_at, hash_locations, iterator_locations, parameter_locations, first_cell, program_cell, names_of_variables, system_placement, frame_names, method_placement}
-use Rattle.ds2_placement.specs.TypedIsCovered.{IsCallable, NamesHavePlaces}
+use Rattle.ds2_program_code.specs.PlacedProgram.{number_of_first, number_of_location, number_of_name, slot_locations, hashes_at, iterators_at, hash_locations, iterator_locations, parameter_locations, first_cell, program_cell, names_of_variables, system_placement, frame_names, method_placement}
+use Rattle.ds2_program_code.specs.TypedIsCovered.{IsCallable, NamesHavePlaces}
 use Rattle.ds2_program_code.specs.CodeMethods.{first_method_of, callee_of}
 use Rattle.ds2_program_code.specs.CodeParts.{slot_of_global, output_part}
 use Rattle.ds2_program_code.specs.ProgramCode.{body_numbers, system_numbers, method_numbers, method_part, program_code}

@@ -20,7 +20,7 @@ use Rattle.ds2_code.specs.declared.parts.ProgramParts.{ProgramParts}
 use Rattle.ds2_gen.specs.CodeCells.{Nameable, GlobalAt, LocalNamed, CodeCell, SlotCell, LocalCell, HashCell, IteratorCell, ParameterCell, Placement, IsValueCell}
 use Rattle.ds2_gen.specs.CoveredObjects.{AreVariableSlots, iterator_names, is_walking, walks_hash, IsWalker, IteratorsFit, HasHash, HasIterator}
 use Rattle.ds2_gen.specs.ExpressionCode.{CodeNumbers}
-use Rattle.ds2_placement.specs.PlacedProgram.{number_of_first, number_of_location, slot_locations, hashes_at, iterators_at, hash_locations, iterator_locations, parameter_locations, first_cell, program_cell}
+use Rattle.ds2_program_code.specs.PlacedProgram.{number_of_first, number_of_location, slot_locations, hashes_at, iterators_at, hash_locations, iterator_locations, parameter_locations, first_cell, program_cell}
 use Rattle.ds2_program_code.specs.CodeConstants.{constant_number}
 use Rattle.ds2_program_code.specs.CodeMethods.{callee_of}
 use Rattle.ds2_program_code.specs.CodeParts.{variable_slots, hash_part, hash_parts, walked_hash, iterator_parts}

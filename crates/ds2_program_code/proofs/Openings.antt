@@ -36,8 +36,8 @@ use Rattle.ds2_code.specs.Desk.{ProgramData, SlotSettings, with_slot_settings, w
 use Rattle.ds2_gen.specs.CodeCells.{CodeCell, SlotCell, LocalCell, HashCell, IteratorCell, ParameterCell, CellHas}
 use Rattle.ds2_gen.specs.UnitCode.{data_cells}
 use Rattle.ds2_gen.proofs.CellLemmas.{get_set_same, get_set_other, room_kept}
-use Rattle.ds2_placement.specs.KeptTypes.{EachValueHasType}
-use Rattle.ds2_placement.specs.PlacedProgram.{number_of_first, number_of_location, slot_locations, hash_locations, iterators_at, iterator_locations, parameters_at, parameter_locations, first_cell}
+use Rattle.ds2_program_code.specs.KeptTypes.{EachValueHasType}
+use Rattle.ds2_program_code.specs.PlacedProgram.{number_of_first, number_of_location, slot_locations, hash_locations, iterators_at, iterator_locations, parameters_at, parameter_locations, first_cell}
 use Rattle.ds2_program_code.specs.CodeParts.{slot_of_global, code_slots, variable_slots, columns_of_variables, hash_table_part, hash_part, hash_parts, walked_hash, iterator_parts}
 use Rattle.ds2_program_code.specs.Opening.{opening_tables, TypedProgramsOpenAlike}
 use Rattle.ds2_program_code.specs.ProgramCode.{program_code}

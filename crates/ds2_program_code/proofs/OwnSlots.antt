@@ -14,8 +14,8 @@ use Rattle.ds2_code.specs.declared.parts.Slot.{Slot}
 use Rattle.ds2_code.specs.declared.parts.SlotRole.TheVariants.{Kept}
 use Rattle.ds2_code.specs.OperandTypes.{slot_type}
 use Rattle.ds2_gen.specs.MethodCode.{parameter_part}
-use Rattle.ds2_placement.specs.KeptTypes.{all_types_kept, EachValueHasType}
-use Rattle.ds2_placement.specs.PlacedProgram.{own_slots, layout_size, first_of_run, first_of_term, names_of_variables, frame_names}
+use Rattle.ds2_program_code.specs.KeptTypes.{all_types_kept, EachValueHasType}
+use Rattle.ds2_program_code.specs.PlacedProgram.{own_slots, layout_size, first_of_run, first_of_term, names_of_variables, frame_names}
 use Rattle.ds2_program_code.specs.CodeParts.{layout_slot, own_types, slots_of_body, code_slots}
 use Rattle.ds2_program_code.proofs.Lists.{same_some, bytes_swap, slice_in_front, slice_in_back, slice_mapped, Beside, beside_here, beside_later}
 use Rattle.ds2_program_code.proofs.Names.{names_with_parameters}

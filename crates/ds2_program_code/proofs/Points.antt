@@ -9,7 +9,7 @@ use Rattle.ds2_code.specs.InstructionTable.{kind_of}
 use Rattle.ds2_code.specs.OperandTypes.{OperandTypes, CodeRole, OfUnit, types_behind}
 use Rattle.ds2_code.specs.ValidCode.{CodePoint, point, entry_role, Arrives, behind_instruction, AlongList}
 use Rattle.ds2_gen.specs.BodyCode.{CodeBody, OfSystem, OfMethod, code_of_body, bodies_code}
-use Rattle.ds2_operand_types.specs.TypedRuns.{operands_after, LeadsToOpen, OperandsRun, AreOpenPlaces}
+use Rattle.ds2_program_code.specs.TypedRuns.{operands_after, LeadsToOpen, OperandsRun, AreOpenPlaces}
 use Rattle.ds2_program_code.proofs.BodyTypes.{role_of}
 use Rattle.ds2_program_code.proofs.Lists.{same_some, slice_in_front, slice_in_back}
 

@@ -30,11 +30,11 @@ use Rattle.ds2_gen.specs.MethodCode.{IsMethodPlacement, HasMethod, MayCall, Call
 use Rattle.ds2_gen.specs.StatementCode.{statements_keep}
 use Rattle.ds2_gen.specs.UnitCode.{body_end, plain_ending, run_ending, implicit_outputs}
 use Rattle.ds2_gen.specs.UnitTheorem.{HasSystemMethod, IsCodeOfUnits}
-use Rattle.ds2_placement.specs.KeptTypes.{all_types_kept, EachValueHasType}
-use Rattle.ds2_placement.specs.PlacedProgram.{first_of_run, layout_size, first_of_term, system_placement, method_placement}
-use Rattle.ds2_placement.specs.PlacementLaws.{HasDistinctParameters, SystemMethodFits, MethodFits, ProgramIsPlaced, PlacementsFit, HaveRolesOf, LayoutRolesFit}
-use Rattle.ds2_placement.specs.TypedIsCovered.{ReturnsAs, TypedIsCovered}
-use Rattle.ds2_placement.specs.UsedConstants.{constants_of_arguments, constants_of_body, HaveConstants}
+use Rattle.ds2_program_code.specs.KeptTypes.{all_types_kept, EachValueHasType}
+use Rattle.ds2_program_code.specs.PlacedProgram.{first_of_run, layout_size, first_of_term, system_placement, method_placement}
+use Rattle.ds2_program_code.specs.PlacementLaws.{HasDistinctParameters, SystemMethodFits, MethodFits, ProgramIsPlaced, PlacementsFit, HaveRolesOf, LayoutRolesFit}
+use Rattle.ds2_program_code.specs.TypedIsCovered.{ReturnsAs, TypedIsCovered}
+use Rattle.ds2_program_code.specs.UsedConstants.{constants_of_arguments, constants_of_body, HaveConstants}
 use Rattle.ds2_program_code.specs.CodeMethods.{CodeMethod, code_methods, first_method_of}
 use Rattle.ds2_program_code.specs.CodeParts.{layout_slot, own_types, slots_of_body, code_slots}
 use Rattle.ds2_program_code.specs.ProgramCode.{constants_of_program, body_numbers, init_numbers, run_numbers, term_numbers, method_numbers, code_bodies, run_entry, term_entry, method_part, program_code}

@@ -29,8 +29,8 @@ use Rattle.ds2_layout.specs.Layout.{program_slots, source_slot}
 use Rattle.ds2_code.specs.declared.parts.OutputPart.{OutputPart}
 use Rattle.ds2_code.specs.ValidCode.{all_below, hash_in_range, read_in_range, by_in_range, tables_in_range, reading_in_range, output_in_range, parts_in_range, is_other_name, names_differ}
 use Rattle.ds2_gen.specs.UnitTheorem.{IsCodeOfUnits}
-use Rattle.ds2_placement.specs.KeptTypes.{EachValueHasType}
-use Rattle.ds2_placement.specs.PlacedProgram.{number_of_location, slot_locations, layout_size, own_slots}
+use Rattle.ds2_program_code.specs.KeptTypes.{EachValueHasType}
+use Rattle.ds2_program_code.specs.PlacedProgram.{number_of_location, slot_locations, layout_size, own_slots}
 use Rattle.ds2_program_code.specs.CodeParts.{slot_of_global, code_slots, variable_slots, hash_part, hash_parts, walked_hash, iterator_parts, input_part, by_variable_part, reading_part, output_part}
 use Rattle.ds2_program_code.specs.ProgramCode.{program_code}
 use Rattle.ds2_program_code.specs.ProgramCodeLaws.{TypedProgramsHaveCode}

@@ -19,7 +19,7 @@ use Rattle.ds2_layout.specs.declared.slot.SlotRole.TheVariants as layout_role
 use Rattle.ds2_layout.specs.Layout.{vector_role, slot_for, vector_slots, parameter_slots, input_flag_slots, by_flag_slots, instance_slots, program_slots, location_of_slot}
 use Rattle.ds2_code.specs.declared.parts.Slot.{Slot}
 use Rattle.ds2_code.specs.OperandTypes.{slot_type}
-use Rattle.ds2_placement.specs.PlacedProgram.{number_of_location, slot_locations}
+use Rattle.ds2_program_code.specs.PlacedProgram.{number_of_location, slot_locations}
 use Rattle.ds2_program_code.specs.CodeParts.{slot_of_global, layout_slot, slots_of_body, code_slots}
 use Rattle.ds2_program_code.proofs.Lists.{same_some, bytes_swap, none_in_both, none_mapped, none_flat, number_of_any, number_passes, slice_in_front, slice_mapped, Beside, beside_here, beside_later, beside_in_front, beside_in_back}
 use Rattle.ds2_program_code.proofs.Names.{number_mapped}

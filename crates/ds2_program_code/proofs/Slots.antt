@@ -18,7 +18,7 @@ use Rattle.ds2_layout.specs.declared.slot.LayoutSlot.{LayoutSlot}
 use Rattle.ds2_layout.specs.declared.slot.SlotRole.TheVariants as layout_role
 use Rattle.ds2_layout.specs.Layout.{vector_role, slot_for, vector_slots, parameter_slots, input_flag_slots, by_flag_slots, instance_slots, program_slots, location_of_slot}
 use Rattle.ds2_gen.specs.CodeCells.{CodeCell, SlotCell, HashCell, IteratorCell, ParameterCell}
-use Rattle.ds2_placement.specs.PlacedProgram.{number_of_location, slot_locations, hash_locations, iterator_locations, parameter_locations, first_cell, program_cell}
+use Rattle.ds2_program_code.specs.PlacedProgram.{number_of_location, slot_locations, hash_locations, iterator_locations, parameter_locations, first_cell, program_cell}
 use Rattle.ds2_program_code.specs.CodeParts.{slot_of_global}
 use Rattle.ds2_program_code.proofs.Lists.{bytes_swap, any_append, none_in_both, any_in_front, any_in_back, any_map, none_mapped, none_flat, number_of_any}
 use Rattle.ds2_program_code.proofs.Homes.{UnitHome, own_home, instance_home, homes_of, home_in, only_there, homes_apart}

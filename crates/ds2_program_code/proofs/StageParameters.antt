@@ -19,11 +19,11 @@ use Rattle.ds2_meaning.specs.ProgramTree.{InstanceTree, UnitTree, is_listed}
 use Rattle.ds2_meaning.specs.Reading.{stage_instance}
 use Rattle.ds2_code.specs.OperandTypes.{slot_type, parameter_slot_types, type_of_parameter}
 use Rattle.ds2_gen.specs.CodeCells.{SlotCell, HashCell, IteratorCell, ParameterCell}
-use Rattle.ds2_placement.specs.PlacedProgram.{number_of_first, number_of_location, slot_locations, hashes_at, hash_locations, iterators_at, iterator_locations, parameters_at, parameter_locations, first_cell, program_cell}
+use Rattle.ds2_program_code.specs.PlacedProgram.{number_of_first, number_of_location, slot_locations, hashes_at, hash_locations, iterators_at, iterator_locations, parameters_at, parameter_locations, first_cell, program_cell}
 use Rattle.ds2_program_code.specs.CodeParts.{slot_of_global, code_slots}
 use Rattle.ds2_program_code.specs.ProgramCode.{program_code}
 use Rattle.ds2_program_code.specs.TypedCode.{StageParametersFit}
-use Rattle.ds2_operand_types.specs.TypedRuns.{IsTypedParameter}
+use Rattle.ds2_program_code.specs.TypedRuns.{IsTypedParameter}
 use Rattle.ds2_program_code.proofs.Homes.{apart_names_by}
 use Rattle.ds2_program_code.proofs.Lists.{same_some, bytes_swap, bytes_self, none_in_both, none_mapped, none_flat, no_number, number_in_front, slice_mapped, any_at}
 use Rattle.ds2_program_code.proofs.Names.{number_mapped}

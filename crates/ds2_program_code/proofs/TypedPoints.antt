@@ -12,12 +12,12 @@ use Rattle.ds2_gen.specs.ExpressionCode.{CodeNumbers}
 use Rattle.ds2_gen.specs.MethodCode.{method_ending, method_end, method_exits, method_code}
 use Rattle.ds2_gen.specs.StatementCode.{outputs_code, statements_code}
 use Rattle.ds2_gen.specs.UnitCode.{locals_code, body_start, body_end, unit_exits, body_code, implicit_outputs}
-use Rattle.ds2_placement.specs.KeptTypes.{EachValueHasType}
-use Rattle.ds2_placement.specs.PlacedProgram.{layout_size, first_of_run, first_of_term, system_placement, method_placement}
+use Rattle.ds2_program_code.specs.KeptTypes.{EachValueHasType}
+use Rattle.ds2_program_code.specs.PlacedProgram.{layout_size, first_of_run, first_of_term, system_placement, method_placement}
 use Rattle.ds2_program_code.specs.CodeMethods.{CodeMethod, methods_at, code_methods}
 use Rattle.ds2_program_code.specs.ProgramCode.{init_numbers, run_numbers, term_numbers, method_numbers, init_body, run_body, term_body, method_body, code_bodies, program_code}
 use Rattle.ds2_program_code.specs.TypedCode.{FitsCodeLimits, StageParametersFit, TypedCodeHasTypes}
-use Rattle.ds2_operand_types.specs.TypedRuns.{StatementsRun}
+use Rattle.ds2_program_code.specs.TypedRuns.{StatementsRun}
 use Rattle.ds2_program_code.proofs.Bodies.{owned}
 use Rattle.ds2_program_code.proofs.BodyRuns.{locals_lead, body_statements_run, init_statements_run, system_runs, implicit_lead, method_runs}
 use Rattle.ds2_program_code.proofs.BodyTypes.{role_of}

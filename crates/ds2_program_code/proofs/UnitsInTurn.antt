@@ -21,8 +21,8 @@ use Rattle.ds2_gen.specs.CodeCells.{LocalNamed, SlotCell, LeaveReserved}
 use Rattle.ds2_gen.specs.StatementCode.{statements_keep}
 use Rattle.ds2_gen.specs.UnitCode.{data_cells, HoldsStorage, EndsAlike}
 use Rattle.ds2_gen.specs.UnitTheorem.{KeepsMeaning}
-use Rattle.ds2_placement.specs.KeptTypes.{all_types_kept, EachValueHasType}
-use Rattle.ds2_placement.specs.PlacedProgram.{number_of_name, own_slots, layout_size, first_of_run, first_of_term, is_numbered_among, names_of_variables, is_kept_slot, system_cell, system_placement}
+use Rattle.ds2_program_code.specs.KeptTypes.{all_types_kept, EachValueHasType}
+use Rattle.ds2_program_code.specs.PlacedProgram.{number_of_name, own_slots, layout_size, first_of_run, first_of_term, is_numbered_among, names_of_variables, is_kept_slot, system_cell, system_placement}
 use Rattle.ds2_program_code.specs.CodeParts.{layout_slot, own_types, slots_of_body, code_slots}
 use Rattle.ds2_program_code.specs.LoadSettings.{slot_settings, table_load, stage_load, LoadsHaveSlots, TypedLoadsHaveSlots}
 use Rattle.ds2_program_code.specs.ProgramCode.{program_code}

@@ -40,17 +40,17 @@ use Rattle.ds2_code.specs.OperandTypes.{CodeRole, OfUnit}
 use Rattle.ds2_code.specs.ValidCode.{reference_allowed, constant_allowed, method_allowed, reading_allowed, values_allowed}
 use Rattle.ds2_gen.specs.ExpressionCode.{CodeNumbers}
 use Rattle.ds2_gen.specs.MethodCode.{parameter_part, method_code}
-use Rattle.ds2_placement.specs.KeptTypes.{types_of_count, types_kept, all_types_kept, whens_types_kept, EachValueHasType}
-use Rattle.ds2_placement.specs.PlacedProgram.{layout_size, first_of_run, first_of_term}
-use Rattle.ds2_placement.specs.UsedConstants.{UsedConstant}
+use Rattle.ds2_program_code.specs.KeptTypes.{types_of_count, types_kept, all_types_kept, whens_types_kept, EachValueHasType}
+use Rattle.ds2_program_code.specs.PlacedProgram.{layout_size, first_of_run, first_of_term}
+use Rattle.ds2_program_code.specs.UsedConstants.{UsedConstant}
 use Rattle.ds2_program_code.specs.CodeConstants.{with_used_constant, constant_part}
 use Rattle.ds2_program_code.specs.CodeMethods.{CodeMethod, code_methods}
 use Rattle.ds2_program_code.specs.CodeParts.{layout_slot, own_types, slots_of_body, code_slots, table_part, hash_table_part, hash_part, hash_parts, input_part, reading_part, output_part}
 use Rattle.ds2_program_code.specs.ProgramCode.{constants_of_program, code_constants, system_numbers, method_numbers, method_part, method_parts, methods_entry, program_code}
 use Rattle.ds2_program_code.specs.TypedCode.{FitsCodeLimits}
 use Rattle.ds2_program_code.specs.ValidProgram.{MayStandInCode, HasTableName, HaveTableNames, FitsValueLimits, TypedValuesAreAllowed}
-use Rattle.ds2_operand_types.specs.TypedOperands.{NamesHaveTypes}
-use Rattle.ds2_operand_types.proofs.TypeBounds.{expression_bounds}
+use Rattle.ds2_program_code.specs.TypedOperands.{NamesHaveTypes}
+use Rattle.ds2_program_code.proofs.TypeBounds.{expression_bounds}
 use Rattle.ds2_program_code.proofs.Bodies.{owned}
 use Rattle.ds2_program_code.proofs.BodyTypes.{role_of, body_types, init_types, method_types}
 use Rattle.ds2_program_code.proofs.Constants.{is_listed_in}

@@ -8,8 +8,8 @@ use Rattle.ds2_value.specs.declared.ty.Ty.{Ty}
 use Rattle.ds2_value.specs.declared.value.Value.{Value}
 use Rattle.ds2_value.specs.declared.value.Value.TheVariants.{Null, Int, Dec, Txt}
 use Rattle.ds2_code.specs.declared.parts.Constant.{Constant}
-use Rattle.ds2_placement.specs.PlacedProgram.{number_of_first}
-use Rattle.ds2_placement.specs.UsedConstants.{UsedConstant}
+use Rattle.ds2_program_code.specs.PlacedProgram.{number_of_first}
+use Rattle.ds2_program_code.specs.UsedConstants.{UsedConstant}
 
 -- two values are one, digit by digit and byte by byte
 abbrev pub is_one_value : Value → Value → Bool

@@ -34,9 +34,9 @@ use Rattle.ds2_code.specs.declared.parts.ReadingPart.TheVariants as part
 use Rattle.ds2_code.specs.declared.parts.Slot.{Slot}
 use Rattle.ds2_code.specs.declared.parts.SlotRole.TheVariants.{Kept}
 use Rattle.ds2_code.specs.declared.parts.TableReference.{TableReference}
-use Rattle.ds2_placement.specs.KeptTypes.{all_types_kept}
-use Rattle.ds2_placement.specs.PlacedProgram.{number_of_location, slot_locations, hash_locations}
-use Rattle.ds2_placement.specs.PlacementLaws.{code_role}
+use Rattle.ds2_program_code.specs.KeptTypes.{all_types_kept}
+use Rattle.ds2_program_code.specs.PlacedProgram.{number_of_location, slot_locations, hash_locations}
+use Rattle.ds2_program_code.specs.PlacementLaws.{code_role}
 
 -- ---- slots
 

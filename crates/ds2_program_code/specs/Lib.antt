@@ -12,3 +12,11 @@ pub mod LayoutsFit
 pub mod TypedCode
 pub mod ValidProgram
 pub mod Opening
+pub mod PlacedProgram
+pub mod PlacementLaws
+pub mod KeptTypes
+pub mod UsedConstants
+pub mod TypedIsCovered
+pub mod TypedOperands
+pub mod TypedRuns
+pub mod CountsByWay

@@ -9,7 +9,7 @@ use Rattle.ds2_meaning.specs.ProgramTree.{UnitTree, data_vector}
 use Rattle.ds2_meaning.specs.Reading.{InputTables, Settings, settings_of, row_settings, stage_columns}
 use Rattle.ds2_code.specs.Desk.{SlotSettings}
 use Rattle.ds2_gen.specs.UnitTheorem.{AreSameSettings}
-use Rattle.ds2_placement.specs.PlacedProgram.{first_of_run, system_placement}
+use Rattle.ds2_program_code.specs.PlacedProgram.{first_of_run, system_placement}
 use Rattle.ds2_program_code.specs.CodeParts.{slot_of_global}
 
 -- each value that a load sets, in the slot of its global

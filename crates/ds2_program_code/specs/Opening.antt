@@ -8,7 +8,7 @@ use Rattle.ds2_meaning.specs.ProgramTree.{UnitTree}
 use Rattle.ds2_meaning.specs.Reading.{TableRows}
 use Rattle.ds2_meaning.specs.TableLaws.{tables_at_opening}
 use Rattle.ds2_code.specs.CodeUnit.{opening_data}
-use Rattle.ds2_placement.specs.PlacedProgram.{parameter_locations}
+use Rattle.ds2_program_code.specs.PlacedProgram.{parameter_locations}
 use Rattle.ds2_program_code.specs.ProgramCode.{program_code}
 use Rattle.ds2_program_code.specs.ProgramRuns.{HoldsProgram}
 

@@ -12,9 +12,9 @@ use Rattle.ds2_gen.specs.CodeCells.{Placement}
 use Rattle.ds2_gen.specs.ExpressionCode.{CodeNumbers}
 use Rattle.ds2_gen.specs.MethodCode.{parameter_part, method_code}
 use Rattle.ds2_gen.specs.UnitCode.{implicit_outputs}
-use Rattle.ds2_placement.specs.KeptTypes.{all_types_kept}
-use Rattle.ds2_placement.specs.PlacedProgram.{layout_size, first_of_run, first_of_term, system_placement, method_placement}
-use Rattle.ds2_placement.specs.UsedConstants.{UsedConstant, constants_of_body}
+use Rattle.ds2_program_code.specs.KeptTypes.{all_types_kept}
+use Rattle.ds2_program_code.specs.PlacedProgram.{layout_size, first_of_run, first_of_term, system_placement, method_placement}
+use Rattle.ds2_program_code.specs.UsedConstants.{UsedConstant, constants_of_body}
 use Rattle.ds2_program_code.specs.CodeConstants.{each_constant_once, constant_number, constant_part}
 use Rattle.ds2_program_code.specs.CodeMethods.{CodeMethod, code_methods, callee_of}
 use Rattle.ds2_program_code.specs.CodeParts.{slot_of_global, code_slots, hash_parts, iterator_parts, reading_part, output_part}

@@ -13,7 +13,7 @@ use Rattle.ds2_code.specs.CodeUnit.{code_init, code_run, code_term}
 use Rattle.ds2_code.specs.Desk.{ProgramData}
 use Rattle.ds2_gen.specs.CodeCells.{CodeCell, CellHas}
 use Rattle.ds2_gen.specs.UnitCode.{data_cells}
-use Rattle.ds2_placement.specs.PlacedProgram.{program_cell, layout_size}
+use Rattle.ds2_program_code.specs.PlacedProgram.{program_cell, layout_size}
 use Rattle.ds2_program_code.specs.CodeParts.{code_slots}
 use Rattle.ds2_program_code.specs.LoadSettings.{slot_settings, table_load, stage_load}
 use Rattle.ds2_program_code.specs.ProgramCode.{program_code}

@@ -10,8 +10,8 @@ use Rattle.ds2_meaning.specs.Location.{Home}
 use Rattle.ds2_meaning.specs.Method.{MethodTree}
 use Rattle.ds2_meaning.specs.ProgramTree.{UnitTree, methods_of}
 use Rattle.ds2_code.specs.ValidCode.{CodePoint, HasOperandTypes}
-use Rattle.ds2_placement.specs.PlacedProgram.{program_cell}
-use Rattle.ds2_operand_types.specs.TypedRuns.{IsTypedParameter, AllPutsAreShort}
+use Rattle.ds2_program_code.specs.PlacedProgram.{program_cell}
+use Rattle.ds2_program_code.specs.TypedRuns.{IsTypedParameter, AllPutsAreShort}
 use Rattle.ds2_program_code.specs.ProgramCode.{program_code}
 
 -- a program within limits: no `put` has more than 1,000,000 items, and the type of each result is in bounds

@@ -11,7 +11,7 @@ use Rattle.ds2_meaning.specs.IsTyped.{thread_parameters, IsTypedUnit, ReadsNoSta
 use Rattle.ds2_meaning.specs.ProgramTree.{InstanceTree, UnitTree}
 use Rattle.ds2_meaning.specs.Reading.{inputs_of}
 use Rattle.ds2_code.specs.ValidCode.{constant_allowed, values_allowed, lists_short, IsValidProgram, IsValidStaged}
-use Rattle.ds2_placement.specs.UsedConstants.{UsedConstant}
+use Rattle.ds2_program_code.specs.UsedConstants.{UsedConstant}
 use Rattle.ds2_program_code.specs.CodeConstants.{constant_part}
 use Rattle.ds2_program_code.specs.ProgramCode.{constants_of_program, program_code}
 use Rattle.ds2_program_code.specs.TypedCode.{FitsCodeLimits}

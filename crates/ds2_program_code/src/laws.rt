@@ -14,10 +14,10 @@ ghost use Rattle.ds2_program_code.specs.ValidProgram.{TypedValuesAreAllowed, Typ
 pub fn typed_programs_have_code()
     ensures { TypedProgramsHaveCode }
 {
-    ds2_placement::laws::placements_fit();
-    ds2_placement::laws::layout_roles_fit();
-    ds2_placement::laws::each_value_has_type();
-    ds2_placement::laws::typed_is_covered();
+    crate::placement_laws::placements_fit();
+    crate::placement_laws::layout_roles_fit();
+    crate::placement_laws::each_value_has_type();
+    crate::placement_laws::typed_is_covered();
     ds2_gen::laws::bodies_stay_in_list();
 }
 
@@ -44,7 +44,7 @@ pub fn stage_rows_set_slots()
 pub fn typed_units_run_as_meant()
     ensures { TypedUnitsRunAsMeant }
 {
-    ds2_placement::laws::each_value_has_type();
+    crate::placement_laws::each_value_has_type();
     typed_loads_have_slots();
     typed_programs_keep_meaning();
 }
@@ -54,7 +54,7 @@ pub fn typed_units_run_as_meant()
 pub fn typed_programs_have_valid_parts()
     ensures { TypedProgramsHaveValidParts }
 {
-    ds2_placement::laws::each_value_has_type();
+    crate::placement_laws::each_value_has_type();
     typed_programs_have_code();
 }
 
@@ -62,22 +62,22 @@ pub fn typed_programs_have_valid_parts()
 pub fn typed_layouts_fit()
     ensures { TypedLayoutsFit }
 {
-    ds2_placement::laws::each_value_has_type();
+    crate::placement_laws::each_value_has_type();
 }
 
 /// The code of a typed program within limits has operand types along its list.
 pub fn typed_code_has_types()
     ensures { TypedCodeHasTypes }
 {
-    ds2_placement::laws::each_value_has_type();
-    ds2_operand_types::laws::statements_have_types();
+    crate::placement_laws::each_value_has_type();
+    crate::operand_laws::statements_have_types();
 }
 
 /// The code of a typed program within limits holds values that an object file can hold.
 pub fn typed_values_are_allowed()
     ensures { TypedValuesAreAllowed }
 {
-    ds2_placement::laws::each_value_has_type();
+    crate::placement_laws::each_value_has_type();
 }
 
 /// The code of a typed program within limits is valid.
@@ -101,7 +101,7 @@ pub fn typed_stages_are_valid()
 pub fn typed_programs_open_alike()
     ensures { TypedProgramsOpenAlike }
 {
-    ds2_placement::laws::each_value_has_type();
+    crate::placement_laws::each_value_has_type();
 }
 
 /// The code of small programs, part by part.

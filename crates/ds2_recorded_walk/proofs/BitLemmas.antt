@@ -2,7 +2,7 @@
 use Rattle.std.proofs.Common.{◌≡◌, ℕ, zero, suc, Bool, true, false, true≢false, List, [], ◌∷◌, Option, Some, None, refl, sym, ap, ◌∙◌}
 use Rattle.std.specs.Prelude.{◌&&◌, ◌||◌, if◌then◌else◌, slice_get, slice_set}
 use Rattle.ds2_meaning.specs.Location.{Location, is_same_location}
-use Rattle.ds2_placement.specs.PlacedProgram.{number_of_location}
+use Rattle.ds2_program_code.specs.PlacedProgram.{number_of_location}
 use Rattle.ds2_locality.specs.Walk.{DirtySet, nothing_dirty, united, cleaned}
 use Rattle.ds2_locality.proofs.Frame.{location_is}
 use Rattle.ds2_locality.proofs.Near.{location_self}

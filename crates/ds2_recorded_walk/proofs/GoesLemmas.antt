@@ -11,7 +11,7 @@ use Rattle.ds2_meaning.specs.TypedStatement.{TypedStatement}
 use Rattle.ds2_meaning.specs.View.{typed_expression}
 use Rattle.ds2_locality.specs.Deeds.{MethodAt, iterators_over}
 use Rattle.ds2_locality.specs.Walk.{DirtySet, cleaned, all_cleaned, WalkEnd, GoesOn, then_walk, CallWalks, read_locations, read_location, WaysOut, way_on, ways_past, WalkScope, walk_expression, walk}
-use Rattle.ds2_placement.specs.PlacedProgram.{number_of_location}
+use Rattle.ds2_program_code.specs.PlacedProgram.{number_of_location}
 use Rattle.ds2_deeds.specs.NamedMethods.{methods_named, number_among_methods}
 use Rattle.ds2_recorded_walk.specs.declared.record.CallEffect.{CallEffect}
 use Rattle.ds2_recorded_walk.specs.declared.record.RecordedWalk.{RecordedWalk}

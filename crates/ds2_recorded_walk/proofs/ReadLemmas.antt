@@ -3,7 +3,7 @@ use Rattle.std.proofs.Common.{◌≡◌, ℕ, Bool, true, false, true≢false, L
 use Rattle.std.specs.Prelude.{◌&&◌, ◌||◌, not, ◌==◌, if◌then◌else◌, slice_get, slice_set}
 use Rattle.ds2_base.specs.declared.place.Place.{Place}
 use Rattle.ds2_meaning.specs.Location.{Location}
-use Rattle.ds2_placement.specs.PlacedProgram.{number_of_location}
+use Rattle.ds2_program_code.specs.PlacedProgram.{number_of_location}
 use Rattle.ds2_locality.specs.Walk.{DirtySet, all_cleaned, FailsAt, GoesOn, then_walk, read_location, WaysOut}
 use Rattle.ds2_recorded_walk.specs.declared.record.RecordedRead.{RecordedRead}
 use Rattle.ds2_recorded_walk.specs.declared.record.RecordedWalk.{RecordedWalk}

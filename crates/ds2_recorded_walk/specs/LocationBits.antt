@@ -2,7 +2,7 @@
 use Rattle.std.specs.Prelude.{ℕ, Bool, false, ◌&&◌, ◌||◌, List, [], ◌∷◌, slice_get, Option, Some, None}
 use Rattle.ds2_meaning.specs.Location.{Location}
 use Rattle.ds2_locality.specs.Walk.{DirtySet}
-use Rattle.ds2_placement.specs.PlacedProgram.{number_of_location}
+use Rattle.ds2_program_code.specs.PlacedProgram.{number_of_location}
 
 -- a value that is there, and no one
 abbrev pub or_off : Option Bool → Bool

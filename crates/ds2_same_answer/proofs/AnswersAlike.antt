@@ -25,7 +25,7 @@ use Rattle.ds2_meaning.specs.TableLaws.{tables_at_opening, tables_mentioned}
 use Rattle.ds2_code.specs.declared.parts.ProgramParts.{ProgramParts}
 use Rattle.ds2_code.specs.CodeUnit.{code_init, opening_hashes, opening_data, row_slot_settings}
 use Rattle.ds2_code.specs.Desk.{ProgramData, SlotSettings, with_slot_settings}
-use Rattle.ds2_placement.specs.PlacedProgram.{parameter_locations}
+use Rattle.ds2_program_code.specs.PlacedProgram.{parameter_locations}
 use Rattle.ds2_program_code.specs.CodeParts.{slot_of_global, code_slots, hash_parts, reading_part}
 use Rattle.ds2_program_code.specs.LoadSettings.{slot_settings, table_load, stage_load}
 use Rattle.ds2_program_code.specs.Opening.{opening_tables, TypedProgramsOpenAlike}

@@ -16,7 +16,7 @@ use Rattle.ds2_code.specs.declared.parts.HashPart.{HashPart}
 use Rattle.ds2_code.specs.declared.parts.HashTable.{HashTable}
 use Rattle.ds2_code.specs.declared.parts.Slot.{Slot}
 use Rattle.ds2_code.specs.CodeUnit.{opening_items, further_tables, opening_hashes}
-use Rattle.ds2_placement.specs.PlacedProgram.{parameters_at, parameter_locations}
+use Rattle.ds2_program_code.specs.PlacedProgram.{parameters_at, parameter_locations}
 use Rattle.ds2_program_code.specs.CodeParts.{hash_part, hash_parts}
 use Rattle.ds2_code_answer.specs.CodeTables.{with_loaded_table, hash_references}
 

@@ -18,7 +18,7 @@ use Rattle.ds2_meaning.specs.Reading.{in_type_of, row_settings}
 use Rattle.ds2_code.specs.declared.parts.Slot.{Slot}
 use Rattle.ds2_code.specs.CodeUnit.{assigned_to_slot, row_slot_settings}
 use Rattle.ds2_code.specs.Desk.{SlotSettings, with_slot_settings}
-use Rattle.ds2_placement.specs.PlacedProgram.{slot_locations}
+use Rattle.ds2_program_code.specs.PlacedProgram.{slot_locations}
 use Rattle.ds2_program_code.specs.CodeParts.{slot_of_global, code_slots}
 use Rattle.ds2_program_code.specs.LoadSettings.{slot_settings}
 use Rattle.ds2_program_code.proofs.Lists.{same_some, bytes_swap}

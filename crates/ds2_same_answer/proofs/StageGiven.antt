@@ -20,7 +20,7 @@ use Rattle.ds2_meaning.specs.ProgramTree.{InstanceTree, UnitTree, data_vector, i
 use Rattle.ds2_meaning.specs.Reading.{stage_instance}
 use Rattle.ds2_code.specs.Desk.{ProgramData}
 use Rattle.ds2_gen.specs.CodeCells.{SlotCell, HashCell, IteratorCell, ParameterCell}
-use Rattle.ds2_placement.specs.PlacedProgram.{number_of_first, number_of_location, slot_locations, hashes_at, hash_locations, iterators_at, iterator_locations, parameters_at, parameter_locations, first_cell, program_cell}
+use Rattle.ds2_program_code.specs.PlacedProgram.{number_of_first, number_of_location, slot_locations, hashes_at, hash_locations, iterators_at, iterator_locations, parameters_at, parameter_locations, first_cell, program_cell}
 use Rattle.ds2_program_code.specs.ProgramRuns.{HoldsProgram}
 use Rattle.ds2_program_code.proofs.Homes.{names_of_instances, distinct_back}
 use Rattle.ds2_program_code.proofs.Lists.{same_some, bytes_self, none_in_both, none_mapped, none_flat, no_number, slice_mapped}

@@ -32,7 +32,7 @@ use Rattle.ds2_code_answer.specs.CodeTables.{program_references, reading_referen
 use Rattle.ds2_program_code.specs.CodeParts.{code_slots}
 use Rattle.ds2_same_answer.specs.SameAnswer.{staged_code, programs_in_chain, code_answer_with, IsTranslatable, HaveRowsMentioned, AreLikeAnswers}
 use Rattle.ds2_unit.specs.Outputs.{tables_written}
-use Rattle.ds2_unit_counts.specs.CountsByWay.{CountsByWay}
+use Rattle.ds2_program_code.specs.CountsByWay.{CountsByWay}
 
 -- over any tables, with every budget and at every grain, code answers as a program means
 abbrev pub CodeAnswersAs : ProgramTree → StagedParts → Type 0

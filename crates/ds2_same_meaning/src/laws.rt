@@ -8,7 +8,7 @@ pub fn typed_programs_mean_same()
     ensures { TypedProgramsMeanSame }
 {
     ds2_same_answer::laws::typed_programs_answer_alike();
-    ds2_unit_counts::laws::typed_units_count_by_way();
+    ds2_program_code::count_laws::typed_units_count_by_way();
 }
 
 /// In the code of a typed program each output has slots of the types of its columns, so that a later program can name its table.

@@ -1,7 +1,7 @@
 use Rattle.std.proofs.Common.{◌≡◌, map, drop, Option}
 use Rattle.ds2_meaning.specs.TypedStatement.{TypedStatement}
 use Rattle.ds2_meaning.specs.View.{in_a_row, all_statements, otherwise_part, typed_statement}
-use Rattle.ds2_placement.specs.KeptTypes.{all_types_kept, whens_types_kept}
+use Rattle.ds2_program_code.specs.KeptTypes.{all_types_kept, whens_types_kept}
 use Rattle.ds2_statement_emitter.specs.Arms.{when_tree, arm_of_chain}
 use Rattle.ds2_body_survey.specs.Surveyed.{with_types, types_of_rest}
 use Rattle.ds2_body_survey.proofs.types.+kept.Given as goal

@@ -2,7 +2,7 @@ use Rattle.std.proofs.lemmas.Grind.{common_steps}
 use Rattle.std.proofs.Common.{◌≡◌, ◌+◌, map, drop, sym, ap, ◌∙◌, arith}
 use Rattle.ds2_meaning.specs.TypedExpression.{NoLink}
 use Rattle.ds2_meaning.specs.View.{in_a_row, all_expressions, typed_expression, call_tree, link_tree, argument_tree}
-use Rattle.ds2_placement.specs.UsedConstants.{constants_used, constants_of_links, constants_of_all, constants_of_arguments}
+use Rattle.ds2_program_code.specs.UsedConstants.{constants_used, constants_of_links, constants_of_all, constants_of_arguments}
 use Rattle.ds2_constants.specs.UsedOnce.{with_used}
 use Rattle.ds2_emitter.proofs.Appended.{on_ok}
 use Rattle.ds2_emitter.proofs.Trees.{value_is, constant_is, variable_is, widen_is, convert_is, prefixed_is, chain_is, compared_is, applied_is, called_is, hash_is, iterator_is, link_is}

@@ -1,7 +1,7 @@
 use Rattle.std.proofs.Common.{◌≡◌, map, drop}
 use Rattle.ds2_meaning.specs.TypedExpression.{NoLink, NoArgument}
 use Rattle.ds2_meaning.specs.View.{in_a_row, all_expressions, typed_expression, link_tree, argument_tree}
-use Rattle.ds2_placement.specs.UsedConstants.{constants_of_links, constants_of_all, constants_of_arguments}
+use Rattle.ds2_program_code.specs.UsedConstants.{constants_of_links, constants_of_all, constants_of_arguments}
 use Rattle.ds2_constants.specs.UsedOnce.{with_used}
 use Rattle.ds2_constants.proofs.expressions.+collect.Given as goal
 

@@ -8,7 +8,7 @@ use Rattle.ds2_meaning.specs.declared.statements.PutItem.{PutItem}
 use Rattle.ds2_meaning.specs.declared.statements.Statement as code_statement
 use Rattle.ds2_meaning.specs.declared.statements.When as code_when
 use Rattle.ds2_meaning.specs.View.{in_a_row, all_expressions, all_statements, otherwise_part, typed_expression, typed_statement, parameter_tree, item_tree}
-use Rattle.ds2_placement.specs.UsedConstants.{constants_used, constants_of_all, constants_of_items, constants_of_parameters, constants_of_step, constants_of_statement, constants_of_body, constants_of_whens}
+use Rattle.ds2_program_code.specs.UsedConstants.{constants_used, constants_of_all, constants_of_items, constants_of_parameters, constants_of_step, constants_of_statement, constants_of_body, constants_of_whens}
 use Rattle.ds2_emitter.proofs.Appended.{on_ok}
 use Rattle.ds2_statement_emitter.specs.Arms.{when_tree, arm_of_chain, last_tree}
 use Rattle.ds2_statement_emitter.proofs.StatementTrees.{empty_is, assign_is, invoke_is, evaluate_is, parameters_is, leave_is, continue_is, return_is, return_value_is, output_is, put_is, block_is, count_is, while_is, until_is, if_is, select_is, select_value_is, when_is}

@@ -1,7 +1,7 @@
 use Rattle.std.proofs.Common.{◌≡◌, map, drop, Option}
 use Rattle.ds2_meaning.specs.TypedStatement.{TypedStatement}
 use Rattle.ds2_meaning.specs.View.{in_a_row, all_statements, otherwise_part, typed_statement}
-use Rattle.ds2_placement.specs.UsedConstants.{constants_of_body, constants_of_whens}
+use Rattle.ds2_program_code.specs.UsedConstants.{constants_of_body, constants_of_whens}
 use Rattle.ds2_statement_emitter.specs.Arms.{when_tree, arm_of_chain}
 use Rattle.ds2_constants.specs.UsedOnce.{with_used, constants_of_rest}
 use Rattle.ds2_constants.proofs.statements.+gather.Given as goal

@@ -1,6 +1,6 @@
 use Rattle.std.proofs.Common.{◌≡◌, map, drop}
 use Rattle.ds2_meaning.specs.View.{item_tree}
-use Rattle.ds2_placement.specs.UsedConstants.{constants_of_items}
+use Rattle.ds2_program_code.specs.UsedConstants.{constants_of_items}
 use Rattle.ds2_constants.specs.UsedOnce.{with_used}
 use Rattle.ds2_constants.proofs.statements.collect_items.Given as goal
 

@@ -1,7 +1,7 @@
 use Rattle.std.proofs.lemmas.Grind.{common_steps}
 use Rattle.std.proofs.Common.{◌≡◌, ◌+◌, map, drop, sym, ap, ◌∙◌, arith}
 use Rattle.ds2_meaning.specs.View.{parameter_tree}
-use Rattle.ds2_placement.specs.UsedConstants.{constants_of_parameters}
+use Rattle.ds2_program_code.specs.UsedConstants.{constants_of_parameters}
 use Rattle.ds2_constants.specs.UsedOnce.{with_used}
 use Rattle.ds2_constants.proofs.Collected.{none_used, items_from}
 use Rattle.ds2_constants.proofs.CollectedStatements.{parameter_collected}

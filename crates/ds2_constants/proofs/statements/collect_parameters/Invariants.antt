@@ -1,6 +1,6 @@
 use Rattle.std.proofs.Common.{◌≡◌, map, drop}
 use Rattle.ds2_meaning.specs.View.{parameter_tree}
-use Rattle.ds2_placement.specs.UsedConstants.{constants_of_parameters}
+use Rattle.ds2_program_code.specs.UsedConstants.{constants_of_parameters}
 use Rattle.ds2_constants.specs.UsedOnce.{with_used}
 use Rattle.ds2_constants.proofs.statements.collect_parameters.Given as goal
 

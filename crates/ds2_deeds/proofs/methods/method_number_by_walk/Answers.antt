@@ -1,6 +1,6 @@
 use Rattle.std.proofs.Common.{Some, map, sym, ap, ◌∙◌, arith}
 use Rattle.std.proofs.lemmas.Grind.{common_steps}
-use Rattle.ds2_placement.specs.PlacedProgram.{number_of_first}
+use Rattle.ds2_program_code.specs.PlacedProgram.{number_of_first}
 use Rattle.ds2_locality.specs.Deeds.{is_same_method}
 use Rattle.ds2_deeds.specs.NamedMethods.{method_of_name}
 use Rattle.ds2_deeds.proofs.NumberLemmas.{from_first, number_here, number_later}

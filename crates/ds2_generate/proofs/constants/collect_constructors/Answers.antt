@@ -2,7 +2,7 @@ use Rattle.std.proofs.Common.{◌+◌, List, map, drop, sym, ap, ◌∙◌}
 use Rattle.ds2_meaning.specs.declared.expressions.Argument.{Argument}
 use Rattle.ds2_meaning.specs.TypedExpression.{NoArgument}
 use Rattle.ds2_meaning.specs.View.{argument_tree, constructors_first, in_a_row}
-use Rattle.ds2_placement.specs.UsedConstants.{constants_of_arguments, constants_of_body}
+use Rattle.ds2_program_code.specs.UsedConstants.{constants_of_arguments, constants_of_body}
 use Rattle.ds2_constants.specs.UsedOnce.{with_used}
 use Rattle.ds2_generate.proofs.WalkLemmas.{constructor_collected, grown_by_equal, first_and_rest}
 use Rattle.ds2_generate.proofs.constants.collect_constructors.Goals as goal

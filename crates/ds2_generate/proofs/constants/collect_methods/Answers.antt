@@ -3,7 +3,7 @@ use Rattle.std.proofs.lemmas.Grind.{common_steps}
 use Rattle.ds2_meaning.specs.declared.methods.Method.{Method}
 use Rattle.ds2_meaning.specs.declared.statements.Statement.{Statement}
 use Rattle.ds2_meaning.specs.View.{all_statements, typed_method, typed_statement}
-use Rattle.ds2_placement.specs.UsedConstants.{constants_of_body}
+use Rattle.ds2_program_code.specs.UsedConstants.{constants_of_body}
 use Rattle.ds2_constants.specs.UsedOnce.{with_used}
 use Rattle.ds2_generate.specs.ConstantWalk.{constants_of_methods}
 use Rattle.ds2_generate.proofs.WalkLemmas.{no_constant, method_collected, grown_by_equal, first_and_rest}

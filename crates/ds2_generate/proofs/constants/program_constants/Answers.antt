@@ -3,7 +3,7 @@ use Rattle.std.specs.Prelude.{flat_map}
 use Rattle.ds2_meaning.specs.declared.methods.Method.{Method}
 use Rattle.ds2_meaning.specs.declared.units.Instance.{Instance}
 use Rattle.ds2_meaning.specs.View.{init_tree, instance_tree, system_tree, typed_method, unit_tree}
-use Rattle.ds2_placement.specs.UsedConstants.{constants_of_body}
+use Rattle.ds2_program_code.specs.UsedConstants.{constants_of_body}
 use Rattle.ds2_generate.specs.ConstantWalk.{constants_of_instance, constants_of_methods}
 use Rattle.ds2_generate.proofs.WalkLemmas.{grown_by_equal, program_collected}
 use Rattle.ds2_generate.proofs.constants.program_constants.Goals as goal

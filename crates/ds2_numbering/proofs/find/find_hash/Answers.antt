@@ -2,7 +2,7 @@ use Rattle.std.proofs.Common.{map}
 use Rattle.std.specs.Prelude.{flat_map, None}
 use Rattle.ds2_meaning.specs.Location.{Location, is_same_location}
 use Rattle.ds2_meaning.specs.View.{instance_tree}
-use Rattle.ds2_placement.specs.PlacedProgram.{hashes_at, hash_locations}
+use Rattle.ds2_program_code.specs.PlacedProgram.{hashes_at, hash_locations}
 use Rattle.ds2_numbering.specs.CellNumbers.{tree_of, instance_hashes}
 use Rattle.ds2_numbering.specs.Searching.{unbegun}
 use Rattle.ds2_numbering.specs.SoughtLocations.{location_sought}

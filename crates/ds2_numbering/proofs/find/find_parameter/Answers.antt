@@ -3,7 +3,7 @@ use Rattle.std.proofs.lemmas.Grind.{common_steps}
 use Rattle.ds2_meaning.specs.Location.{Location, is_same_location}
 use Rattle.ds2_meaning.specs.Reading.{stage_instance}
 use Rattle.ds2_meaning.specs.View.{reading_with_run}
-use Rattle.ds2_placement.specs.PlacedProgram.{parameter_locations}
+use Rattle.ds2_program_code.specs.PlacedProgram.{parameter_locations}
 use Rattle.ds2_numbering.specs.CellNumbers.{read_parameters, tree_of}
 use Rattle.ds2_numbering.specs.Searching.{unbegun, search_by}
 use Rattle.ds2_numbering.specs.SoughtLocations.{location_sought}

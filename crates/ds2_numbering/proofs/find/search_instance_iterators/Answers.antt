@@ -3,7 +3,7 @@ use Rattle.ds2_meaning.specs.declared.hashes.DeclaredIterator.{DeclaredIterator}
 use Rattle.ds2_meaning.specs.declared.units.TypedPackage.{TypedPackage}
 use Rattle.ds2_meaning.specs.Location.{Location, is_same_location}
 use Rattle.ds2_meaning.specs.View.{instance_tree, objects_tree}
-use Rattle.ds2_placement.specs.PlacedProgram.{iterators_at}
+use Rattle.ds2_program_code.specs.PlacedProgram.{iterators_at}
 use Rattle.ds2_numbering.specs.CellNumbers.{instance_iterators}
 use Rattle.ds2_numbering.specs.Searching.{search_by}
 use Rattle.ds2_numbering.specs.SoughtLocations.{location_sought}

@@ -1,7 +1,7 @@
 use Rattle.std.proofs.Common.{◌≡◌, drop}
 use Rattle.std.proofs.Common.{[]}
 use Rattle.ds2_meaning.specs.View.{objects_tree}
-use Rattle.ds2_placement.specs.PlacedProgram.{iterators_at}
+use Rattle.ds2_program_code.specs.PlacedProgram.{iterators_at}
 use Rattle.ds2_numbering.specs.Searching.{search_among}
 use Rattle.ds2_numbering.specs.SoughtLocations.{location_sought, home_of_name}
 use Rattle.ds2_numbering.proofs.find.search_iterators.Given as goal

@@ -2,7 +2,7 @@ use Rattle.std.proofs.Common.{◌≡◌, ℕ, List, ◌++◌, map, ap, ◌∙◌
 use Rattle.ds2_meaning.specs.declared.globals.Variable.{Variable}
 use Rattle.ds2_meaning.specs.declared.methods.Parameter.{Parameter}
 use Rattle.ds2_meaning.specs.View.{typed_method}
-use Rattle.ds2_placement.specs.PlacedProgram.{number_of_name, names_of_variables, frame_names}
+use Rattle.ds2_program_code.specs.PlacedProgram.{number_of_name, names_of_variables, frame_names}
 use Rattle.ds2_numbering.proofs.NumberLemmas.{both_named}
 use Rattle.ds2_numbering.proofs.name_table.frame_numbers.Goals as goal
 

@@ -1,7 +1,7 @@
 use Rattle.std.proofs.Common.{ℕ, List}
 use Rattle.std.specs.Prelude.{bytes_eq}
 use Rattle.ds2_meaning.specs.declared.globals.Variable.{Variable}
-use Rattle.ds2_placement.specs.PlacedProgram.{names_of_variables}
+use Rattle.ds2_program_code.specs.PlacedProgram.{names_of_variables}
 use Rattle.ds2_numbering.specs.NameNumbers.{number_under}
 use Rattle.ds2_numbering.specs.Searching.{search_names}
 use Rattle.ds2_numbering.proofs.NumberLemmas.{all_searched, reached}

@@ -1,5 +1,5 @@
 use Rattle.std.proofs.Common.{◌≡◌, ℕ, List, drop}
-use Rattle.ds2_placement.specs.PlacedProgram.{names_of_variables}
+use Rattle.ds2_program_code.specs.PlacedProgram.{names_of_variables}
 use Rattle.ds2_numbering.specs.NameNumbers.{number_under}
 use Rattle.ds2_numbering.specs.Searching.{search_names}
 use Rattle.ds2_numbering.proofs.NumberLemmas.{reached}

@@ -1,4 +1,4 @@
-use Rattle.ds2_placement.specs.PlacedProgram.{names_of_variables}
+use Rattle.ds2_program_code.specs.PlacedProgram.{names_of_variables}
 use Rattle.ds2_numbering.proofs.NumberLemmas.{first_named}
 use Rattle.ds2_numbering.proofs.name_table.variable_numbers.Goals as goal
 

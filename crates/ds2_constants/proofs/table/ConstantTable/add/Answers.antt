@@ -1,6 +1,6 @@
 use Rattle.std.proofs.Common.{◌≡◌, ℕ, List, [], ◌∷◌, ◌++◌, Some, cond, sym, ap, subst, ◌∙◌}
 use Rattle.std.specs.BTreeMap.{get, is_at}
-use Rattle.ds2_placement.specs.UsedConstants.{UsedConstant}
+use Rattle.ds2_program_code.specs.UsedConstants.{UsedConstant}
 use Rattle.ds2_constants.specs.ConstantNumbers.{HaveConstantNumbers}
 use Rattle.ds2_constants.specs.KeyOrder.{key_cmp}
 use Rattle.ds2_constants.specs.declared.key.ConstantKey.{ConstantKey}

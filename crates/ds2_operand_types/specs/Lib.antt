@@ -1,2 +1,0 @@
-pub mod TypedOperands
-pub mod TypedRuns

@@ -1,4 +1,0 @@
-pub mod Placements
-pub mod Roles
-pub mod KeptTypes
-pub mod Covered

@@ -1,5 +1,0 @@
-use Rattle.ds2_placement.proofs.KeptTypes.{each_value_has_type}
-use Rattle.ds2_placement.proofs.laws.each_value_has_type.Goals as goal
-
-pub returns : goal.returns
-returns c = each_value_has_type

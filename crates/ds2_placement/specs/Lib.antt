@@ -1,5 +1,0 @@
-pub mod PlacedProgram
-pub mod PlacementLaws
-pub mod KeptTypes
-pub mod UsedConstants
-pub mod TypedIsCovered
