@@ -8,3 +8,6 @@ pub mod InstructionTable
 pub mod OperandTypes
 pub mod OperationCode
 pub mod ValidCode
+pub mod Scales
+pub mod Fitting
+pub mod CodeOpening

@@ -18,9 +18,9 @@ use Rattle.ds2_reading.specs.declared.reading.Reading.{Reading}
 use Rattle.ds2_code.specs.declared.parts.Slot.{Slot}
 use Rattle.ds2_code.specs.CodeUnit.{assigned_to_slot, row_slot_settings}
 use Rattle.ds2_code.specs.Desk.{SlotSettings}
-use Rattle.ds2_scales.specs.Scales.{is_scaled, AreSettingsScaled}
-use Rattle.ds2_scales.proofs.ScaledLists.{some_is}
-use Rattle.ds2_scales.proofs.ScaledResults.{rescaled}
+use Rattle.ds2_code.specs.Scales.{is_scaled, AreSettingsScaled}
+use Rattle.ds2_code.proofs.ScaledLists.{some_is}
+use Rattle.ds2_code.proofs.ScaledResults.{rescaled}
 use Rattle.ds2_code_answer.specs.CodeLoads.{slot_flag, column_nulls, table_nulls, row_of_table, settings_of_read, read_settings, in_flag_setting, in_flag_settings, by_flag_settings, first_flag_of, last_flag_of, load_settings, code_keyed_loads, code_reading, retains_columns}
 use Rattle.ds2_code_answer.specs.CodeLoadLaws.{LoadsAreScaled}
 

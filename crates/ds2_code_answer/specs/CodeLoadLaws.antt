@@ -6,7 +6,7 @@ use Rattle.ds2_reading.specs.ReadingFits.{reading_fits_tables}
 use Rattle.ds2_code.specs.declared.parts.ProgramParts.{ProgramParts}
 use Rattle.ds2_code.specs.declared.parts.StagedParts.{StagedParts}
 use Rattle.ds2_code.specs.ValidCode.{IsValidStaged}
-use Rattle.ds2_scales.specs.Scales.{AreSettingsScaled}
+use Rattle.ds2_code.specs.Scales.{AreSettingsScaled}
 use Rattle.ds2_code_answer.specs.CodeLoads.{code_loads, code_reading}
 use Rattle.ds2_code_answer.specs.CodeTables.{AreTablesOfCode}
 

@@ -4,7 +4,7 @@ use Rattle.std.specs.List.{AllByRecursion}
 use Rattle.std.specs.Prelude.{slice_get}
 use Rattle.ds2_code.specs.declared.parts.Slot.{Slot}
 use Rattle.ds2_code.specs.Desk.{SlotSettings}
-use Rattle.ds2_scales.specs.Scales.{AreSettingsScaled}
+use Rattle.ds2_code.specs.Scales.{AreSettingsScaled}
 use Rattle.ds2_group_job.specs.GroupRuns.{loads_or_none, group_at_number}
 use Rattle.ds2_group_job.specs.StageJobs.{AreGroupsScaled}
 

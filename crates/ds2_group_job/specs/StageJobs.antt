@@ -9,7 +9,7 @@ use Rattle.ds2_code.specs.ValidCode.{IsValidStaged}
 use Rattle.ds2_machine.specs.AtRest.{staged_program}
 use Rattle.ds2_machine.specs.declared.machine.TheConstants.{MOST_BUDGET}
 use Rattle.ds2_machine.specs.declared.record.UnitRecord.{UnitRecord}
-use Rattle.ds2_scales.specs.Scales.{AreSettingsScaled, IsDataScaled}
+use Rattle.ds2_code.specs.Scales.{AreSettingsScaled, IsDataScaled}
 use Rattle.ds2_stage_loads.specs.GroupedLoads.{loads_of_groups}
 use Rattle.ds2_staged.specs.Threads.{rows_kept}
 use Rattle.ds2_staged.specs.declared.turns_end.TurnsEnd.{TurnsEnd}

@@ -2,7 +2,7 @@
 ghost use Rattle.std.specs.Prelude.{◌≡◌, ◌≤◌, false, IfOk};
 ghost use Rattle.ds2_machine.specs.AtRest.{staged_program};
 ghost use Rattle.ds2_machine.specs.declared.machine.TheConstants.{MOST_BUDGET};
-ghost use Rattle.ds2_scales.specs.Scales.{IsDataScaled};
+ghost use Rattle.ds2_code.specs.Scales.{IsDataScaled};
 ghost use Rattle.ds2_stage_loads.specs.StageCursors.{cursor_groups};
 ghost use Rattle.ds2_staged.specs.Threads.{rows_kept};
 ghost use Rattle.ds2_group_job.specs.WhateverRan.{GivesWhateverRan};

@@ -5,7 +5,7 @@ ghost use Rattle.ds2_code_answer.specs.CodeAnswer.{code_units};
 ghost use Rattle.ds2_code_schedule.specs.StageTold.{told_by_answer};
 ghost use Rattle.ds2_machine.specs.AtRest.{staged_program};
 ghost use Rattle.ds2_machine.specs.declared.machine.TheConstants.{MOST_BUDGET};
-ghost use Rattle.ds2_scales.specs.Scales.{IsDataScaled};
+ghost use Rattle.ds2_code.specs.Scales.{IsDataScaled};
 ghost use Rattle.ds2_stage_loads.specs.GroupedLoads.{loads_of_groups};
 ghost use Rattle.ds2_stage_loads.specs.StageCursors.{cursor_groups};
 ghost use Rattle.ds2_group_job.specs.KeptAnswers.{HasKeptTold};

@@ -7,7 +7,7 @@ use Rattle.ds2_code.specs.declared.parts.ProgramParts.{ProgramParts}
 use Rattle.ds2_code.specs.CodeLaws.{way_of_end}
 use Rattle.ds2_code.specs.CodeRun.{CallFrame, MachineState, CodeEnd, EndReached, Broken, Stuck, NextState, GoesOn, Stops, UnderWay, Over, run_code}
 use Rattle.ds2_code.specs.Desk.{ProgramData, Desk, Taken, with_stack}
-use Rattle.ds2_scales.specs.Scales.{IsScaled}
+use Rattle.ds2_code.specs.Scales.{IsScaled}
 use Rattle.ds2_machine.specs.Sink.{SinkTakes}
 use Rattle.ds2_frames.specs.declared.frames.Waiting.{Waiting}
 use Rattle.ds2_machine.specs.declared.state.Halt.{Halt}

@@ -2,7 +2,7 @@
 ghost use Rattle.std.specs.Prelude.{◌≡◌, ◌+◌, ◌*◌, ◌≤◌, false, length, slice_get, Some, ℕ, IfOk};
 ghost use Rattle.ds2_code.specs.CodeUnit.{code_unit, code_init, code_run, code_term, opening_data};
 ghost use Rattle.ds2_code.specs.ValidCode.{EndsInTime, unit_entries};
-ghost use Rattle.ds2_scales.specs.Scales.{AreGivenScaled, AreSettingsScaled, IsDataScaled};
+ghost use Rattle.ds2_code.specs.Scales.{AreGivenScaled, AreSettingsScaled, IsDataScaled};
 ghost use Rattle.ds2_slots.specs.LoadedHashes.{AreSlotTypesInBounds};
 ghost use Rattle.ds2_machine.specs.AtRest.{staged_program, IsProgramOfValid, IsEndingAt, IsUnitEnd, is_early, leaves_spent};
 ghost use Rattle.ds2_machine.specs.Executable.{IsExecutable};
@@ -14,7 +14,7 @@ use crate::{UnitEnd, UnitLoad, UnitSink};
 use ds2_base::{OutOfMemory, Place};
 use ds2_code::ProgramParts;
 use ds2_code::laws::{run_has_one_end, units_begin_with_little, valid_code_ends};
-use ds2_scales::laws::{
+use ds2_code::scale_laws::{
     clearing_keeps_scales, loaded_hashes_are_scaled, settings_keep_scales, units_begin_scaled,
 };
 use ds2_slots::{HashObjects, HashTables, clear, copy_all, nulls, set_values};

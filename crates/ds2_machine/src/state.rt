@@ -1,7 +1,7 @@
 //! The machine between two instructions.
 ghost use Rattle.std.specs.Prelude.{◌≡◌, ◌∷◌, ◌<◌, ◌^◌, [], IsTrue, Some, IfOk, OnOk, false, slice_get};
 ghost use Rattle.std.specs.Option.{is_some};
-ghost use Rattle.ds2_scales.specs.Scales.{IsDataScaled};
+ghost use Rattle.ds2_code.specs.Scales.{IsDataScaled};
 ghost use Rattle.ds2_machine.specs.declared.state.Halt.TheVariants.{Normal as HaltNormal};
 ghost use Rattle.ds2_value.specs.Operations.{is_true};
 ghost use Rattle.ds2_value.specs.Row.{Row};
@@ -22,7 +22,7 @@ use ds2_code::laws::instructions_leave_less;
 use ds2_code::{Constant, HashPart, Instr, MethodPart, ParameterPart, ProgramParts};
 use ds2_frames::{Arguments, Frames, Pile, Waiting};
 use ds2_operations::{computed, computed_from_pair, operands_of, write_line};
-use ds2_scales::laws::{instructions_keep_scales, products_have_scales, units_end_scaled};
+use ds2_code::scale_laws::{instructions_keep_scales, products_have_scales, units_end_scaled};
 use ds2_slots::{HashObjects, set};
 use ds2_value::{CALL_DEPTH, Fault, HashFunction, IteratorFunction, Truth, Value};
 use std::alloc::Global;

@@ -9,7 +9,7 @@ use Rattle.ds2_value.specs.declared.value.Value.TheVariants.{Null}
 use Rattle.ds2_code.specs.declared.instr.Instr.{Instr}
 use Rattle.ds2_code.specs.declared.instr.Instr.TheVariants as instr
 use Rattle.ds2_code.specs.InstructionTable.{Kind, Pure, Partial}
-use Rattle.ds2_scales.specs.Scales.{is_scale_of_product}
+use Rattle.ds2_code.specs.Scales.{is_scale_of_product}
 
 -- how many operands an operation takes; None for an instruction that is none
 abbrev pub operation_operands : Kind → Option ℕ

@@ -2,7 +2,7 @@
 ghost use Rattle.std.specs.Prelude.{◌≡◌, ◌∷◌, [], IsTrue};
 ghost use Rattle.ds2_value.specs.Operations.{widened, of_decimal, of_decimals};
 ghost use Rattle.ds2_decimal.specs.Arithmetic as decimal;
-ghost use Rattle.ds2_scales.specs.Scales.{is_scale_of_product};
+ghost use Rattle.ds2_code.specs.Scales.{is_scale_of_product};
 
 use ds2_value::{Fault, Value, decimal_value, whole_decimal};
 

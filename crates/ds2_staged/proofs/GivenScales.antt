@@ -7,7 +7,7 @@ use Rattle.ds2_value.specs.declared.ty.Ty.{Ty}
 use Rattle.ds2_value.specs.declared.value.Value.{Value}
 use Rattle.ds2_code.specs.declared.parts.Slot.{Slot}
 use Rattle.ds2_code.specs.OperandTypes.{slot_type}
-use Rattle.ds2_scales.specs.Scales.{AreGivenScaled, is_scaled}
+use Rattle.ds2_code.specs.Scales.{AreGivenScaled, is_scaled}
 use Rattle.ds2_staged.specs.GivenScales.{has_scale_of_slot, have_given_scales}
 
 -- where a slot is there or not, its type is

@@ -14,7 +14,7 @@ use Rattle.ds2_table.specs.OneThread.{Answer, StageAnswer, then_unit, with_group
 use Rattle.ds2_code.specs.declared.parts.Slot.{Slot}
 use Rattle.ds2_code.specs.CodeUnit.{row_slot_settings}
 use Rattle.ds2_code.specs.Desk.{ProgramData}
-use Rattle.ds2_scales.specs.Scales.{AreSettingsScaled}
+use Rattle.ds2_code.specs.Scales.{AreSettingsScaled}
 use Rattle.ds2_code_answer.proofs.ScaledLoads.{row_scaled}
 use Rattle.ds2_machine.specs.AtRest.{IsUnitEnd, is_early}
 use Rattle.ds2_machine.specs.Sink.{SinkTakes}

@@ -5,7 +5,7 @@ use Rattle.ds2_value.specs.declared.ty.Ty.{Ty}
 use Rattle.ds2_value.specs.declared.value.Value.{Value}
 use Rattle.ds2_code.specs.declared.parts.Slot.{Slot}
 use Rattle.ds2_code.specs.OperandTypes.{slot_type}
-use Rattle.ds2_scales.specs.Scales.{is_scaled}
+use Rattle.ds2_code.specs.Scales.{is_scaled}
 
 -- a value has the scale of the slot for which it is given, where that slot is there
 abbrev pub has_scale_of_slot : Option Ty → Value → Bool

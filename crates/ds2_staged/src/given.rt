@@ -2,7 +2,7 @@
 ghost use Rattle.std.specs.Prelude.{◌≡◌};
 ghost use Rattle.std.specs.Bool.{OnTrue};
 ghost use Rattle.ds2_code.specs.OperandTypes.{slot_type};
-ghost use Rattle.ds2_scales.specs.Scales.{AreGivenScaled, is_scaled};
+ghost use Rattle.ds2_code.specs.Scales.{AreGivenScaled, is_scaled};
 ghost use Rattle.ds2_staged.specs.GivenScales.{has_scale_of_slot, have_given_scales};
 
 use ds2_base::List;

@@ -1,7 +1,7 @@
 //! A program that reads from a thread program.
 ghost use Rattle.std.specs.Prelude.{◌≡◌, ◌+◌, ◌≤◌, [], ◌∷◌, false, IfOk, OnOk};
 ghost use Rattle.ds2_table.specs.OneThread.{Answer};
-ghost use Rattle.ds2_scales.specs.Scales.{IsDataScaled};
+ghost use Rattle.ds2_code.specs.Scales.{IsDataScaled};
 ghost use Rattle.ds2_slots.specs.LoadedHashes.{AreSlotTypesInBounds};
 ghost use Rattle.ds2_machine.specs.Sink.{SinkTakes};
 ghost use Rattle.ds2_machine.specs.declared.machine.TheConstants.{MOST_BUDGET};

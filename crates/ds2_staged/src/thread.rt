@@ -4,7 +4,7 @@ ghost use Rattle.std.specs.Arc.{arc_value};
 ghost use Rattle.std.specs.List.{AllByRecursion};
 ghost use Rattle.ds2_table.specs.OneThread.{alone_answer, groups_at, run_each, then_unit};
 ghost use Rattle.ds2_code.specs.CodeUnit.{code_init};
-ghost use Rattle.ds2_scales.specs.Scales.{AreGivenScaled, AreSettingsScaled, IsDataScaled};
+ghost use Rattle.ds2_code.specs.Scales.{AreGivenScaled, AreSettingsScaled, IsDataScaled};
 ghost use Rattle.ds2_machine.specs.AtRest.{staged_program};
 ghost use Rattle.ds2_machine.specs.declared.machine.TheConstants.{MOST_BUDGET};
 ghost use Rattle.ds2_code_answer.specs.CodeAnswer.{code_program, code_units};

@@ -10,7 +10,7 @@ use Rattle.ds2_code.specs.declared.parts.ReadingPart.TheVariants as reading
 use Rattle.ds2_code.specs.declared.parts.StagedParts.{StagedParts}
 use Rattle.ds2_code.specs.CodeUnit.{code_init}
 use Rattle.ds2_code.specs.Desk.{ProgramData, SlotSettings}
-use Rattle.ds2_scales.specs.Scales.{IsDataScaled}
+use Rattle.ds2_code.specs.Scales.{IsDataScaled}
 use Rattle.ds2_machine.specs.AtRest.{MachineAtRest}
 use Rattle.ds2_machine.specs.Sink.{SinkTakes}
 use Rattle.ds2_machine.specs.declared.machine.TheConstants.{MOST_BUDGET}

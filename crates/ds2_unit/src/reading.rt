@@ -2,7 +2,7 @@
 ghost use Rattle.std.specs.Prelude.{◌≡◌, [], IfOk, IsTrue};
 ghost use Rattle.std.specs.List.{AllByRecursion};
 ghost use Rattle.ds2_reading.specs.ReadingFits.{reading_fits_tables};
-ghost use Rattle.ds2_scales.specs.Scales.{AreSettingsScaled};
+ghost use Rattle.ds2_code.specs.Scales.{AreSettingsScaled};
 ghost use Rattle.ds2_slots.specs.LoadedHashes.{AreSlotTypesInBounds};
 ghost use Rattle.ds2_code_answer.specs.CodeLoads.{code_loads, code_reading, reading_over};
 ghost use Rattle.ds2_code_answer.specs.CodeTables.{AreTablesOfCode, first_read_table};

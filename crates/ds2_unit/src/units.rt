@@ -3,7 +3,7 @@ ghost use Rattle.std.specs.Prelude.{◌≡◌, ◌+◌, ◌≤◌, false, IfOk};
 ghost use Rattle.std.specs.List.{AllByRecursion};
 ghost use Rattle.ds2_table.specs.OneThread.{run_all, run_each, then_unit};
 ghost use Rattle.ds2_code.specs.CodeUnit.{code_init};
-ghost use Rattle.ds2_scales.specs.Scales.{AreSettingsScaled, IsDataScaled};
+ghost use Rattle.ds2_code.specs.Scales.{AreSettingsScaled, IsDataScaled};
 ghost use Rattle.ds2_machine.specs.AtRest.{staged_program};
 ghost use Rattle.ds2_machine.specs.declared.machine.TheConstants.{MOST_BUDGET};
 ghost use Rattle.ds2_code_answer.specs.CodeAnswer.{code_units};

@@ -1,6 +1,6 @@
 //! One case.
 ghost use Rattle.std.specs.Prelude.{◌≡◌, ◌≤◌, false, length};
-ghost use Rattle.ds2_scales.specs.Scales.{IsDataScaled};
+ghost use Rattle.ds2_code.specs.Scales.{IsDataScaled};
 ghost use Rattle.ds2_machine.specs.AtRest.{staged_program};
 
 use crate::codes::lines::{show_end, show_parameters, show_written};

@@ -1,7 +1,7 @@
 //! What the lines of a case ask for.
 ghost use Rattle.std.specs.Prelude.{◌≡◌, ◌≤◌, ◌∷◌, [], false, IfOk};
 ghost use Rattle.ds2_value.specs.declared.value.Value.TheVariants.{Int};
-ghost use Rattle.ds2_scales.specs.Scales.{IsDataScaled};
+ghost use Rattle.ds2_code.specs.Scales.{IsDataScaled};
 ghost use Rattle.ds2_machine.specs.AtRest.{staged_program};
 ghost use Rattle.ds2_machine.specs.declared.machine.TheConstants.{MOST_BUDGET};
 

@@ -4,7 +4,7 @@ use Rattle.ds2_table.specs.OneThread.{Answer}
 use Rattle.ds2_code.specs.declared.parts.ProgramParts.{ProgramParts}
 use Rattle.ds2_code.specs.CodeUnit.{code_init}
 use Rattle.ds2_code.specs.Desk.{ProgramData}
-use Rattle.ds2_scales.specs.Scales.{IsDataScaled}
+use Rattle.ds2_code.specs.Scales.{IsDataScaled}
 use Rattle.ds2_machine.specs.AtRest.{IsUnitEnd, staged_program}
 use Rattle.ds2_staged.specs.Threads.{IsThreadEnd, answer_behind, answer_on_rows, thread_answer}
 use Rattle.ds2_staged.proofs.StagedRuns.{reader_stops, reader_ends}

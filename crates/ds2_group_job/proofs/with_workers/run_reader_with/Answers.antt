@@ -2,7 +2,7 @@ use Rattle.std.proofs.Common.{ℕ, [], ap, ◌∙◌, subst, IfOk}
 use Rattle.ds2_code.specs.CodeUnit.{opening_data}
 use Rattle.ds2_code.specs.Desk.{ProgramData}
 use Rattle.ds2_code_answer.specs.CodeTables.{rows_of_each}
-use Rattle.ds2_scales.specs.Scales.{IsDataScaled}
+use Rattle.ds2_code.specs.Scales.{IsDataScaled}
 use Rattle.ds2_machine.specs.AtRest.{MachineAtRest, staged_program}
 use Rattle.ds2_unit.specs.ProgramRun.{IsRunEnd}
 use Rattle.ds2_staged.specs.Threads.{reader_answer_from, thread_answer}

@@ -5,7 +5,7 @@ use Rattle.ds2_code.specs.declared.parts.ProgramParts.{ProgramParts}
 use Rattle.ds2_code.specs.declared.parts.Slot.{Slot}
 use Rattle.ds2_code.specs.CodeUnit.{row_slot_settings}
 use Rattle.ds2_code.specs.Desk.{SlotSettings}
-use Rattle.ds2_scales.specs.Scales.{AreSettingsScaled, IsDataScaled}
+use Rattle.ds2_code.specs.Scales.{AreSettingsScaled, IsDataScaled}
 use Rattle.ds2_machine.specs.AtRest.{staged_program}
 use Rattle.ds2_machine.specs.declared.record.OutRow.{OutRow}
 use Rattle.ds2_code_answer.specs.CodeAnswer.{code_units}

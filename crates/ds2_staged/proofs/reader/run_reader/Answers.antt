@@ -1,6 +1,6 @@
 use Rattle.std.proofs.Common.{ℕ, ap, subst, IfOk}
 use Rattle.ds2_code.specs.Desk.{ProgramData}
-use Rattle.ds2_scales.specs.Scales.{IsDataScaled}
+use Rattle.ds2_code.specs.Scales.{IsDataScaled}
 use Rattle.ds2_machine.specs.AtRest.{MachineAtRest, staged_program}
 use Rattle.ds2_unit.specs.ProgramRun.{IsRunEnd}
 use Rattle.ds2_staged.specs.Threads.{reader_answer_from}

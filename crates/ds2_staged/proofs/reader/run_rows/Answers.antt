@@ -2,7 +2,7 @@ use Rattle.std.proofs.Common.{sym, ap, subst, IfOk}
 use Rattle.ds2_table.specs.OneThread.{Answer}
 use Rattle.ds2_code.specs.declared.parts.ProgramParts.{ProgramParts}
 use Rattle.ds2_code.specs.declared.parts.StagedParts.{StagedParts}
-use Rattle.ds2_scales.specs.Scales.{IsDataScaled}
+use Rattle.ds2_code.specs.Scales.{IsDataScaled}
 use Rattle.ds2_slots.specs.LoadedHashes.{AreSlotTypesInBounds}
 use Rattle.ds2_unit.proofs.Statements.{types_of_valid}
 use Rattle.ds2_staged.specs.Threads.{IsThreadEnd, answer_behind}

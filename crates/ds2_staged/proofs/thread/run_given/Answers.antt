@@ -3,7 +3,7 @@ use Rattle.ds2_table.specs.OneThread.{alone_answer}
 use Rattle.ds2_code.specs.declared.parts.ProgramParts.{ProgramParts}
 use Rattle.ds2_code.specs.CodeUnit.{opening_data}
 use Rattle.ds2_code.specs.Desk.{ProgramData}
-use Rattle.ds2_scales.specs.Scales.{AreGivenScaled}
+use Rattle.ds2_code.specs.Scales.{AreGivenScaled}
 use Rattle.ds2_machine.specs.AtRest.{MachineAtRest, staged_program}
 use Rattle.ds2_code_answer.specs.CodeAnswer.{code_opening, code_program}
 use Rattle.ds2_code_answer.specs.CodeTables.{rows_of_each}

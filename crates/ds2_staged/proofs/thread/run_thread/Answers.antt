@@ -1,6 +1,6 @@
 use Rattle.std.proofs.Common.{ℕ, List, subst}
 use Rattle.std.proofs.lemmas.Bool.{OnTrue_at}
-use Rattle.ds2_scales.specs.Scales.{AreGivenScaled}
+use Rattle.ds2_code.specs.Scales.{AreGivenScaled}
 use Rattle.ds2_staged.proofs.thread.run_thread.Goals as goal
 
 pub run_given-requires-clause-given : goal.run_given-requires-clause-given

@@ -1,5 +1,5 @@
 use Rattle.std.proofs.Common.{ℕ, refl, ap, subst}
-use Rattle.ds2_scales.specs.Scales.{IsDataScaled}
+use Rattle.ds2_code.specs.Scales.{IsDataScaled}
 use Rattle.ds2_machine.specs.AtRest.{MachineAtRest, staged_program}
 use Rattle.ds2_unit.specs.ProgramRun.{grain_asked}
 use Rattle.ds2_unit.specs.declared.program_end.RunEnd.{RunEnd}

@@ -1,7 +1,7 @@
 use Rattle.std.proofs.Common.{List, sym, ap, ◌∙◌, subst, IfOk}
 use Rattle.std.specs.List.{AllByRecursion}
 use Rattle.ds2_code.specs.Desk.{SlotSettings}
-use Rattle.ds2_scales.specs.Scales.{AreSettingsScaled}
+use Rattle.ds2_code.specs.Scales.{AreSettingsScaled}
 use Rattle.ds2_code_answer.specs.CodeLoads.{reading_numbered}
 use Rattle.ds2_code_answer.specs.CodeTables.{first_read_table}
 use Rattle.ds2_unit.specs.UnitsRun.{HasRunOnLoads}

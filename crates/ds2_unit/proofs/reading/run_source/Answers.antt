@@ -1,7 +1,7 @@
 use Rattle.std.proofs.Common.{sym, subst, IfOk}
 use Rattle.std.specs.List.{AllByRecursion}
 use Rattle.ds2_code.specs.declared.parts.ProgramParts.{ProgramParts}
-use Rattle.ds2_scales.specs.Scales.{AreSettingsScaled, IsDataScaled}
+use Rattle.ds2_code.specs.Scales.{AreSettingsScaled, IsDataScaled}
 use Rattle.ds2_unit.specs.UnitsRun.{HasRunOnLoads}
 use Rattle.ds2_unit.proofs.Statements.{data_program}
 use Rattle.ds2_unit.proofs.reading.run_source.Goals as goal

@@ -2,7 +2,7 @@ use Rattle.std.proofs.Common.{ℕ, refl, sym, ◌∙◌, subst, arith}
 use Rattle.std.specs.List.{AllByRecursion}
 use Rattle.ds2_table.specs.OneThread.{run_each}
 use Rattle.ds2_code.specs.CodeUnit.{code_init}
-use Rattle.ds2_scales.specs.Scales.{AreSettingsScaled}
+use Rattle.ds2_code.specs.Scales.{AreSettingsScaled}
 use Rattle.ds2_machine.specs.AtRest.{staged_program}
 use Rattle.ds2_code_answer.specs.CodeAnswer.{code_units}
 use Rattle.ds2_unit.specs.UnitsRun.{HasRunAnswer}

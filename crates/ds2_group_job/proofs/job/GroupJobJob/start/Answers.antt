@@ -1,7 +1,7 @@
 use Rattle.std.proofs.Common.{[], sym, ap, ◌∙◌, subst}
 use Rattle.ds2_code.specs.declared.parts.StagedParts.{StagedParts}
 use Rattle.ds2_machine.specs.AtRest.{MachineAtRest, staged_program}
-use Rattle.ds2_scales.specs.Scales.{IsDataScaled}
+use Rattle.ds2_code.specs.Scales.{IsDataScaled}
 use Rattle.ds2_group_job.specs.StageJobs.{StageJob}
 use Rattle.ds2_group_job.proofs.job.GroupJobJob.start.Goals as goal
 

@@ -1,5 +1,5 @@
 use Rattle.std.proofs.Common.{◌≡◌, false}
-use Rattle.ds2_scales.specs.Scales.{IsDataScaled}
+use Rattle.ds2_code.specs.Scales.{IsDataScaled}
 use Rattle.ds2_machine.specs.AtRest.{staged_program}
 use Rattle.ds2_layer_cases.proofs.codes.case.run_lines.Given as goal
 

@@ -1,7 +1,7 @@
 use Rattle.std.proofs.Common.{◌≡◌, ℕ, ◌+◌, ◌*◌, ◌≤◌, length, sym, ap, ◌∙◌, subst, IfOk}
 use Rattle.ds2_code.specs.declared.parts.ProgramParts.{ProgramParts}
 use Rattle.ds2_code.specs.CodeUnit.{code_run}
-use Rattle.ds2_scales.specs.Scales.{AreSettingsScaled, IsDataScaled}
+use Rattle.ds2_code.specs.Scales.{AreSettingsScaled, IsDataScaled}
 use Rattle.ds2_machine.specs.AtRest.{MachineAtRest, staged_program, IsUnitEnd}
 use Rattle.ds2_machine.proofs.UnitEnds.{bound}
 use Rattle.ds2_machine.proofs.machine.Machine.call_run.Goals as goal

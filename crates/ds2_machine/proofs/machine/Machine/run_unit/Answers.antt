@@ -4,7 +4,7 @@ use Rattle.ds2_code.specs.CodeUnit.{code_unit, without_cleared}
 use Rattle.ds2_code.specs.Desk.{ProgramData}
 use Rattle.ds2_code.specs.ValidCode.{EndsInTime}
 use Rattle.ds2_machine.specs.AtRest.{IsUnitEnd}
-use Rattle.ds2_scales.specs.Scales.{IsDataScaled}
+use Rattle.ds2_code.specs.Scales.{IsDataScaled}
 use Rattle.ds2_machine.proofs.Executable.{executable}
 use Rattle.ds2_machine.proofs.RunScales.{loaded_scaled}
 use Rattle.ds2_machine.proofs.UnitEnds.{loaded_state}

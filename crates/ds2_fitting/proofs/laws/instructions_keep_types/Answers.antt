@@ -1,5 +1,0 @@
-use Rattle.ds2_fitting.proofs.FittingMachine.{instructions_keep_types}
-use Rattle.ds2_fitting.proofs.laws.instructions_keep_types.Goals as goal
-
-pub returns : goal.returns
-returns c = instructions_keep_types c.fitting_is_held.ensures c.assigned_fits.ensures c.instructions_leave_less.ensures

@@ -1,5 +1,0 @@
-use Rattle.ds2_fitting.proofs.FittingOpening.{rows_set_what_fits}
-use Rattle.ds2_fitting.proofs.laws.rows_set_what_fits.Goals as goal
-
-pub returns : goal.returns
-returns c = rows_set_what_fits c.fitting_is_held.ensures c.assigned_fits.ensures

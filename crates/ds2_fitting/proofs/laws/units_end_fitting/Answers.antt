@@ -1,5 +1,0 @@
-use Rattle.ds2_fitting.proofs.FittingMachine.{units_end_fitting}
-use Rattle.ds2_fitting.proofs.laws.units_end_fitting.Goals as goal
-
-pub returns : goal.returns
-returns c = units_end_fitting c.fitting_is_held.ensures c.assigned_fits.ensures

@@ -1,5 +1,0 @@
-use Rattle.ds2_scales.proofs.HashScales.{loaded_hashes_are_scaled}
-use Rattle.ds2_scales.proofs.laws.loaded_hashes_are_scaled.Goals as goal
-
-pub returns : goal.returns
-returns c = loaded_hashes_are_scaled

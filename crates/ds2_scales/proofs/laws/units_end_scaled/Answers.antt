@@ -1,5 +1,0 @@
-use Rattle.ds2_scales.proofs.MachineScales.{units_end_scaled}
-use Rattle.ds2_scales.proofs.laws.units_end_scaled.Goals as goal
-
-pub returns : goal.returns
-returns c = units_end_scaled
