@@ -10,7 +10,7 @@ use Rattle.ds2_stage_loads.specs.Grains.{IsGrainOf, IsGrainOfReading}
 use Rattle.ds2_locality.specs.declared.locality.Verdict.{Verdict}
 use Rattle.ds2_locality.specs.declared.locality.Verdict.TheVariants.{Local, NotLocal}
 use Rattle.ds2_locality.specs.Verdict.{JudgedThread, LocalIsGreatest, coarsest, verdict_of}
-use Rattle.ds2_same_answer.specs.SameAnswer.{programs_in_chain}
+use Rattle.ds2_same_meaning.specs.SameAnswer.{programs_in_chain}
 use Rattle.ds2_same_meaning.specs.SameMeaning.{number_of_bys}
 use Rattle.ds2_verdicts.specs.OwnVerdicts.{HasOwnVerdict, StagesHaveVerdicts}
 use Rattle.ds2_verdicts.specs.ThreadVerdicts.{verdict_named}

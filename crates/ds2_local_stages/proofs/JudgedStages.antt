@@ -10,8 +10,8 @@ use Rattle.ds2_locality.specs.Verdict.{JudgedThread, verdict_of}
 use Rattle.ds2_verdicts.specs.OwnVerdicts.{HasOwnVerdict, StagesHaveVerdicts, ProgramsHaveVerdicts}
 use Rattle.ds2_verdicts.specs.SourceVerdicts.{source_verdicts}
 use Rattle.ds2_verdicts.specs.declared.verdicts.ThreadVerdict.{ThreadVerdict}
-use Rattle.ds2_same_answer.specs.SameAnswer.{HasNamedInstances}
-use Rattle.ds2_code_locality.specs.LocalGroups.{IsIndependentCode, LocalCodeHasIndependentGroups}
+use Rattle.ds2_same_meaning.specs.SameAnswer.{HasNamedInstances}
+use Rattle.ds2_same_meaning.specs.LocalGroups.{IsIndependentCode, LocalCodeHasIndependentGroups}
 use Rattle.ds2_local_stages.specs.LocalStages.{StagesAreIndependent, LocalStagesAreIndependent}
 
 same_verdict : (a b : Verdict) → Some a ≡ Some b → a ≡ b

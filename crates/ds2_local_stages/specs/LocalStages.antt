@@ -10,8 +10,8 @@ use Rattle.ds2_locality.specs.declared.locality.Verdict.TheVariants.{Local}
 use Rattle.ds2_verdicts.specs.SourceVerdicts.{source_verdicts}
 use Rattle.ds2_verdicts.specs.ThreadVerdicts.{verdict_named}
 use Rattle.ds2_verdicts.specs.declared.verdicts.ThreadVerdict.{ThreadVerdict}
-use Rattle.ds2_same_answer.specs.SameAnswer.{HasNamedInstances}
-use Rattle.ds2_code_locality.specs.LocalGroups.{IsIndependentCode}
+use Rattle.ds2_same_meaning.specs.SameAnswer.{HasNamedInstances}
+use Rattle.ds2_same_meaning.specs.LocalGroups.{IsIndependentCode}
 
 -- where the verdict under the name of a thread program says that it is local, its code is independent at that grain
 abbrev pub IsIndependentAsJudged : List ThreadVerdict → UnitTree → Type 0

@@ -7,5 +7,5 @@ pub fn local_stages_are_independent()
     ensures { LocalStagesAreIndependent }
 {
     ds2_verdicts::laws::programs_have_verdicts();
-    ds2_code_locality::laws::local_code_has_independent_groups();
+    ds2_same_meaning::locality_laws::local_code_has_independent_groups();
 }

@@ -11,11 +11,11 @@ use Rattle.ds2_meaning.specs.Reading.{TableRows}
 use Rattle.ds2_meaning.specs.TableLaws.{tables_at_opening, tables_mentioned}
 use Rattle.ds2_program_code.specs.ProgramCode.{program_code}
 use Rattle.ds2_code_answer.specs.CodeTables.{hash_references, program_references, first_read_table, tables_of_stage, columns_named, columns_had, AreTablesOfCode}
-use Rattle.ds2_same_answer.specs.SameAnswer.{staged_code, HaveRowsMentioned}
-use Rattle.ds2_same_answer.proofs.OpeningsAlike.{loaded_count, drop_front}
+use Rattle.ds2_same_meaning.specs.SameAnswer.{staged_code, HaveRowsMentioned}
+use Rattle.ds2_same_meaning.proofs.OpeningsAlike.{loaded_count, drop_front}
 use Rattle.ds2_stage_loads.specs.GroupedLoads.{loads_in_groups}
-use Rattle.ds2_code_locality.specs.CodeStates.{is_data_of_code, fixed_data}
-use Rattle.ds2_code_locality.specs.LocalGroups.{HasIndependentGroups}
+use Rattle.ds2_same_meaning.specs.CodeStates.{is_data_of_code, fixed_data}
+use Rattle.ds2_same_meaning.specs.LocalGroups.{HasIndependentGroups}
 use Rattle.ds2_group_job.specs.WhateverRan.{IsIndependentThread}
 use Rattle.ds2_group_job.proofs.IndependentGroups.{independent_groups}
 use Rattle.ds2_local_threads.specs.LocalThreads.{IndependentCodeGivesThread, IndependentCodeGivesStages}

@@ -6,8 +6,8 @@ use Rattle.ds2_meaning.specs.ProgramTree.{UnitTree, OverTables, OverStage}
 use Rattle.ds2_meaning.specs.Reading.{TableRows}
 use Rattle.ds2_program_code.specs.ProgramCode.{program_code}
 use Rattle.ds2_code_answer.specs.CodeTables.{AreTablesOfCode}
-use Rattle.ds2_same_answer.specs.SameAnswer.{staged_code, HaveRowsMentioned}
-use Rattle.ds2_code_locality.specs.LocalGroups.{IsIndependentCode}
+use Rattle.ds2_same_meaning.specs.SameAnswer.{staged_code, HaveRowsMentioned}
+use Rattle.ds2_same_meaning.specs.LocalGroups.{IsIndependentCode}
 use Rattle.ds2_group_job.specs.WhateverRan.{IsIndependentThread, AreIndependentStages}
 
 -- a thread program over tables whose code is independent at a grain may run on many workers there, over any tables of the code and on every

@@ -10,7 +10,7 @@ use Rattle.ds2_meaning.specs.Reading.{bys_of}
 use Rattle.ds2_code.specs.declared.parts.ProgramParts.{ProgramParts}
 use Rattle.ds2_program_code.specs.CodeParts.{by_variable_part, reading_part}
 use Rattle.ds2_program_code.specs.ProgramCode.{program_code}
-use Rattle.ds2_same_answer.specs.SameAnswer.{code_of_stages, programs_in_chain, staged_code, HasNamedInstances, IsTranslatable, TypedProgramsAnswerAlike}
+use Rattle.ds2_same_meaning.specs.SameAnswer.{code_of_stages, programs_in_chain, staged_code, HasNamedInstances, IsTranslatable, TypedProgramsAnswerAlike}
 use Rattle.ds2_program_code.specs.CountsByWay.{CountsByWay, TypedUnitsCountByWay}
 use Rattle.ds2_same_meaning.specs.SameMeaning.{number_of_bys, NamesSameTables, StagesMeanSame, ThreadMeansSame, TypedProgramsMeanSame}
 use Rattle.ds2_same_meaning.proofs.OutputsAlike.{outputs_alike}

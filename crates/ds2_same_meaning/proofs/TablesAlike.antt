@@ -20,7 +20,7 @@ use Rattle.ds2_code.specs.declared.parts.TableReference.{TableReference}
 use Rattle.ds2_program_code.specs.CodeParts.{hash_part, hash_parts, input_part, reading_part}
 use Rattle.ds2_program_code.specs.ProgramCode.{program_code}
 use Rattle.ds2_code_answer.specs.CodeTables.{with_loaded_table, hash_references, reading_references, program_references, columns_named}
-use Rattle.ds2_same_answer.specs.SameAnswer.{code_of_stages}
+use Rattle.ds2_same_meaning.specs.SameAnswer.{code_of_stages}
 use Rattle.ds2_same_meaning.specs.SameMeaning.{table_referred, columns_read, columns_loaded, columns_loaded_by, columns_at_opening, columns_mentioned}
 
 -- the tables of hash objects before those of others

@@ -8,6 +8,12 @@ pub use Rattle.ds2_meaning.specs.ProgramTree
 pub use Rattle.ds2_meaning.specs.Reading
 pub use Rattle.ds2_program_code.specs.CodeParts
 pub use Rattle.ds2_program_code.specs.ProgramCode
-pub use Rattle.ds2_same_answer.specs.SameAnswer
 pub use Rattle.ds2_unit.specs.Outputs
 pub use Rattle.ds2_unit.specs.UnitsRun
+pub mod SameAnswer
+pub mod SameLoads
+pub mod CodeIndependence
+pub mod CodeStates
+pub mod LocalGroups
+pub mod FixedInCode
+pub mod IndependenceInCode

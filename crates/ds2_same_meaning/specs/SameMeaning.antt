@@ -30,7 +30,7 @@ use Rattle.ds2_code.specs.declared.parts.TableReference.{TableReference}
 use Rattle.ds2_code_answer.specs.CodeAnswer.{code_answer}
 use Rattle.ds2_code_answer.specs.CodeTables.{program_references, reading_references, columns_named}
 use Rattle.ds2_program_code.specs.CodeParts.{code_slots}
-use Rattle.ds2_same_answer.specs.SameAnswer.{staged_code, programs_in_chain, code_answer_with, IsTranslatable, HaveRowsMentioned, AreLikeAnswers}
+use Rattle.ds2_same_meaning.specs.SameAnswer.{staged_code, programs_in_chain, code_answer_with, IsTranslatable, HaveRowsMentioned, AreLikeAnswers}
 use Rattle.ds2_unit.specs.Outputs.{tables_written}
 use Rattle.ds2_program_code.specs.CountsByWay.{CountsByWay}
 

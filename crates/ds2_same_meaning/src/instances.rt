@@ -3,7 +3,7 @@ ghost use Rattle.std.specs.Prelude.{◌≡◌, [], None};
 ghost use Rattle.std.specs.List.{AllByRecursion};
 ghost use Rattle.ds2_meaning.specs.IsTyped.{thread_parameters};
 ghost use Rattle.ds2_meaning.specs.View.{typed_data_program, typed_thread_program};
-ghost use Rattle.ds2_same_answer.specs.SameAnswer.{HasNamedInstances};
+ghost use Rattle.ds2_same_meaning.specs.SameAnswer.{HasNamedInstances};
 
 use ds2_meaning::{ThreadInstance, TypedData, TypedThread};
 

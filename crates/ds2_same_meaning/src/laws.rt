@@ -7,7 +7,7 @@ ghost use Rattle.ds2_same_meaning.specs.SameMeaning.{OutputsHaveSlots, TypedProg
 pub fn typed_programs_mean_same()
     ensures { TypedProgramsMeanSame }
 {
-    ds2_same_answer::laws::typed_programs_answer_alike();
+    crate::answer_laws::typed_programs_answer_alike();
     ds2_program_code::count_laws::typed_units_count_by_way();
 }
 

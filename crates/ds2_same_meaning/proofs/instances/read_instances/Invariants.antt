@@ -1,7 +1,7 @@
 use Rattle.std.proofs.Common.{length}
 use Rattle.std.specs.List.{AllByRecursion}
 use Rattle.ds2_meaning.specs.View.{typed_data_program}
-use Rattle.ds2_same_answer.specs.SameAnswer.{HasNamedInstances}
+use Rattle.ds2_same_meaning.specs.SameAnswer.{HasNamedInstances}
 use Rattle.ds2_same_meaning.proofs.instances.read_instances.Given as goal
 
 abbrev pub invariant-programs : goal.invariant-programs

@@ -1,5 +1,0 @@
-use Rattle.ds2_code_locality.proofs.CodeStage.{local_code_makes_stage}
-use Rattle.ds2_code_locality.proofs.laws.local_code_makes_stage.Goals as goal
-
-pub returns : goal.returns
-returns c = local_code_makes_stage c.local_code_is_independent.ensures

@@ -1,5 +1,0 @@
-use Rattle.ds2_code_locality.proofs.LeftUnchanged.{runs_leave_fixed_in_code}
-use Rattle.ds2_code_locality.proofs.laws.runs_leave_fixed_in_code.Goals as goal
-
-pub returns : goal.returns
-returns c = runs_leave_fixed_in_code

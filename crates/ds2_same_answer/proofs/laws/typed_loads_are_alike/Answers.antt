@@ -1,5 +1,0 @@
-use Rattle.ds2_same_answer.proofs.AnswersAlike.{loads_alike}
-use Rattle.ds2_same_answer.proofs.laws.typed_loads_are_alike.Goals as goal
-
-pub returns : goal.returns
-returns c = loads_alike c.typed_programs_open_alike.ensures

@@ -1,2 +1,0 @@
-pub mod SameAnswer
-pub mod SameLoads
