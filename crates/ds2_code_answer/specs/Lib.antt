@@ -3,3 +3,6 @@ pub mod CodeLoads
 pub mod CodeAnswer
 pub mod CodeLoadLaws
 pub mod Endings
+pub mod StageTold
+pub mod StageSchedules
+pub mod CodeSample

@@ -12,8 +12,8 @@ use Rattle.ds2_schedule.specs.Schedule.{FixedPart, AgreeAsStates}
 use Rattle.ds2_code.specs.declared.parts.ProgramParts.{ProgramParts}
 use Rattle.ds2_code.specs.Desk.{ProgramData, SlotSettings}
 use Rattle.ds2_code_answer.specs.CodeAnswer.{code_units}
-use Rattle.ds2_code_schedule.specs.StageSchedules.{units_of_code}
-use Rattle.ds2_code_schedule.specs.StageTold.{StageTold, told_in_turn, told_of_unit, told_outcome, told_units, told_by_answer}
+use Rattle.ds2_code_answer.specs.StageSchedules.{units_of_code}
+use Rattle.ds2_code_answer.specs.StageTold.{StageTold, told_in_turn, told_of_unit, told_outcome, told_units, told_by_answer}
 use Rattle.ds2_group_job.specs.GroupRuns.{run_of_group, ending_of_reached, end_of_group, loads_or_none, group_at_number}
 use Rattle.ds2_group_job.specs.IndependentGroups.{IndependentGroupsGive}
 use Rattle.ds2_group_job.specs.WhateverRan.{IsBehindGroups, GivesWhateverRan}

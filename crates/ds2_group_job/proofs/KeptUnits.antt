@@ -14,7 +14,7 @@ use Rattle.ds2_code.specs.CodeUnit.{code_init}
 use Rattle.ds2_code.specs.Desk.{ProgramData, SlotSettings}
 use Rattle.ds2_code_answer.specs.CodeAnswer.{code_program, code_units}
 use Rattle.ds2_code_answer.specs.CodeLoads.{code_loads, code_group_count}
-use Rattle.ds2_code_schedule.specs.StageTold.{StageTold, told_by_answer}
+use Rattle.ds2_code_answer.specs.StageTold.{StageTold, told_by_answer}
 use Rattle.ds2_machine.specs.AtRest.{IsUnitEnd, is_early}
 use Rattle.ds2_machine.specs.Kept.{all_written}
 use Rattle.ds2_machine.specs.declared.record.OutRow.{OutRow}

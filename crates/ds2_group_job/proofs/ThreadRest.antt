@@ -6,7 +6,7 @@ use Rattle.ds2_code.specs.declared.parts.ProgramParts.{ProgramParts}
 use Rattle.ds2_code.specs.CodeUnit.{code_term}
 use Rattle.ds2_code.specs.Desk.{ProgramData, SlotSettings}
 use Rattle.ds2_code_answer.specs.CodeAnswer.{code_units}
-use Rattle.ds2_code_schedule.specs.StageTold.{told_by_answer}
+use Rattle.ds2_code_answer.specs.StageTold.{told_by_answer}
 use Rattle.ds2_machine.specs.AtRest.{IsUnitEnd}
 use Rattle.ds2_machine.specs.declared.record.UnitRecord.{UnitRecord}
 use Rattle.ds2_machine.specs.declared.unit_end.UnitEnd.{UnitEnd}

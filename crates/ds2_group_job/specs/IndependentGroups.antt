@@ -4,8 +4,8 @@ use Rattle.ds2_schedule.specs.Groups.{IsGroupIndependent, IsAmongGroups}
 use Rattle.ds2_schedule.specs.Schedule.{FixedPart, AgreeAsStates}
 use Rattle.ds2_code.specs.declared.parts.ProgramParts.{ProgramParts}
 use Rattle.ds2_code.specs.Desk.{ProgramData, SlotSettings}
-use Rattle.ds2_code_schedule.specs.StageSchedules.{units_of_code}
-use Rattle.ds2_code_schedule.specs.StageTold.{told_units}
+use Rattle.ds2_code_answer.specs.StageSchedules.{units_of_code}
+use Rattle.ds2_code_answer.specs.StageTold.{told_units}
 use Rattle.ds2_group_job.specs.WhateverRan.{GivesWhateverRan}
 
 -- whatever is taken for states and for their fixed part: the groups of code that are independent between states that agree give, and

@@ -1,7 +1,7 @@
 -- What units of a thread program have left in a record of rows and lines.
 use Rattle.std.specs.Prelude.{◌≡◌, ◌++◌, map, Some}
 use Rattle.ds2_value.specs.Run.{Written}
-use Rattle.ds2_code_schedule.specs.StageTold.{StageTold}
+use Rattle.ds2_code_answer.specs.StageTold.{StageTold}
 use Rattle.ds2_machine.specs.declared.record.UnitRecord.{UnitRecord}
 use Rattle.ds2_staged.specs.Threads.{rows_kept}
 use Rattle.ds2_staged.specs.declared.turns_end.TurnsEnd.{TurnsEnd}

@@ -9,7 +9,7 @@ use Rattle.ds2_code.specs.CodeUnit.{code_init}
 use Rattle.ds2_code.specs.Desk.{ProgramData, SlotSettings}
 use Rattle.ds2_code_answer.specs.CodeAnswer.{code_units, code_opening}
 use Rattle.ds2_code_answer.specs.CodeTables.{tables_of_stage}
-use Rattle.ds2_code_schedule.specs.StageTold.{told_by_answer}
+use Rattle.ds2_code_answer.specs.StageTold.{told_by_answer}
 use Rattle.ds2_stage_loads.specs.GroupedLoads.{loads_in_groups}
 use Rattle.ds2_group_job.specs.GroupRuns.{run_of_group, end_of_group, group_at_number}
 

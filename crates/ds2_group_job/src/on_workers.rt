@@ -2,7 +2,7 @@
 ghost use Rattle.std.specs.Prelude.{◌≡◌, ◌≤◌, false, IfOk};
 ghost use Rattle.ds2_table.specs.OneThread.{run_each};
 ghost use Rattle.ds2_code_answer.specs.CodeAnswer.{code_units};
-ghost use Rattle.ds2_code_schedule.specs.StageTold.{told_by_answer};
+ghost use Rattle.ds2_code_answer.specs.StageTold.{told_by_answer};
 ghost use Rattle.ds2_machine.specs.AtRest.{staged_program};
 ghost use Rattle.ds2_machine.specs.declared.machine.TheConstants.{MOST_BUDGET};
 ghost use Rattle.ds2_code.specs.Scales.{IsDataScaled};

@@ -4,7 +4,7 @@ ghost use Rattle.ds2_table.specs.OneThread.{alone_answer, groups_at, run_each, t
 ghost use Rattle.ds2_code.specs.CodeUnit.{code_init};
 ghost use Rattle.ds2_code_answer.specs.CodeAnswer.{code_program, code_units};
 ghost use Rattle.ds2_code_answer.specs.CodeLoads.{code_group_count, code_loads, code_reading};
-ghost use Rattle.ds2_code_schedule.specs.StageTold.{told_by_answer};
+ghost use Rattle.ds2_code_answer.specs.StageTold.{told_by_answer};
 ghost use Rattle.ds2_machine.specs.AtRest.{staged_program};
 ghost use Rattle.ds2_code.specs.Scales.{AreGivenScaled, IsDataScaled};
 ghost use Rattle.ds2_stage_loads.specs.GroupedLoads.{loads_in_groups};

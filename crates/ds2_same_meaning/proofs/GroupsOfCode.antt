@@ -24,8 +24,8 @@ use Rattle.ds2_program_code.specs.ProgramCode.{program_code}
 use Rattle.ds2_program_code.specs.ProgramRuns.{EndsLikeUnit, TypedUnitsRunAsMeant}
 use Rattle.ds2_code_answer.specs.CodeAnswer.{code_opening}
 use Rattle.ds2_code_answer.specs.CodeLoads.{load_settings, code_reading, retains_columns, code_keyed_loads}
-use Rattle.ds2_code_schedule.specs.StageSchedules.{units_of_code}
-use Rattle.ds2_code_schedule.specs.StageTold.{StageTold, told_of_unit, told_outcome, told_units}
+use Rattle.ds2_code_answer.specs.StageSchedules.{units_of_code}
+use Rattle.ds2_code_answer.specs.StageTold.{StageTold, told_of_unit, told_outcome, told_units}
 use Rattle.ds2_same_meaning.specs.SameLoads.{rows_read, LoadsAreAlike, TypedLoadsAreAlike}
 use Rattle.ds2_locality.specs.Independence.{UnitsGave, unit_gave, unit_ended, LocatedLoad, located, settings_at, loads_of_tables, located_group, thread_groups, IsTableGroup, IsGroupOfReading}
 use Rattle.ds2_locality.specs.KeptLocations.{is_flag_before}

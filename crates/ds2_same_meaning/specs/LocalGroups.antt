@@ -16,8 +16,8 @@ use Rattle.ds2_program_code.specs.ProgramCode.{program_code}
 use Rattle.ds2_code_answer.specs.CodeAnswer.{code_opening}
 use Rattle.ds2_code_answer.specs.CodeLoads.{load_settings, code_reading, retains_columns, code_keyed_loads}
 use Rattle.ds2_code_answer.specs.CodeTables.{AreTablesOfCode}
-use Rattle.ds2_code_schedule.specs.StageSchedules.{units_of_code, group_sets}
-use Rattle.ds2_code_schedule.specs.StageTold.{told_units}
+use Rattle.ds2_code_answer.specs.StageSchedules.{units_of_code, group_sets}
+use Rattle.ds2_code_answer.specs.StageTold.{told_units}
 use Rattle.ds2_same_meaning.specs.SameAnswer.{HasNamedInstances, HaveRowsMentioned, staged_code}
 use Rattle.ds2_locality.specs.declared.locality.Verdict.TheVariants.{Local}
 use Rattle.ds2_locality.specs.Soundness.{ObjectsTold}

@@ -1,11 +1,11 @@
 //! The laws at types of their callers.
 ghost use Rattle.std.specs.Prelude.{ℕ, List, Bool};
-ghost use Rattle.ds2_code_schedule.specs.StageSchedules.{AnySchedule, AnyScheduleOfCode};
+ghost use Rattle.ds2_code_answer.specs.StageSchedules.{AnySchedule, AnyScheduleOfCode};
 ghost use Rattle.ds2_schedule.specs.Groups.{EveryStage};
 ghost use Rattle.ds2_schedule.specs.Schedule.{EverySchedule};
 
 use ds2_base::List as Items;
-use ds2_code_schedule::laws::{any_schedule, any_schedule_of_code};
+use ds2_code_answer::schedule_laws::{any_schedule, any_schedule_of_code};
 use ds2_schedule::laws;
 
 fn schedule_of_lists()

@@ -4,7 +4,7 @@ use Rattle.ds2_code.specs.declared.parts.ProgramParts.{ProgramParts}
 use Rattle.ds2_code.specs.Desk.{SlotSettings}
 use Rattle.ds2_code_answer.specs.CodeAnswer.{code_units}
 use Rattle.ds2_code_answer.specs.CodeLoads.{code_loads}
-use Rattle.ds2_code_schedule.specs.StageTold.{told_by_answer}
+use Rattle.ds2_code_answer.specs.StageTold.{told_by_answer}
 use Rattle.ds2_stage_loads.specs.GroupedLoads.{loads_of_groups}
 use Rattle.ds2_stage_loads.specs.StageCursors.{cursor_groups}
 use Rattle.ds2_group_job.specs.KeptAnswers.{HasKeptTold}

@@ -1,6 +1,6 @@
 //! Laws over the definitions alone, for any choice of what states are and which locations are fixed.
-ghost use Rattle.ds2_code_schedule.specs.CodeSample.{CodeSampleMeetsPremises};
-ghost use Rattle.ds2_code_schedule.specs.StageSchedules.{AnySchedule, AnyScheduleOfCode};
+ghost use Rattle.ds2_code_answer.specs.CodeSample.{CodeSampleMeetsPremises};
+ghost use Rattle.ds2_code_answer.specs.StageSchedules.{AnySchedule, AnyScheduleOfCode};
 
 /// A stage whose groups are independent at a grain gives, for every number of workers and every legal and complete history, its one-thread answer: the results of groups in order, up to and with the least fault.
 pub fn any_schedule<State, Location, Content, Target, Value>()

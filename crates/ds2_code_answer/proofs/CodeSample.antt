@@ -12,9 +12,9 @@ use Rattle.ds2_schedule.specs.Schedule.{AgreeAsStates}
 use Rattle.ds2_code.specs.CodeRun.{run_code}
 use Rattle.ds2_code.specs.CodeUnit.{unit_begun, outcome_of_run, most_executed, code_run, code_term, without_cleared}
 use Rattle.ds2_code.specs.Desk.{ProgramData, with_slots, with_slot_settings}
-use Rattle.ds2_code_schedule.specs.StageTold.{StageTold, told_outcome, told_units, told_in_turn, told_of_unit, told_of_none}
-use Rattle.ds2_code_schedule.specs.StageSchedules.{groups_of_stage, units_of_code}
-use Rattle.ds2_code_schedule.specs.CodeSample.{copying_code, copied_data, has_one_slot, is_copied_state, copied_fixed, copying_stage, CodeSampleMeetsPremises}
+use Rattle.ds2_code_answer.specs.StageTold.{StageTold, told_outcome, told_units, told_in_turn, told_of_unit, told_of_none}
+use Rattle.ds2_code_answer.specs.StageSchedules.{groups_of_stage, units_of_code}
+use Rattle.ds2_code_answer.specs.CodeSample.{copying_code, copied_data, has_one_slot, is_copied_state, copied_fixed, copying_stage, CodeSampleMeetsPremises}
 
 one_slot : (slots : Row) → has_one_slot slots ≡ true → (v : Value) × (slots ≡ v ∷ [])
 one_slot [] e = absurd (cc)

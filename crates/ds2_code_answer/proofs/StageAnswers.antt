@@ -13,8 +13,8 @@ use Rattle.ds2_table.specs.OneThread.{Units, Reads, Halted, GroupResult, group_a
 use Rattle.ds2_schedule.specs.Groups.{UnitRun, Normally, ByFault, IsJoining, Given, given_by, with_before, then_from, run_loads, stage_run}
 use Rattle.ds2_schedule.proofs.Groups.{every_stage}
 use Rattle.ds2_code.specs.Desk.{ProgramData}
-use Rattle.ds2_code_schedule.specs.StageTold.{StageTold, told_of_none, ending_behind, told_in_turn, told_of_unit, told_outcome, told_units, told_by_answer}
-use Rattle.ds2_code_schedule.specs.StageSchedules.{load_sets, groups_of_stage, stage_of_code, AnySchedule, AnyScheduleOfCode}
+use Rattle.ds2_code_answer.specs.StageTold.{StageTold, told_of_none, ending_behind, told_in_turn, told_of_unit, told_outcome, told_units, told_by_answer}
+use Rattle.ds2_code_answer.specs.StageSchedules.{load_sets, groups_of_stage, stage_of_code, AnySchedule, AnyScheduleOfCode}
 
 ending_in_turn : (a b c : Option Ending) → ending_behind (ending_behind a b) c ≡ ending_behind a (ending_behind b c)
 ending_in_turn (Some Normal) b c = refl

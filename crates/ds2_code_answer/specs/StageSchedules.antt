@@ -12,7 +12,7 @@ use Rattle.ds2_schedule.specs.Schedule.{GroupProgram, FixedPart, AgreeAsStates, 
 use Rattle.ds2_code.specs.declared.parts.ProgramParts.{ProgramParts}
 use Rattle.ds2_code.specs.CodeUnit.{code_init, code_run, code_term}
 use Rattle.ds2_code.specs.Desk.{ProgramData}
-use Rattle.ds2_code_schedule.specs.StageTold.{StageTold, told_of_unit, told_in_turn, told_units, told_by_answer}
+use Rattle.ds2_code_answer.specs.StageTold.{StageTold, told_of_unit, told_in_turn, told_units, told_by_answer}
 
 -- What each load sets, names with values.
 abbrev pub load_sets : {N V : Type 0} → (Load → List (N × V)) → List KeyedLoad → List (List (N × V))

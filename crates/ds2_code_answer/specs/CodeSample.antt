@@ -13,7 +13,7 @@ use Rattle.ds2_code.specs.declared.parts.ProgramParts.{ProgramParts}
 use Rattle.ds2_code.specs.declared.parts.ReadingPart.TheVariants as reading
 use Rattle.ds2_code.specs.declared.parts.SlotRole.TheVariants.{Column}
 use Rattle.ds2_code.specs.Desk.{ProgramData}
-use Rattle.ds2_code_schedule.specs.StageSchedules.{StageSetting, IsIndependentStage, IsStageHistory, stage_of_code}
+use Rattle.ds2_code_answer.specs.StageSchedules.{StageSetting, IsIndependentStage, IsStageHistory, stage_of_code}
 
 -- Its code: one column, and one output of it; `init` and `term` do nothing.
 abbrev pub copying_code : ProgramParts

@@ -1,2 +1,0 @@
-pub mod StageAnswers
-pub mod CodeSample

@@ -1,3 +1,0 @@
-pub mod StageTold
-pub mod StageSchedules
-pub mod CodeSample
