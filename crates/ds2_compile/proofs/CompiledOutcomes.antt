@@ -25,7 +25,7 @@ use Rattle.ds2_source.specs.declared.kinds.SourceRefusal.{SourceRefusal}
 use Rattle.ds2_typed_source.specs.SourceOutcomes.{AreProgramsOf, IsRefusedSource, programs_or_refusal}
 use Rattle.ds2_verdicts.specs.SourceVerdicts.{source_verdicts}
 use Rattle.ds2_verdicts.specs.declared.verdicts.ThreadVerdict.{ThreadVerdict}
-use Rattle.ds2_local_stages.specs.LocalStages.{StagesAreIndependent, LocalStagesAreIndependent}
+use Rattle.ds2_compile.specs.LocalStages.{StagesAreIndependent, LocalStagesAreIndependent}
 use Rattle.ds2_compile.specs.CodesOfPrograms.{AreCodesOf}
 use Rattle.ds2_compile.specs.CompiledSources.{HasStoreTable, IsCompiledProgram, AreCompiledPrograms, IsOutcomeCompiled, IsCompiled}
 use Rattle.ds2_compile.specs.declared.compiling.Compiled.{Compiled}

@@ -6,3 +6,4 @@ pub mod SettledPrograms
 pub mod LinkedCodes
 pub mod CompiledOutcomes
 pub mod SourceThreads
+pub mod JudgedStages

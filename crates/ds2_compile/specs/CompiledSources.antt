@@ -18,7 +18,7 @@ use Rattle.ds2_same_meaning.specs.SameAnswer.{staged_code}
 use Rattle.ds2_same_meaning.specs.SameMeaning.{MeansSame}
 use Rattle.ds2_verdicts.specs.SourceVerdicts.{source_verdicts}
 use Rattle.ds2_verdicts.specs.declared.verdicts.ThreadVerdict.{ThreadVerdict}
-use Rattle.ds2_local_stages.specs.LocalStages.{StagesAreIndependent}
+use Rattle.ds2_compile.specs.LocalStages.{StagesAreIndependent}
 use Rattle.ds2_compile.specs.declared.compiling.Compiled.{Compiled}
 
 -- a table of the store that code names is one of these names, and has the columns of that one

@@ -7,7 +7,6 @@ pub use Rattle.ds2_code.specs.declared.parts.ReadPart
 pub use Rattle.ds2_code.specs.declared.parts.StagedParts
 pub use Rattle.ds2_code.specs.declared.parts.TableReference
 pub use Rattle.ds2_elaboration.specs.Elaboration
-pub use Rattle.ds2_local_stages.specs.LocalStages
 pub use Rattle.ds2_meaning.specs.ProgramMeaning
 pub use Rattle.ds2_meaning.specs.ProgramTree
 pub use Rattle.ds2_meaning.specs.Reading
@@ -29,3 +28,4 @@ pub use Rattle.ds2_source.specs.declared.kinds.SourceRefusal
 pub use Rattle.ds2_tree.specs.UnitViews
 pub use Rattle.ds2_tree.specs.Units
 pub use Rattle.ds2_value.specs.Row
+pub mod LocalStages

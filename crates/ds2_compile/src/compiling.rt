@@ -15,7 +15,7 @@ use crate::schemas::read_schemas;
 use ds2_base::{List, OutOfMemory, Stop};
 use ds2_elaboration::laws::{every_text_is_typed, every_thread_is_typed, tokens_stand_in_order};
 use ds2_generate::generate;
-use ds2_local_stages::laws::local_stages_are_independent;
+use crate::local_laws::local_stages_are_independent;
 use ds2_meaning::TypedData;
 use ds2_names::Schemas;
 use ds2_object::ObjectCode;

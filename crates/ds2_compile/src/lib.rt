@@ -7,9 +7,14 @@
 //! let source = read_source(alloc, &text)?;
 //! let compiled = compile(alloc, &source, &schemas)?;
 //! ```
+//!
+//! The code of the thread program that a program of a source reads from is independent at the grain at which its verdict calls it local.
+//!
+//! `specs/LocalStages.antt` says it; the law is in [`local_laws`].
 #![tactic(auto)]
 
 mod compiling;
+pub mod local_laws;
 mod schemas;
 
 pub use compiling::{Compiled, compile};

@@ -1,5 +1,5 @@
 //! A law of verdicts and code, over the definitions alone.
-ghost use Rattle.ds2_local_stages.specs.LocalStages.{LocalStagesAreIndependent};
+ghost use Rattle.ds2_compile.specs.LocalStages.{LocalStagesAreIndependent};
 
 /// The code of each thread program over tables that a program of a source reads from is independent at the grain at which its verdict among
 /// those of the source calls it local: its groups give the same over any tables, whatever groups ran before.

@@ -12,7 +12,7 @@ use Rattle.ds2_verdicts.specs.SourceVerdicts.{source_verdicts}
 use Rattle.ds2_verdicts.specs.declared.verdicts.ThreadVerdict.{ThreadVerdict}
 use Rattle.ds2_same_meaning.specs.SameAnswer.{HasNamedInstances}
 use Rattle.ds2_same_meaning.specs.LocalGroups.{IsIndependentCode, LocalCodeHasIndependentGroups}
-use Rattle.ds2_local_stages.specs.LocalStages.{StagesAreIndependent, LocalStagesAreIndependent}
+use Rattle.ds2_compile.specs.LocalStages.{StagesAreIndependent, LocalStagesAreIndependent}
 
 same_verdict : (a b : Verdict) → Some a ≡ Some b → a ≡ b
 same_verdict a b e = cc
