@@ -43,7 +43,7 @@ use Rattle.ds2_answer.specs.Words.{is_source}
 use Rattle.ds2_exec.specs.CodeRuns.{AreLinked, HasColumnsStored}
 use Rattle.ds2_exec.specs.VerdictGrains.{VerdictGrainsFit}
 use Rattle.ds2_compile.specs.LocalStages.{StagesAreIndependent}
-use Rattle.ds2_local_threads.specs.LocalThreads.{IndependentCodeGivesStages}
+use Rattle.ds2_exec.specs.LocalThreads.{IndependentCodeGivesStages}
 use Rattle.ds2_verdicts.specs.OwnVerdicts.{ProgramsHaveVerdicts, StagesHaveVerdicts}
 use Rattle.ds2_verdicts.specs.SourceVerdicts.{source_verdicts}
 use Rattle.ds2_verdicts.specs.declared.verdicts.ThreadVerdict.{ThreadVerdict}

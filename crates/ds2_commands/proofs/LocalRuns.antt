@@ -14,7 +14,7 @@ use Rattle.ds2_compile.specs.TableReference.{TableReference}
 use Rattle.ds2_verdicts.specs.ThreadVerdicts.{verdict_named}
 use Rattle.ds2_verdicts.specs.declared.verdicts.ThreadVerdict.{ThreadVerdict}
 use Rattle.ds2_compile.specs.LocalStages.{StagesAreIndependent}
-use Rattle.ds2_local_threads.specs.LocalThreads.{IndependentCodeGivesStages}
+use Rattle.ds2_exec.specs.LocalThreads.{IndependentCodeGivesStages}
 use Rattle.ds2_answer.specs.HeldTables.{HeldTables, rows_held, table_held, tables_held}
 use Rattle.ds2_exec.specs.LocalCodes.{IsIndependentWhereLocal}
 

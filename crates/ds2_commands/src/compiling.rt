@@ -15,7 +15,7 @@ use ds2_answer::Status;
 use ds2_base::{Bytes, List, OutOfMemory, Stop};
 use ds2_compile::{NamedSchema, Schemas, Source, compile};
 use ds2_exec::laws::verdict_grains_fit;
-use ds2_local_threads::laws::independent_code_gives_stages;
+use ds2_exec::local_laws::independent_code_gives_stages;
 use ds2_store_steps::{Halt, KeptTable};
 use ds2_verdicts::laws::programs_have_verdicts;
 use std::alloc::Global;

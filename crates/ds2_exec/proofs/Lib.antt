@@ -7,3 +7,4 @@ pub mod RunSteps
 pub mod VerdictGrains
 pub mod LocalSteps
 pub mod ExecSteps
+pub mod IndependentThreads

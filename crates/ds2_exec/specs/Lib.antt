@@ -6,3 +6,4 @@ pub mod Workers
 pub mod VerdictGrains
 pub mod OutputSinks
 pub mod ExecOutcomes
+pub mod LocalThreads

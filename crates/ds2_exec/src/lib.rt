@@ -8,10 +8,17 @@
 //! let object = decode(alloc, &bytes)?;
 //! let end = exec(alloc, &object, &mut store, budget)?;
 //! ```
+//!
+//! The code of a thread program whose groups are independent may run on many workers.
+//!
+//! The laws are in [`local_laws`]: where the code of a typed thread program is independent at a grain, as that of one that the verdict calls local
+//! is, its groups there give the same whatever groups ran before them, over any tables of the code, as `ds2_group_job` asks of a thread
+//! program that it runs on many workers.
 #![tactic(auto)]
 
 mod key;
 pub mod laws;
+pub mod local_laws;
 mod object_run;
 mod output_rows;
 mod output_sink;

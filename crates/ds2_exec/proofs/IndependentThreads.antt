@@ -18,7 +18,7 @@ use Rattle.ds2_same_meaning.specs.CodeStates.{is_data_of_code, fixed_data}
 use Rattle.ds2_same_meaning.specs.LocalGroups.{HasIndependentGroups}
 use Rattle.ds2_group_job.specs.WhateverRan.{IsIndependentThread}
 use Rattle.ds2_group_job.proofs.IndependentGroups.{independent_groups}
-use Rattle.ds2_local_threads.specs.LocalThreads.{IndependentCodeGivesThread, IndependentCodeGivesStages}
+use Rattle.ds2_exec.specs.LocalThreads.{IndependentCodeGivesThread, IndependentCodeGivesStages}
 
 independent : (q : UnitTree) (contents : List Contents) (budget grain : ℕ) → HasIndependentGroups q contents grain → IsIndependentThread (program_code q) contents budget grain
 independent q contents budget grain has given first unit executed begun =

@@ -1,5 +1,5 @@
 //! Laws of the code of independent thread programs, over the definitions alone.
-ghost use Rattle.ds2_local_threads.specs.LocalThreads.{IndependentCodeGivesThread, IndependentCodeGivesStages};
+ghost use Rattle.ds2_exec.specs.LocalThreads.{IndependentCodeGivesThread, IndependentCodeGivesStages};
 
 /// A thread program whose code is independent at a grain gives, in its groups there and in its `term`, the same whatever groups ran before,
 /// behind an `init` with any values of its parameters.

@@ -1,5 +1,0 @@
-use Rattle.ds2_local_threads.proofs.IndependentThreads.{code_gives_stages}
-use Rattle.ds2_local_threads.proofs.laws.independent_code_gives_stages.Goals as goal
-
-pub returns : goal.returns
-returns c = code_gives_stages c.independent_code_gives_thread.ensures
