@@ -5,9 +5,9 @@ use Rattle.std.specs.Str.{bytes_eq}
 use Rattle.ds2_base.specs.declared.place.Place.{Place}
 use Rattle.ds2_token.specs.declared.token.Token.{Token}
 use Rattle.ds2_token.specs.Words.{is_word, is_one_of, is_name_token, reserved_words}
-use Rattle.ds2_grammar.specs.Levels.{first_opened}
-use Rattle.ds2_grammar.specs.Parsers.{Either, One, Two, first, kept, when, choose_by, to, seq, many_of, optional}
-use Rattle.ds2_grammar.proofs.Words.{Part, Law, Passes, to_law, choice_part, then_part, kept_part, flat, flat_opens, each, many_part, many_law}
+use Rattle.ds2_tree.specs.Levels.{first_opened}
+use Rattle.ds2_tree.specs.Parsers.{Either, One, Two, first, kept, when, choose_by, to, seq, many_of, optional}
+use Rattle.ds2_tree.proofs.Words.{Part, Law, Passes, to_law, choice_part, then_part, kept_part, flat, flat_opens, each, many_part, many_law}
 use Rattle.ds2_tree.specs.declared.globals.Declaration.{Declaration}
 use Rattle.ds2_tree.specs.declared.globals.Declaration.TheVariants as declared_as
 use Rattle.ds2_tree.specs.declared.globals.VariableDeclaration.{VariableDeclaration}

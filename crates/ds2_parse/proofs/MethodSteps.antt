@@ -1,7 +1,7 @@
 -- The trees of a method's statements, as the code holds them.
 use Rattle.std.proofs.Common.{◌≡◌, List, [], ◌∷◌, map, refl, ap}
 use Rattle.ds2_token.specs.declared.token.Token.{Token}
-use Rattle.ds2_grammar.specs.Parsers.{Read}
+use Rattle.ds2_tree.specs.Parsers.{Read}
 use Rattle.ds2_tree.specs.declared.statements.Statement as code
 use Rattle.ds2_tree.specs.Globals.{Method}
 use Rattle.ds2_tree.specs.Statements.{Statements, Then}

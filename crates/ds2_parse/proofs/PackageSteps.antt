@@ -3,7 +3,7 @@ use Rattle.std.proofs.Common.{◌≡◌, ℕ, ◌+◌, codes, List, length, refl
 use Rattle.ds2_base.specs.declared.place.Place.{Place}
 use Rattle.ds2_token.specs.declared.token.Token.{Token}
 use Rattle.ds2_token.specs.Words.{is_package_name}
-use Rattle.ds2_grammar.specs.Parsers.{Read, kept, seq}
+use Rattle.ds2_tree.specs.Parsers.{Read, kept, seq}
 use Rattle.ds2_tree.specs.Units.{package_spelling}
 use Rattle.ds2_parse_rules.specs.GrammarTokens.{mark_rule, word_rule}
 use Rattle.ds2_parse_rules.specs.UnitGrammar.{UnitBody, unit_body_rule, package_of, package_rule}

@@ -2,11 +2,11 @@
 use Rattle.std.proofs.Common.{◌≡◌, ℕ, suc, ◌≤◌, List, [], ◌∷◌, ◌++◌, length, None, refl, sym, ap, ◌∙◌, arith}
 use Rattle.std.proofs.lemmas.List.{append-nil}
 use Rattle.ds2_token.specs.declared.token.Token.{Token}
-use Rattle.ds2_grammar.specs.Parsers.{Read, peek}
-use Rattle.ds2_grammar.proofs.Goes.{goes, last}
-use Rattle.ds2_grammar.proofs.Rules.{Rule, no_rule, pure_rule, sub_rule}
-use Rattle.ds2_grammar.proofs.Words.{sym as symbol}
-use Rattle.ds2_grammar.proofs.Theorem.{whole, exactly}
+use Rattle.ds2_tree.specs.Parsers.{Read, peek}
+use Rattle.ds2_tree.proofs.Goes.{goes, last}
+use Rattle.ds2_tree.proofs.Rules.{Rule, no_rule, pure_rule, sub_rule}
+use Rattle.ds2_tree.proofs.Words.{sym as symbol}
+use Rattle.ds2_tree.proofs.Theorem.{whole, exactly}
 use Rattle.ds2_tree.specs.Units.{SourcePart, source_spelling, IsSource, source_opens}
 use Rattle.ds2_parse_rules.specs.UnitGrammar.{parts_rule, at_the_end, source_rule}
 use Rattle.ds2_parse.specs.ParseAnswer.{source_symbol, SourcesAreReadExactly}

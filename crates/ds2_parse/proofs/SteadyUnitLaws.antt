@@ -2,8 +2,8 @@
 use Rattle.std.proofs.Common.{◌≡◌, ℕ, ◌≤◌, codes, List, Option, Some, None}
 use Rattle.ds2_token.specs.declared.token.Token.{Token}
 use Rattle.ds2_token.specs.Words.{is_name_token, is_package_name, is_table, is_text, is_integer, spells_table}
-use Rattle.ds2_grammar.specs.Parsers.{One, Two, peek}
-use Rattle.ds2_grammar.proofs.Steady.{Steady, Steadily, steady_pure, steady_no, steady_then, steady_peek, by_to, by_seq, by_choose, by_optional, by_many}
+use Rattle.ds2_tree.specs.Parsers.{One, Two, peek}
+use Rattle.ds2_tree.proofs.Steady.{Steady, Steadily, steady_pure, steady_no, steady_then, steady_peek, by_to, by_seq, by_choose, by_optional, by_many}
 use Rattle.ds2_tree.specs.Globals.{is_dcl, is_list_keyword, is_decimal_keyword, is_text_keyword}
 use Rattle.ds2_tree.specs.Units.{SourcePart, is_kept_or_dropped, is_answer}
 use Rattle.ds2_parse_rules.specs.GrammarTokens.{is_open_mark, is_comma_mark, starts, one_or_more}

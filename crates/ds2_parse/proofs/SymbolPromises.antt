@@ -5,14 +5,14 @@ use Rattle.ds2_base.specs.declared.place.Place.{Place}
 use Rattle.ds2_base.specs.declared.place.Refusal.{Refusal}
 use Rattle.ds2_base.specs.declared.stop.Stop.{Stop}
 use Rattle.ds2_token.specs.declared.token.Token.{Token}
-use Rattle.ds2_grammar.specs.declared.kind.ParseKind.{ParseKind}
-use Rattle.ds2_grammar.specs.Parsers.{ParserOutcome, Read, Unexpected, and_then, peek}
-use Rattle.ds2_grammar.specs.Acceptance.{Answers}
-use Rattle.ds2_grammar.specs.Promise.{Gives, Fails, Promises, SaysOfText}
-use Rattle.ds2_grammar.proofs.Goes.{goes}
-use Rattle.ds2_grammar.proofs.Words.{sym as symbol}
-use Rattle.ds2_grammar.proofs.Promised.{promised, said}
-use Rattle.ds2_grammar.proofs.Steps.{fails_on}
+use Rattle.ds2_tree.specs.declared.kind.ParseKind.{ParseKind}
+use Rattle.ds2_tree.specs.Parsers.{ParserOutcome, Read, Unexpected, and_then, peek}
+use Rattle.ds2_tree.specs.Acceptance.{Answers}
+use Rattle.ds2_tree.specs.Promise.{Gives, Fails, Promises, SaysOfText}
+use Rattle.ds2_tree.proofs.Goes.{goes}
+use Rattle.ds2_tree.proofs.Words.{sym as symbol}
+use Rattle.ds2_tree.proofs.Promised.{promised, said}
+use Rattle.ds2_tree.proofs.Steps.{fails_on}
 use Rattle.ds2_tree.specs.Globals.{GlobalItem, global_spelling, IsGlobal, global_opens}
 use Rattle.ds2_tree.specs.Units.{SourcePart, part_spelling, IsPart, part_opens}
 use Rattle.ds2_parse_rules.specs.GlobalGrammar.{global_rule}

@@ -5,10 +5,10 @@ use Rattle.std.specs.Str.{bytes_eq}
 use Rattle.ds2_base.specs.declared.place.Place.{Place}
 use Rattle.ds2_token.specs.declared.token.Token.{Token}
 use Rattle.ds2_token.specs.Words.{is_word, is_name_token, is_package_name, is_table}
-use Rattle.ds2_grammar.specs.Levels.{first_opened}
-use Rattle.ds2_grammar.specs.Parsers.{Read, Parser, Either, One, Two, first, kept, when, choose_by, to, seq, many_of, optional}
-use Rattle.ds2_grammar.proofs.Rules.{Rule}
-use Rattle.ds2_grammar.proofs.Words.{sym as symbol, Part, Law, Passes, kept_law, to_law, choice_part, then_part, kept_part, flat, flat_opens, each, many_law}
+use Rattle.ds2_tree.specs.Levels.{first_opened}
+use Rattle.ds2_tree.specs.Parsers.{Read, Parser, Either, One, Two, first, kept, when, choose_by, to, seq, many_of, optional}
+use Rattle.ds2_tree.proofs.Rules.{Rule}
+use Rattle.ds2_tree.proofs.Words.{sym as symbol, Part, Law, Passes, kept_law, to_law, choice_part, then_part, kept_part, flat, flat_opens, each, many_law}
 use Rattle.ds2_tree.specs.declared.units.OutputOption.{OutputOption}
 use Rattle.ds2_tree.specs.declared.units.OutputOption.TheVariants as option
 use Rattle.ds2_tree.specs.declared.units.Renaming.{Renaming}

@@ -1,7 +1,7 @@
 -- The trees of the bodies of methods that the code holds.
 use Rattle.std.specs.Prelude.{ℕ, codes, Option, map}
 use Rattle.ds2_base.specs.declared.place.Place.{Place}
-use Rattle.ds2_grammar.specs.Parsers.{Parser, seq, optional}
+use Rattle.ds2_tree.specs.Parsers.{Parser, seq, optional}
 use Rattle.ds2_tree.specs.declared.globals.Parameters.{Parameters}
 use Rattle.ds2_tree.specs.declared.globals.Returns.{Returns}
 use Rattle.ds2_tree.specs.StatementViews.{statement_tree}

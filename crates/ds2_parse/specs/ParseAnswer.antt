@@ -4,9 +4,9 @@ use Rattle.ds2_base.specs.declared.place.Place.{Place}
 use Rattle.ds2_base.specs.declared.place.Refusal.{Refusal}
 use Rattle.ds2_base.specs.declared.stop.Stop.{Stop}
 use Rattle.ds2_token.specs.declared.token.Token.{Token}
-use Rattle.ds2_grammar.specs.declared.kind.ParseKind.{ParseKind}
-use Rattle.ds2_grammar.specs.Acceptance.{Symbol, Exactly}
-use Rattle.ds2_grammar.specs.Promise.{SaysOfText}
+use Rattle.ds2_tree.specs.declared.kind.ParseKind.{ParseKind}
+use Rattle.ds2_tree.specs.Acceptance.{Symbol, Exactly}
+use Rattle.ds2_tree.specs.Promise.{SaysOfText}
 use Rattle.ds2_tree.specs.declared.source.Source.{Source}
 use Rattle.ds2_tree.specs.Globals.{GlobalItem, global_spelling, IsGlobal, global_opens}
 use Rattle.ds2_tree.specs.Units.{SourcePart, part_spelling, IsPart, part_opens, source_spelling, IsSource, source_opens}

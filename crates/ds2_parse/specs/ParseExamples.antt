@@ -5,7 +5,7 @@ use Rattle.ds2_token.specs.declared.kinds.TokenKind.{TokenKind}
 use Rattle.ds2_token.specs.declared.kinds.TokenKind.TheVariants as kind
 use Rattle.ds2_token.specs.declared.token.Token.{Token}
 use Rattle.ds2_token.specs.Words.{mark_at}
-use Rattle.ds2_grammar.specs.Parsers.{Read, Unexpected, TooDeep}
+use Rattle.ds2_tree.specs.Parsers.{Read, Unexpected, TooDeep}
 use Rattle.ds2_tree.specs.declared.expressions.ChainKind.TheVariants as chain
 use Rattle.ds2_tree.specs.Expressions.{Expression, Variable, Chain, NoOperand, Operand}
 use Rattle.ds2_tree.specs.Statements.{Empty, If, IfElse}

@@ -1,7 +1,7 @@
 //! The parser of what a unit is made of: declarations, lists of variables, and methods.
 ghost use Rattle.std.specs.Prelude.{ℕ, ◌<◌, ◌≤◌, length, IfOk, map};
-ghost use Rattle.ds2_grammar.specs.Parsers.{One, Two, to, many_of};
-ghost use Rattle.ds2_grammar.specs.Promise.{Gives, Promises};
+ghost use Rattle.ds2_tree.specs.Parsers.{One, Two, to, many_of};
+ghost use Rattle.ds2_tree.specs.Promise.{Gives, Promises};
 ghost use Rattle.ds2_tree.specs.UnitViews.{method_tree, global_tree};
 ghost use Rattle.ds2_parse_rules.specs.StatementGrammar.{statement_rule};
 ghost use Rattle.ds2_parse_rules.specs.GlobalGrammar as grammar;

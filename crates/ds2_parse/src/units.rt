@@ -1,7 +1,7 @@
 //! The parser of units and of the parts of a source.
 ghost use Rattle.std.specs.Prelude.{ℕ, ◌<◌, ◌≤◌, codes, length, IfOk, map};
-ghost use Rattle.ds2_grammar.specs.Parsers.{One, Two, to, seq};
-ghost use Rattle.ds2_grammar.specs.Promise.{Gives, Promises};
+ghost use Rattle.ds2_tree.specs.Parsers.{One, Two, to, seq};
+ghost use Rattle.ds2_tree.specs.Promise.{Gives, Promises};
 ghost use Rattle.ds2_tree.specs.UnitViews.{global_tree, package_tree, thread_tree, data_tree, part_tree};
 ghost use Rattle.ds2_parse_rules.specs.GrammarTokens.{mark_rule, word_rule};
 ghost use Rattle.ds2_parse_rules.specs.UnitGrammar as grammar;

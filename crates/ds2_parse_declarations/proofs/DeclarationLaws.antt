@@ -5,8 +5,8 @@ use Rattle.ds2_token.specs.declared.kinds.TokenKind.TheVariants as token_kind
 use Rattle.ds2_token.specs.declared.token.Token.{Token}
 use Rattle.ds2_token.specs.Forms.{between_quotes}
 use Rattle.ds2_token.specs.Words.{quoted_kind, spells, is_word, is_one_of, is_name_token, is_package_name, is_text, is_integer, spells_table, names_word}
-use Rattle.ds2_grammar.specs.Parsers.{Either, One, Two, first, when, many_of}
-use Rattle.ds2_grammar.proofs.Words.{Part, Law, Passes, kept_law, choice_part, then_part, kept_part}
+use Rattle.ds2_tree.specs.Parsers.{Either, One, Two, first, when, many_of}
+use Rattle.ds2_tree.proofs.Words.{Part, Law, Passes, kept_law, choice_part, then_part, kept_part}
 use Rattle.ds2_tree.specs.declared.globals.Declaration.{Declaration}
 use Rattle.ds2_tree.specs.declared.globals.Declaration.TheVariants as declared_as
 use Rattle.ds2_tree.specs.declared.globals.BracketedName.{BracketedName}

@@ -3,8 +3,8 @@ use Rattle.std.proofs.Common.{true≢false, ◌≡◌, ℕ, true, false, ◌||�
 use Rattle.ds2_base.specs.declared.place.Place.{Place}
 use Rattle.ds2_token.specs.declared.token.Token.{Token}
 use Rattle.ds2_token.specs.Words.{quoted_kind, is_word, is_one_of, is_name_token, is_table, is_integer, reserved_words}
-use Rattle.ds2_grammar.specs.Parsers.{One, Two, first, when}
-use Rattle.ds2_grammar.proofs.Words.{Part, Law, Passes, kept_law, choice_part, then_part, kept_part}
+use Rattle.ds2_tree.specs.Parsers.{One, Two, first, when}
+use Rattle.ds2_tree.proofs.Words.{Part, Law, Passes, kept_law, choice_part, then_part, kept_part}
 use Rattle.ds2_tree.specs.declared.readings.Reading.{Reading}
 use Rattle.ds2_tree.specs.declared.readings.Reading.TheVariants.{Set, SetFrom, Merge}
 use Rattle.ds2_tree.specs.declared.readings.Input.{Input}

@@ -1,7 +1,7 @@
 -- What is read within declarations, as the code reads it.
 use Rattle.std.specs.Prelude.{codes, Option, Some}
 use Rattle.ds2_base.specs.declared.place.Place.{Place}
-use Rattle.ds2_grammar.specs.Parsers.{Parser, to, seq}
+use Rattle.ds2_tree.specs.Parsers.{Parser, to, seq}
 use Rattle.ds2_parse_rules.specs.GrammarTokens.{mark_rule}
 
 -- "," item

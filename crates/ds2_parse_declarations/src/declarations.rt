@@ -1,7 +1,7 @@
 //! The parser of declarations.
 ghost use Rattle.std.specs.Prelude.{ℕ, ◌<◌, ◌≤◌, codes, length, IfOk};
-ghost use Rattle.ds2_grammar.specs.Parsers.{One, Two, to, seq};
-ghost use Rattle.ds2_grammar.specs.Promise.{Gives};
+ghost use Rattle.ds2_tree.specs.Parsers.{One, Two, to, seq};
+ghost use Rattle.ds2_tree.specs.Promise.{Gives};
 ghost use Rattle.ds2_parse_rules.specs.GrammarTokens.{word_rule, comma_list};
 ghost use Rattle.ds2_parse_rules.specs.GlobalGrammar as grammar;
 ghost use Rattle.ds2_parse_declarations.specs.UnitParts.{behind_comma};

@@ -1,7 +1,7 @@
 //! The parser of output tables.
 ghost use Rattle.std.specs.Prelude.{ℕ, ◌<◌, length, IfOk};
-ghost use Rattle.ds2_grammar.specs.Parsers.{One, Two, to};
-ghost use Rattle.ds2_grammar.specs.Promise.{Gives};
+ghost use Rattle.ds2_tree.specs.Parsers.{One, Two, to};
+ghost use Rattle.ds2_tree.specs.Promise.{Gives};
 ghost use Rattle.ds2_token.specs.Words.{is_table};
 ghost use Rattle.ds2_parse_rules.specs.GrammarTokens.{one_or_more};
 ghost use Rattle.ds2_parse_rules.specs.UnitGrammar as grammar;

@@ -1,7 +1,7 @@
 //! The parser of parameters and of a method's result.
 ghost use Rattle.std.specs.Prelude.{ℕ, ◌<◌, ◌≤◌, codes, length, IfOk};
-ghost use Rattle.ds2_grammar.specs.Parsers.{to, optional};
-ghost use Rattle.ds2_grammar.specs.Promise.{Gives};
+ghost use Rattle.ds2_tree.specs.Parsers.{to, optional};
+ghost use Rattle.ds2_tree.specs.Promise.{Gives};
 ghost use Rattle.ds2_parse_rules.specs.GrammarTokens.{is_open_mark, starts, comma_list};
 ghost use Rattle.ds2_parse_rules.specs.GlobalGrammar as grammar;
 ghost use Rattle.ds2_parse_declarations.specs.UnitParts.{behind_comma};

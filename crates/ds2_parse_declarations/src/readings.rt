@@ -1,7 +1,7 @@
 //! The parser of reading statements.
 ghost use Rattle.std.specs.Prelude.{ℕ, ◌<◌, ◌≤◌, length, IfOk};
-ghost use Rattle.ds2_grammar.specs.Parsers.{One, Two, to, optional};
-ghost use Rattle.ds2_grammar.specs.Promise.{Gives};
+ghost use Rattle.ds2_tree.specs.Parsers.{One, Two, to, optional};
+ghost use Rattle.ds2_tree.specs.Promise.{Gives};
 ghost use Rattle.ds2_parse_rules.specs.ReadingGrammar as grammar;
 
 use ds2_base::Place;

@@ -1,7 +1,7 @@
 //! The parser of types, of lists of names, and of declarations of variables.
 ghost use Rattle.std.specs.Prelude.{ℕ, ◌<◌, ◌≤◌, length, IfOk};
-ghost use Rattle.ds2_grammar.specs.Parsers.{One, Two, to, many_of};
-ghost use Rattle.ds2_grammar.specs.Promise.{Gives};
+ghost use Rattle.ds2_tree.specs.Parsers.{One, Two, to, many_of};
+ghost use Rattle.ds2_tree.specs.Promise.{Gives};
 ghost use Rattle.ds2_tree.specs.Globals.{is_dcl};
 ghost use Rattle.ds2_parse_rules.specs.GlobalGrammar as grammar;
 

@@ -5,9 +5,9 @@ use Rattle.ds2_base.specs.declared.place.Refusal.{Refusal}
 use Rattle.ds2_base.specs.declared.stop.Stop.{Stop}
 use Rattle.ds2_token.specs.declared.token.Token.{Token}
 use Rattle.ds2_token.specs.Words.{is_mark}
-use Rattle.ds2_grammar.specs.declared.kind.ParseKind.{ParseKind}
-use Rattle.ds2_grammar.specs.Parsers.{ParserOutcome, Read, Unexpected, first, when, kept, token_value, to, closed}
-use Rattle.ds2_grammar.specs.Promise.{Fails}
+use Rattle.ds2_tree.specs.declared.kind.ParseKind.{ParseKind}
+use Rattle.ds2_tree.specs.Parsers.{ParserOutcome, Read, Unexpected, first, when, kept, token_value, to, closed}
+use Rattle.ds2_tree.specs.Promise.{Fails}
 use Rattle.ds2_parse_rules.specs.GrammarTokens.{mark_rule, is_open_mark, is_comma_mark, Fronted}
 use Rattle.ds2_parse_rules.specs.ExpressionGrammar.{is_open_or_dot}
 use Rattle.ds2_parse_rules.proofs.RuleSteps.{fails_read, fails_unexpected, closed_no}

@@ -9,8 +9,8 @@ use Rattle.ds2_base.specs.declared.place.Place.{Place}
 use Rattle.ds2_token.specs.declared.kinds.TokenKind.{TokenKind}
 use Rattle.ds2_token.specs.declared.kinds.TokenKind.TheVariants.{Word, Quoted, Text, Integer, Decimal, Mark}
 use Rattle.ds2_token.specs.declared.token.Token.{Token}
-use Rattle.ds2_grammar.specs.Parsers.{when}
-use Rattle.ds2_grammar.proofs.Words.{Part, Law, token_part, token_law}
+use Rattle.ds2_tree.specs.Parsers.{when}
+use Rattle.ds2_tree.proofs.Words.{Part, Law, token_part, token_law}
 use Rattle.ds2_token.specs.Words.{word_kind, quoted_kind, text_kind, integer_kind, decimal_kind, mark_kind, is_word, is_mark, is_one_of, is_name_token, reserved_words, spells_reserved, mark_at}
 use Rattle.ds2_tree.specs.Expressions.{is_constant}
 use Rattle.ds2_parse_rules.specs.GrammarTokens.{mark_place, mark_rule}

@@ -5,10 +5,10 @@ use Rattle.std.specs.Str.{bytes_eq}
 use Rattle.ds2_base.specs.declared.place.Place.{Place}
 use Rattle.ds2_token.specs.declared.token.Token.{Token}
 use Rattle.ds2_token.specs.Words.{is_word, is_name_token}
-use Rattle.ds2_grammar.specs.Parsers.{ParserOutcome, Read, Unexpected, TooDeep, Spent, Parser, One, Two, first, kept, when, choose_by, to, seq, many_of, optional, chain}
-use Rattle.ds2_grammar.proofs.Goes.{goes}
-use Rattle.ds2_grammar.proofs.Rules.{Rule}
-use Rattle.ds2_grammar.proofs.Words.{Part, sym, Law, Passes, kept_part, kept_law, then_part, then_law, to_law, choice_part, choice_law, optional_part, optional_law, flat, flat_opens, each, many_part, many_law, chain_law, link_part}
+use Rattle.ds2_tree.specs.Parsers.{ParserOutcome, Read, Unexpected, TooDeep, Spent, Parser, One, Two, first, kept, when, choose_by, to, seq, many_of, optional, chain}
+use Rattle.ds2_tree.proofs.Goes.{goes}
+use Rattle.ds2_tree.proofs.Rules.{Rule}
+use Rattle.ds2_tree.proofs.Words.{Part, sym, Law, Passes, kept_part, kept_law, then_part, then_law, to_law, choice_part, choice_law, optional_part, optional_law, flat, flat_opens, each, many_part, many_law, chain_law, link_part}
 use Rattle.ds2_tree.specs.Marks.{comma_mark}
 use Rattle.ds2_tree.specs.Lists.{one_token, if_any, all_spelled, IfAny, Each, SomeOf, HasComma, HasNoComma, Separated}
 use Rattle.ds2_parse_rules.specs.GrammarTokens.{mark_rule, word_rule, is_comma_mark, starts, one_or_more, behind_commas, comma_list}

@@ -7,11 +7,11 @@ use Rattle.ds2_base.specs.declared.place.Refusal.{Refusal}
 use Rattle.ds2_base.specs.declared.stop.Stop.{Stop}
 use Rattle.ds2_base.specs.declared.stop.Stop.TheVariants as stop
 use Rattle.ds2_token.specs.declared.token.Token.{Token}
-use Rattle.ds2_grammar.specs.declared.kind.ParseKind.{ParseKind}
-use Rattle.ds2_grammar.specs.declared.kind.ParseKind.TheVariants as kind
-use Rattle.ds2_grammar.specs.Parsers.{ParserOutcome, Read, Unexpected, TooDeep, Spent, Parser, and_then, pure, first, unexpected, too_deep, when, choose_by, to, seq, many_of, optional, closed}
-use Rattle.ds2_grammar.specs.Promise.{IsRefusedAs, Fails, Gives}
-use Rattle.ds2_grammar.proofs.Steps.{fails_on, gives_err, both, to_seq, to_read, choose_yes, choose_no, many_step, many_fails, many_ends}
+use Rattle.ds2_tree.specs.declared.kind.ParseKind.{ParseKind}
+use Rattle.ds2_tree.specs.declared.kind.ParseKind.TheVariants as kind
+use Rattle.ds2_tree.specs.Parsers.{ParserOutcome, Read, Unexpected, TooDeep, Spent, Parser, and_then, pure, first, unexpected, too_deep, when, choose_by, to, seq, many_of, optional, closed}
+use Rattle.ds2_tree.specs.Promise.{IsRefusedAs, Fails, Gives}
+use Rattle.ds2_tree.proofs.Steps.{fails_on, gives_err, both, to_seq, to_read, choose_yes, choose_no, many_step, many_fails, many_ends}
 
 -- what a rule gives at these tokens has a property: f is the tree of what p reads
 pub record Holds {A C : Type 0} (P : ParserOutcome C → Type 0) (f : A → C) (p : Parser A) (ts : List Token) : Type 0 where

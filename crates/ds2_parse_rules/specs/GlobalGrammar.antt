@@ -3,7 +3,7 @@ use Rattle.std.specs.Prelude.{ℕ, Bool, ◌||◌, codes, List, [], ◌∷◌, O
 use Rattle.ds2_base.specs.declared.place.Place.{Place}
 use Rattle.ds2_token.specs.declared.token.Token.{Token}
 use Rattle.ds2_token.specs.Words.{is_one_of, is_name_token, is_package_name, is_text, is_integer, is_decimal, spells_table}
-use Rattle.ds2_grammar.specs.Parsers.{Parser, Either, One, Two, kept, choose_by, to, seq, many_of, optional}
+use Rattle.ds2_tree.specs.Parsers.{Parser, Either, One, Two, kept, choose_by, to, seq, many_of, optional}
 use Rattle.ds2_tree.specs.declared.globals.Declaration.{Declaration}
 use Rattle.ds2_tree.specs.declared.globals.Declaration.TheVariants as declared_as
 use Rattle.ds2_tree.specs.declared.globals.VariableDeclaration.{VariableDeclaration}

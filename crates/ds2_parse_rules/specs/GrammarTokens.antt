@@ -2,7 +2,7 @@
 use Rattle.std.specs.Prelude.{◌≡◌, ℕ, Bool, true, if◌then◌else◌, codes, List, [], ◌∷◌, map, Option, Some, None}
 use Rattle.ds2_base.specs.declared.place.Place.{Place}
 use Rattle.ds2_token.specs.declared.token.Token.{Token}
-use Rattle.ds2_grammar.specs.Parsers.{Parser, one, kept, to, seq, many_of, optional, chain}
+use Rattle.ds2_tree.specs.Parsers.{Parser, one, kept, to, seq, many_of, optional, chain}
 use Rattle.ds2_token.specs.Words.{is_word, is_mark, is_one_of}
 
 -- a mark of one spelling stands for its place

@@ -3,7 +3,7 @@ use Rattle.std.specs.Prelude.{ℕ, Bool, ◌||◌, codes, List, [], ◌∷◌, O
 use Rattle.ds2_base.specs.declared.place.Place.{Place}
 use Rattle.ds2_token.specs.declared.token.Token.{Token}
 use Rattle.ds2_token.specs.Words.{is_one_of, is_name_token, is_table, is_integer}
-use Rattle.ds2_grammar.specs.Parsers.{Parser, Either, One, Two, kept, choose_by, to, seq, optional}
+use Rattle.ds2_tree.specs.Parsers.{Parser, Either, One, Two, kept, choose_by, to, seq, optional}
 use Rattle.ds2_tree.specs.declared.readings.Reading.{Reading}
 use Rattle.ds2_tree.specs.declared.readings.Reading.TheVariants.{Set, SetFrom, Merge}
 use Rattle.ds2_tree.specs.declared.readings.Input.{Input}

@@ -2,7 +2,7 @@
 use Rattle.std.specs.Prelude.{◌≡◌, ℕ, zero, suc, Bool, ◌||◌, codes, List, [], ◌∷◌, Option, Some, None}
 use Rattle.ds2_base.specs.declared.place.Place.{Place}
 use Rattle.ds2_token.specs.declared.token.Token.{Token}
-use Rattle.ds2_grammar.specs.Parsers.{Parser, Either, One, Two, Spent, kept, choose_by, to, seq, many_of, optional, chain, closed}
+use Rattle.ds2_tree.specs.Parsers.{Parser, Either, One, Two, Spent, kept, choose_by, to, seq, many_of, optional, chain, closed}
 use Rattle.ds2_tree.specs.declared.expressions.Callee.TheVariants as callee
 use Rattle.ds2_tree.specs.declared.statements.PutItem.{PutItem}
 use Rattle.ds2_tree.specs.declared.statements.PutItem.TheVariants as item

@@ -3,7 +3,7 @@ use Rattle.std.specs.Prelude.{ℕ, suc, Bool, codes, List, [], ◌∷◌, length
 use Rattle.ds2_base.specs.declared.place.Place.{Place}
 use Rattle.ds2_token.specs.declared.token.Token.{Token}
 use Rattle.ds2_token.specs.Words.{is_one_of, is_name_token, is_package_name, is_table}
-use Rattle.ds2_grammar.specs.Parsers.{ParserOutcome, Parser, Either, One, Two, ◌>>>◌, pure, unexpected, peek, kept, choose_by, to, seq, many_of, optional}
+use Rattle.ds2_tree.specs.Parsers.{ParserOutcome, Parser, Either, One, Two, ◌>>>◌, pure, unexpected, peek, kept, choose_by, to, seq, many_of, optional}
 use Rattle.ds2_tree.specs.declared.globals.Parameters.{Parameters}
 use Rattle.ds2_tree.specs.declared.units.OutputTable.{OutputTable}
 use Rattle.ds2_tree.specs.declared.units.OutputOptions.{OutputOptions}

@@ -1,7 +1,7 @@
 //! The tokens at the front, one of which is looked at.
 ghost use Rattle.std.specs.Prelude.{◌≡◌, ◌∷◌, ◌<◌, suc, codes, [], MatchOption, IfSome, IfOk, IfErr, true, false, length};
-ghost use Rattle.ds2_grammar.specs.Parsers.{first, when, kept, Read, Unexpected, TooDeep};
-ghost use Rattle.ds2_grammar.specs.Promise.{place_of, Gives, Fails};
+ghost use Rattle.ds2_tree.specs.Parsers.{first, when, kept, Read, Unexpected, TooDeep};
+ghost use Rattle.ds2_tree.specs.Promise.{place_of, Gives, Fails};
 ghost use Rattle.ds2_token.specs.Words as words;
 ghost use Rattle.ds2_tree.specs.Expressions as tests;
 ghost use Rattle.ds2_tree.specs.Statements as statement_tests;
@@ -11,9 +11,8 @@ ghost use Rattle.ds2_parse_rules.specs.ExpressionGrammar as expressions;
 ghost use Rattle.ds2_parse_rules.specs.StatementGrammar as statement_grammar;
 
 use ds2_base::{Place, Refusal, Stop};
-use ds2_grammar::ParseKind;
+use ds2_tree::{ChainKind, ParseKind};
 use ds2_token::Token;
-use ds2_tree::ChainKind;
 use std::alloc::Global;
 
 /// Why nothing was read.

@@ -1,7 +1,7 @@
 //! The token at the front, by what it is to the grammar of readings, globals and units.
 ghost use Rattle.std.specs.Prelude.{◌≡◌, ◌∷◌, ◌<◌, ◌≤◌, [], IfOk, length};
-ghost use Rattle.ds2_grammar.specs.Parsers.{first, when, kept, optional};
-ghost use Rattle.ds2_grammar.specs.Promise.{Gives};
+ghost use Rattle.ds2_tree.specs.Parsers.{first, when, kept, optional};
+ghost use Rattle.ds2_tree.specs.Promise.{Gives};
 ghost use Rattle.ds2_token.specs.Words.{is_one_of};
 ghost use Rattle.ds2_tree.specs.Globals as globals;
 ghost use Rattle.ds2_tree.specs.Units as units;

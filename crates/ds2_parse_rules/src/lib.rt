@@ -1,7 +1,7 @@
 //! The rules of the grammar of sources, and what reads one token by them.
 //!
 //! Each rule is a definition in `specs/`, one file a syntax class (expressions, statements, readings, globals, units), written in
-//! the words of `ds2_grammar` and of `specs/GrammarTokens.antt`. A parser reads with one token of look-ahead: [`front`] has the
+//! the words of `ds2_tree` and of `specs/GrammarTokens.antt`. A parser reads with one token of look-ahead: [`front`] has the
 //! tests on the token at the front, what has to stand there, and the refusals; [`front_words`] asks for a token by its class;
 //! [`rules`] has them as values, which read rules of many parts, lists and parts that may be absent.
 //!

@@ -1,8 +1,8 @@
 //! Rules of the grammar as values: a token, one rule behind another, parts that may be absent, and lists. Each reads exactly what
 //! its definition does, so that a rule of many parts is read by one call.
 ghost use Rattle.std.specs.Prelude.{ℕ, Bool, ◌≡◌, ◌∷◌, ◌<◌, ◌≤◌, ◌++◌, [], length, IfOk};
-ghost use Rattle.ds2_grammar.specs.Parsers.{Parser, first, when, kept, to, seq, many_of, optional};
-ghost use Rattle.ds2_grammar.specs.Promise.{Gives};
+ghost use Rattle.ds2_tree.specs.Parsers.{Parser, first, when, kept, to, seq, many_of, optional};
+ghost use Rattle.ds2_tree.specs.Promise.{Gives};
 ghost use Rattle.ds2_token.specs.declared.token.Token.{Token};
 ghost use Rattle.ds2_token.specs.Words.{is_one_of};
 ghost use Rattle.ds2_parse_rules.specs.GrammarTokens.{mark_rule, word_rule, starts, one_or_more};

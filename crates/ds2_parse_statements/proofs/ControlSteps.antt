@@ -5,10 +5,10 @@ use Rattle.ds2_base.specs.declared.place.Refusal.{Refusal}
 use Rattle.ds2_base.specs.declared.stop.Stop.{Stop}
 use Rattle.ds2_token.specs.declared.token.Token.{Token}
 use Rattle.ds2_token.specs.Words.{is_name_token}
-use Rattle.ds2_grammar.specs.declared.kind.ParseKind.{ParseKind}
-use Rattle.ds2_grammar.specs.Parsers.{Read, Parser, Either, One, Two, pure, first, kept, when, choose_by, to, seq, optional}
-use Rattle.ds2_grammar.specs.Promise.{Fails}
-use Rattle.ds2_grammar.proofs.Steps.{choose_yes}
+use Rattle.ds2_tree.specs.declared.kind.ParseKind.{ParseKind}
+use Rattle.ds2_tree.specs.Parsers.{Read, Parser, Either, One, Two, pure, first, kept, when, choose_by, to, seq, optional}
+use Rattle.ds2_tree.specs.Promise.{Fails}
+use Rattle.ds2_tree.proofs.Steps.{choose_yes}
 use Rattle.ds2_tree.specs.Expressions.{Expression}
 use Rattle.ds2_tree.specs.Statements.{Block, Counted, Tested, is_while_or_until}
 use Rattle.ds2_parse_rules.specs.GrammarTokens.{enclosed, Fronted}

@@ -4,10 +4,10 @@ use Rattle.std.proofs.lemmas.List.{append-nil}
 use Rattle.std.proofs.lemmas.Bool.Decides.{nat_tests}
 use Rattle.ds2_base.specs.declared.place.Place.{Place}
 use Rattle.ds2_token.specs.declared.token.Token.{Token}
-use Rattle.ds2_grammar.specs.Levels.{first_opened}
-use Rattle.ds2_grammar.specs.Parsers.{ParserOutcome, Read, Parser, Either, One, Two, first, kept, when, choose_by, to, seq, optional, chain, closed}
-use Rattle.ds2_grammar.proofs.Goes.{goes}
-use Rattle.ds2_grammar.proofs.Words.{Part, Law, Passes, kept_part, kept_law, then_part, then_less, token_then, to_law, choice_part, choice_law, optional_part, optional_law, flat, flat_opens, each, many_part, chain_law, pair_law, link_part, closed_law, narrow_part}
+use Rattle.ds2_tree.specs.Levels.{first_opened}
+use Rattle.ds2_tree.specs.Parsers.{ParserOutcome, Read, Parser, Either, One, Two, first, kept, when, choose_by, to, seq, optional, chain, closed}
+use Rattle.ds2_tree.proofs.Goes.{goes}
+use Rattle.ds2_tree.proofs.Words.{Part, Law, Passes, kept_part, kept_law, then_part, then_less, token_then, to_law, choice_part, choice_law, optional_part, optional_law, flat, flat_opens, each, many_part, chain_law, pair_law, link_part, closed_law, narrow_part}
 use Rattle.ds2_tree.specs.declared.expressions.ChainKind.{ChainKind}
 use Rattle.ds2_tree.specs.declared.expressions.ChainKind.TheVariants.{Or, And, Concatenation, Sum, Product}
 use Rattle.ds2_tree.specs.declared.expressions.Callee.TheVariants as callee

@@ -2,9 +2,9 @@
 use Rattle.std.proofs.Common.{ℕ, suc, List, [], Some, refl, arith}
 use Rattle.ds2_base.specs.declared.place.Place.{Place}
 use Rattle.ds2_token.specs.declared.token.Token.{Token}
-use Rattle.ds2_grammar.specs.Parsers.{ParserOutcome, Read, Unexpected, TooDeep, Spent, Parser, seq}
-use Rattle.ds2_grammar.proofs.Rules.{Rule}
-use Rattle.ds2_grammar.proofs.Words.{Part, sym, Law, then_part, then_less, then_law}
+use Rattle.ds2_tree.specs.Parsers.{ParserOutcome, Read, Unexpected, TooDeep, Spent, Parser, seq}
+use Rattle.ds2_tree.proofs.Rules.{Rule}
+use Rattle.ds2_tree.proofs.Words.{Part, sym, Law, then_part, then_less, then_law}
 use Rattle.ds2_token.specs.Words.{mark_at}
 use Rattle.ds2_parse_rules.specs.GrammarTokens.{mark_rule, enclosed}
 use Rattle.ds2_parse_rules.proofs.GrammarTokenLaws.{place_part, mark_law}

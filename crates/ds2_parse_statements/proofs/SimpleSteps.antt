@@ -5,9 +5,9 @@ use Rattle.ds2_base.specs.declared.place.Refusal.{Refusal}
 use Rattle.ds2_base.specs.declared.stop.Stop.{Stop}
 use Rattle.ds2_token.specs.declared.token.Token.{Token}
 use Rattle.ds2_token.specs.Words.{is_any_word, is_mark, is_text, is_name_token}
-use Rattle.ds2_grammar.specs.declared.kind.ParseKind.{ParseKind}
-use Rattle.ds2_grammar.specs.Parsers.{Read, Parser, Either, One, Two, first, kept, when, choose_by, to, seq, optional}
-use Rattle.ds2_grammar.specs.Promise.{Fails}
+use Rattle.ds2_tree.specs.declared.kind.ParseKind.{ParseKind}
+use Rattle.ds2_tree.specs.Parsers.{Read, Parser, Either, One, Two, first, kept, when, choose_by, to, seq, optional}
+use Rattle.ds2_tree.specs.Promise.{Fails}
 use Rattle.ds2_tree.specs.declared.expressions.Callee.TheVariants as callee
 use Rattle.ds2_tree.specs.declared.statements.PutItem.TheVariants as item
 use Rattle.ds2_tree.specs.Expressions.{Expression}

@@ -5,11 +5,11 @@ use Rattle.std.specs.Str.{bytes_eq}
 use Rattle.std.proofs.lemmas.List.{append-nil}
 use Rattle.std.proofs.lemmas.Bool.{false_from_ne_true}
 use Rattle.ds2_token.specs.declared.token.Token.{Token}
-use Rattle.ds2_grammar.specs.Levels.{first_opened, one_in}
-use Rattle.ds2_grammar.specs.Parsers.{ParserOutcome, Read, Unexpected, TooDeep, Spent, Parser, first, when, either, choose_by, seq, optional}
-use Rattle.ds2_grammar.proofs.Goes.{goes}
-use Rattle.ds2_grammar.proofs.Rules.{Rule}
-use Rattle.ds2_grammar.proofs.Words.{Part, sym as symbol, Law, Passes, fewer, kept_part, kept_law, seq_part, seq_law, then_part, then_less, then_law, token_then, to_law, optional_part, optional_law}
+use Rattle.ds2_tree.specs.Levels.{first_opened, one_in}
+use Rattle.ds2_tree.specs.Parsers.{ParserOutcome, Read, Unexpected, TooDeep, Spent, Parser, first, when, either, choose_by, seq, optional}
+use Rattle.ds2_tree.proofs.Goes.{goes}
+use Rattle.ds2_tree.proofs.Rules.{Rule}
+use Rattle.ds2_tree.proofs.Words.{Part, sym as symbol, Law, Passes, fewer, kept_part, kept_law, seq_part, seq_law, then_part, then_less, then_law, token_then, to_law, optional_part, optional_law}
 use Rattle.ds2_tree.specs.declared.expressions.Callee.TheVariants as callee
 use Rattle.ds2_token.specs.Words.{is_word, is_one_of, is_name_token, reserved_words}
 use Rattle.ds2_tree.specs.Expressions.{Expression, Constant, expression_spelling, expression_opens}

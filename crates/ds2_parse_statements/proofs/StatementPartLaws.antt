@@ -3,8 +3,8 @@ use Rattle.std.proofs.Common.{true≢false, ◌≡◌, ℕ, ◌+◌, ◌≤◌, 
 use Rattle.ds2_base.specs.declared.place.Place.{Place}
 use Rattle.ds2_token.specs.declared.kinds.TokenKind.TheVariants as TokenKind
 use Rattle.ds2_token.specs.declared.token.Token.{Token}
-use Rattle.ds2_grammar.specs.Parsers.{Parser, Either, One, Two, first, kept, when, choose_by, to, seq, many_of, optional, chain}
-use Rattle.ds2_grammar.proofs.Words.{Part, Law, Passes, fewer, kept_part, kept_law, then_part, then_less, then_law, token_then, to_law, choice_part, choice_law, optional_part, optional_law, many_part, many_law, narrow_part, narrow_law}
+use Rattle.ds2_tree.specs.Parsers.{Parser, Either, One, Two, first, kept, when, choose_by, to, seq, many_of, optional, chain}
+use Rattle.ds2_tree.proofs.Words.{Part, Law, Passes, fewer, kept_part, kept_law, then_part, then_less, then_law, token_then, to_law, choice_part, choice_law, optional_part, optional_law, many_part, many_law, narrow_part, narrow_law}
 use Rattle.ds2_tree.specs.declared.statements.PutItem.{PutItem}
 use Rattle.ds2_tree.specs.declared.statements.PutItem.TheVariants as item
 use Rattle.ds2_token.specs.Words.{mark_at, reserved_words, is_any_word, is_text, is_word, is_one_of, is_name_token, integer_kind, decimal_kind}

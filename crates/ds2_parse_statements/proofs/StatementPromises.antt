@@ -5,12 +5,12 @@ use Rattle.ds2_base.specs.declared.place.Place.{Place}
 use Rattle.ds2_base.specs.declared.place.Refusal.{Refusal}
 use Rattle.ds2_base.specs.declared.stop.Stop.{Stop}
 use Rattle.ds2_token.specs.declared.token.Token.{Token}
-use Rattle.ds2_grammar.specs.declared.kind.ParseKind.{ParseKind}
-use Rattle.ds2_grammar.specs.Parsers.{Read}
-use Rattle.ds2_grammar.specs.Promise.{Gives, Promises}
-use Rattle.ds2_grammar.proofs.Goes.{goes}
-use Rattle.ds2_grammar.proofs.Words.{sym as symbol}
-use Rattle.ds2_grammar.proofs.Promised.{promised}
+use Rattle.ds2_tree.specs.declared.kind.ParseKind.{ParseKind}
+use Rattle.ds2_tree.specs.Parsers.{Read}
+use Rattle.ds2_tree.specs.Promise.{Gives, Promises}
+use Rattle.ds2_tree.proofs.Goes.{goes}
+use Rattle.ds2_tree.proofs.Words.{sym as symbol}
+use Rattle.ds2_tree.proofs.Promised.{promised}
 use Rattle.ds2_tree.specs.Expressions.{Expression, expression_spelling, IsExpression, expression_opens}
 use Rattle.ds2_tree.specs.Statements.{Statement, statement_spelling, IsStatement, statement_opens}
 use Rattle.ds2_parse_rules.specs.ExpressionGrammar.{expression}

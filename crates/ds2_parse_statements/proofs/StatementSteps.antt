@@ -7,11 +7,11 @@ use Rattle.ds2_base.specs.declared.stop.Stop.{Stop}
 use Rattle.ds2_token.specs.declared.token.Token.{Token}
 use Rattle.ds2_token.specs.Words.{is_mark, is_word, is_name_token, is_table}
 use Rattle.ds2_base.specs.declared.stop.Stop.TheVariants as stop
-use Rattle.ds2_grammar.specs.declared.kind.ParseKind.{ParseKind}
-use Rattle.ds2_grammar.specs.declared.kind.ParseKind.TheVariants as kind
-use Rattle.ds2_grammar.specs.Parsers.{ParserOutcome, Read, Unexpected, TooDeep, Spent, Parser, Either, One, Two, and_then, pure, too_deep, unexpected, first, kept, when, choose_by, to, seq, many_of, optional}
-use Rattle.ds2_grammar.specs.Promise.{IsRefusedAs, Fails, Gives}
-use Rattle.ds2_grammar.proofs.Steps.{both, fails_on, to_seq, and_same, choose_yes, choose_no}
+use Rattle.ds2_tree.specs.declared.kind.ParseKind.{ParseKind}
+use Rattle.ds2_tree.specs.declared.kind.ParseKind.TheVariants as kind
+use Rattle.ds2_tree.specs.Parsers.{ParserOutcome, Read, Unexpected, TooDeep, Spent, Parser, Either, One, Two, and_then, pure, too_deep, unexpected, first, kept, when, choose_by, to, seq, many_of, optional}
+use Rattle.ds2_tree.specs.Promise.{IsRefusedAs, Fails, Gives}
+use Rattle.ds2_tree.proofs.Steps.{both, fails_on, to_seq, and_same, choose_yes, choose_no}
 use Rattle.ds2_tree.specs.declared.statements.ElseIf as code_else_if
 use Rattle.ds2_tree.specs.declared.statements.When as code_when
 use Rattle.ds2_tree.specs.declared.statements.PutItem.{PutItem}

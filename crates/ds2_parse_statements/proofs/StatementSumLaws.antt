@@ -5,11 +5,11 @@ use Rattle.std.specs.Str.{bytes_eq}
 use Rattle.std.proofs.lemmas.List.{append-nil}
 use Rattle.ds2_base.specs.declared.place.Place.{Place}
 use Rattle.ds2_token.specs.declared.token.Token.{Token}
-use Rattle.ds2_grammar.specs.Levels.{first_opened, one_in}
-use Rattle.ds2_grammar.specs.Parsers.{ParserOutcome, Read, Parser, Either, One, Two, first, kept, when, choose_by, to, seq, many_of, optional, closed}
-use Rattle.ds2_grammar.proofs.Goes.{goes}
-use Rattle.ds2_grammar.proofs.Rules.{Goes}
-use Rattle.ds2_grammar.proofs.Words.{Part, sym as symbol, Law, Passes, kept_part, kept_law, then_part, then_law, token_then, to_law, choice_part, choice_law, optional_part, optional_law, flat, flat_opens, each, many_part, many_law, closed_law}
+use Rattle.ds2_tree.specs.Levels.{first_opened, one_in}
+use Rattle.ds2_tree.specs.Parsers.{ParserOutcome, Read, Parser, Either, One, Two, first, kept, when, choose_by, to, seq, many_of, optional, closed}
+use Rattle.ds2_tree.proofs.Goes.{goes}
+use Rattle.ds2_tree.proofs.Rules.{Goes}
+use Rattle.ds2_tree.proofs.Words.{Part, sym as symbol, Law, Passes, kept_part, kept_law, then_part, then_law, token_then, to_law, choice_part, choice_law, optional_part, optional_law, flat, flat_opens, each, many_part, many_law, closed_law}
 use Rattle.ds2_tree.specs.declared.expressions.Callee.TheVariants as callee
 use Rattle.ds2_tree.specs.declared.statements.PutItem.{PutItem}
 use Rattle.ds2_token.specs.Words.{is_word, is_mark, is_one_of, is_name_token, is_table, mark_at}

@@ -5,8 +5,8 @@ use Rattle.std.specs.Str.{bytes_eq}
 use Rattle.ds2_base.specs.declared.place.Place.{Place}
 use Rattle.ds2_token.specs.declared.token.Token.{Token}
 use Rattle.ds2_token.specs.Words.{is_word, is_mark, is_one_of, is_name_token, is_any_word, is_table, is_text}
-use Rattle.ds2_grammar.specs.Parsers.{ParserOutcome, Unexpected, Parser, Either, One, Two, and_then, ◌>>>◌, pure, unexpected, too_deep, first, token_value, passing, kept, when, either, choose_by, to, seq, many_of, optional, chain, closed}
-use Rattle.ds2_grammar.proofs.Steady.{Moves, steady_no, steady_deep, steady_choose, Steadily, by_one, by_to, by_seq, by_choose, by_optional, by_many}
+use Rattle.ds2_tree.specs.Parsers.{ParserOutcome, Unexpected, Parser, Either, One, Two, and_then, ◌>>>◌, pure, unexpected, too_deep, first, token_value, passing, kept, when, either, choose_by, to, seq, many_of, optional, chain, closed}
+use Rattle.ds2_tree.proofs.Steady.{Moves, steady_no, steady_deep, steady_choose, Steadily, by_one, by_to, by_seq, by_choose, by_optional, by_many}
 use Rattle.ds2_tree.specs.declared.expressions.ChainKind.{ChainKind}
 use Rattle.ds2_tree.specs.declared.expressions.ChainKind.TheVariants.{Or, And, Concatenation, Sum, Product}
 use Rattle.ds2_tree.specs.declared.statements.PutItem.{PutItem}

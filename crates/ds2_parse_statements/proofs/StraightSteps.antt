@@ -4,9 +4,9 @@ use Rattle.ds2_base.specs.declared.place.Place.{Place}
 use Rattle.ds2_base.specs.declared.place.Refusal.{Refusal}
 use Rattle.ds2_base.specs.declared.stop.Stop.{Stop}
 use Rattle.ds2_token.specs.declared.token.Token.{Token}
-use Rattle.ds2_grammar.specs.declared.kind.ParseKind.{ParseKind}
-use Rattle.ds2_grammar.specs.Parsers.{Read, Parser, to, seq}
-use Rattle.ds2_grammar.specs.Promise.{Fails}
+use Rattle.ds2_tree.specs.declared.kind.ParseKind.{ParseKind}
+use Rattle.ds2_tree.specs.Parsers.{Read, Parser, to, seq}
+use Rattle.ds2_tree.specs.Promise.{Fails}
 use Rattle.ds2_parse_rules.proofs.RuleSteps.{held, on_read, on_stop, on_last, on_last_stop}
 
 -- four parts

@@ -2,7 +2,7 @@
 use Rattle.std.specs.Prelude.{ℕ, zero, suc, codes, List, Option}
 use Rattle.std.specs.Option.{option_map}
 use Rattle.ds2_token.specs.declared.token.Token.{Token}
-use Rattle.ds2_grammar.specs.Parsers.{Parser, Two, choose_by, seq, many_of, optional, closed}
+use Rattle.ds2_tree.specs.Parsers.{Parser, Two, choose_by, seq, many_of, optional, closed}
 use Rattle.ds2_tree.specs.Expressions.{Expression}
 use Rattle.ds2_tree.specs.Statements.{Statement, Select, Do, Whens, NoWhen, When}
 use Rattle.ds2_tree.specs.ExpressionViews as view_expression

@@ -1,5 +1,5 @@
 -- The symbols of the grammar in which levels open.
-use Rattle.ds2_grammar.specs.Acceptance.{Symbol}
+use Rattle.ds2_tree.specs.Acceptance.{Symbol}
 use Rattle.ds2_tree.specs.Expressions.{Expression, expression_spelling, IsExpression, expression_opens}
 use Rattle.ds2_tree.specs.Statements.{Statement, statement_spelling, IsStatement, statement_opens}
 

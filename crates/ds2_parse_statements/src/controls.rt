@@ -1,8 +1,8 @@
 //! The parser of what stands in parentheses behind `select`, and between `do` and its `;`.
 ghost use Rattle.std.specs.Prelude.{ℕ, ◌<◌, ◌≤◌, codes, length, IfOk};
 ghost use Rattle.std.specs.Option.{option_map};
-ghost use Rattle.ds2_grammar.specs.Parsers.{to, seq, optional};
-ghost use Rattle.ds2_grammar.specs.Promise.{Gives};
+ghost use Rattle.ds2_tree.specs.Parsers.{to, seq, optional};
+ghost use Rattle.ds2_tree.specs.Promise.{Gives};
 ghost use Rattle.ds2_tree.specs.Statements as tree;
 ghost use Rattle.ds2_tree.specs.StatementViews.{control_tree};
 ghost use Rattle.ds2_parse_rules.specs.GrammarTokens.{mark_rule, word_rule, starts, is_open_mark, enclosed};

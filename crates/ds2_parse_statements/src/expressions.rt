@@ -1,8 +1,8 @@
 //! The parser of expressions.
 ghost use Rattle.std.specs.Prelude.{ℕ, ◌<◌, ◌≤◌, codes, length, None, IfOk, map};
 ghost use Rattle.std.specs.Option.{option_map};
-ghost use Rattle.ds2_grammar.specs.Parsers.{and_then, pure, to, seq, many_of, optional, chain as chain_rule};
-ghost use Rattle.ds2_grammar.specs.Promise.{Gives, Promises};
+ghost use Rattle.ds2_tree.specs.Parsers.{and_then, pure, to, seq, many_of, optional, chain as chain_rule};
+ghost use Rattle.ds2_tree.specs.Promise.{Gives, Promises};
 ghost use Rattle.ds2_tree.specs.Expressions as tree;
 ghost use Rattle.ds2_tree.specs.Expressions.{is_operator};
 ghost use Rattle.ds2_tree.specs.ExpressionViews.{expression_tree, arguments_of};

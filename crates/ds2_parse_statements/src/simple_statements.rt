@@ -1,8 +1,8 @@
 //! The parser of statements that hold no statement.
 ghost use Rattle.std.specs.Prelude.{ℕ, ◌<◌, ◌≤◌, codes, length, IfOk};
 ghost use Rattle.std.specs.Option.{option_map};
-ghost use Rattle.ds2_grammar.specs.Parsers.{to, seq, many_of, optional, kept};
-ghost use Rattle.ds2_grammar.specs.Promise.{Gives};
+ghost use Rattle.ds2_tree.specs.Parsers.{to, seq, many_of, optional, kept};
+ghost use Rattle.ds2_tree.specs.Promise.{Gives};
 ghost use Rattle.ds2_token.specs.Words.{is_table};
 ghost use Rattle.ds2_tree.specs.Statements as tree;
 ghost use Rattle.ds2_tree.specs.ExpressionViews.{expression_tree};

@@ -1,8 +1,8 @@
 //! The parser of statements.
 ghost use Rattle.std.specs.Prelude.{ℕ, ◌<◌, ◌≤◌, codes, [], ◌∷◌, length, IfOk, map};
 ghost use Rattle.std.specs.Option.{option_map};
-ghost use Rattle.ds2_grammar.specs.Parsers.{to, many_of};
-ghost use Rattle.ds2_grammar.specs.Promise.{Gives, Promises};
+ghost use Rattle.ds2_tree.specs.Parsers.{to, many_of};
+ghost use Rattle.ds2_tree.specs.Promise.{Gives, Promises};
 ghost use Rattle.ds2_tree.specs.StatementViews.{statement_tree, others_of, whens_of, otherwise_tree};
 ghost use Rattle.ds2_parse_rules.specs.GrammarTokens.{starts};
 ghost use Rattle.ds2_parse_rules.specs.ExpressionGrammar as expression_grammar;

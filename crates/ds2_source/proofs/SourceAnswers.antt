@@ -7,10 +7,10 @@ use Rattle.ds2_token.specs.declared.kinds.LexKind.{LexKind}
 use Rattle.ds2_token.specs.declared.token.Token.{Token}
 use Rattle.ds2_token.specs.Laws.{OneListStands, OneRefusalIsFirst, NoRefusalBesideTokens, EveryTextIsRead}
 use Rattle.ds2_token.specs.Standing.{StandsFor, IsFirstRefusal, end_place}
-use Rattle.ds2_grammar.specs.declared.kind.ParseKind.TheVariants as kind
-use Rattle.ds2_grammar.specs.Acceptance.{Answers}
-use Rattle.ds2_grammar.specs.Parsers.{ParserOutcome, Read, Unexpected, TooDeep, Spent}
-use Rattle.ds2_grammar.specs.Promise.{place_of}
+use Rattle.ds2_tree.specs.declared.kind.ParseKind.TheVariants as kind
+use Rattle.ds2_tree.specs.Acceptance.{Answers}
+use Rattle.ds2_tree.specs.Parsers.{ParserOutcome, Read, Unexpected, TooDeep, Spent}
+use Rattle.ds2_tree.specs.Promise.{place_of}
 use Rattle.ds2_tree.specs.Units.{SourcePart}
 use Rattle.ds2_parse.specs.ParseAnswer.{source_symbol, most_levels, SourcesAreReadExactly}
 use Rattle.ds2_parse_rules.specs.UnitGrammar.{parse_source}

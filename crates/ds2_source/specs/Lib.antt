@@ -6,7 +6,7 @@ pub mod AnswersOfTexts
 pub mod SourceTexts
 pub mod InputTables
 pub use Rattle.ds2_elaboration.specs.Elaboration
-pub use Rattle.ds2_grammar.specs.declared.kind.ParseKind
+pub use Rattle.ds2_tree.specs.declared.kind.ParseKind
 pub use Rattle.ds2_meaning.specs.ProgramMeaning
 pub use Rattle.ds2_meaning.specs.ProgramTree
 pub use Rattle.ds2_meaning.specs.Reading

@@ -8,9 +8,9 @@ use Rattle.ds2_base.specs.declared.stop.Stop.TheVariants.{Refused, OutOfMemory}
 use Rattle.ds2_token.specs.declared.kinds.LexKind.{LexKind}
 use Rattle.ds2_token.specs.declared.token.Token.{Token}
 use Rattle.ds2_token.specs.Standing.{StandsFor, IsFirstRefusal, end_place}
-use Rattle.ds2_grammar.specs.Acceptance.{Answers}
-use Rattle.ds2_grammar.specs.Parsers.{Read}
-use Rattle.ds2_grammar.specs.Promise.{Said}
+use Rattle.ds2_tree.specs.Acceptance.{Answers}
+use Rattle.ds2_tree.specs.Parsers.{Read}
+use Rattle.ds2_tree.specs.Promise.{Said}
 use Rattle.ds2_tree.specs.declared.source.Source.{Source}
 use Rattle.ds2_tree.specs.Units.{SourcePart}
 use Rattle.ds2_tree.specs.UnitViews.{source_tree}

@@ -1,6 +1,6 @@
 //! Why a source is refused.
 use ds2_base::Place;
-use ds2_grammar::ParseKind;
+use ds2_tree::ParseKind;
 use ds2_meaning::{ScopeKind, TypeKind};
 use ds2_token::LexKind;
 

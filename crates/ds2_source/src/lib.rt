@@ -16,7 +16,7 @@ pub mod laws;
 mod mentions;
 mod source;
 
-pub use ds2_grammar::ParseKind;
+pub use ds2_tree::ParseKind;
 pub use ds2_meaning::{ScopeKind, TypeKind};
 pub use ds2_token::LexKind;
 pub use inputs::{MOST_TABLES, input_names};

@@ -1,3 +1,10 @@
 pub mod Rows
 pub mod StatementRows
 pub mod Places
+pub mod Goes
+pub mod Rules
+pub mod Words
+pub mod Steady
+pub mod Theorem
+pub mod Promised
+pub mod Steps

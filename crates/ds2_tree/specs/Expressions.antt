@@ -10,7 +10,7 @@ use Rattle.ds2_tree.specs.declared.expressions.Callee.TheVariants.{Function, Met
 use Rattle.ds2_token.specs.Words.{is_any_word, is_text, is_integer, is_decimal, is_word, is_one_of, is_name_token}
 use Rattle.ds2_tree.specs.Marks.{open_mark, close_mark, dot_mark}
 use Rattle.ds2_tree.specs.Lists.{one_token, comma_spelling, Is, HasComma, HasNoComma}
-use Rattle.ds2_grammar.specs.Levels.{first_opened, one_in}
+use Rattle.ds2_tree.specs.Levels.{first_opened, one_in}
 
 -- An expression. Places are those of `(`, `)` and `.`.
 mutual

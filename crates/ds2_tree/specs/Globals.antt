@@ -21,7 +21,7 @@ use Rattle.ds2_tree.specs.declared.readings.Reading.{Reading}
 use Rattle.ds2_token.specs.Words.{is_word, is_one_of, is_name_token, is_package_name, is_text, is_integer, is_decimal, spells_table}
 use Rattle.ds2_tree.specs.Marks.{open_mark, close_mark, bracket_mark, bracket_end_mark, minus_mark, comma_mark, semicolon_mark}
 use Rattle.ds2_tree.specs.Lists.{one_token, if_any, all_spelled, comma_spelling, Is, IfAny, Each, SomeOf, Separated, HasNoComma}
-use Rattle.ds2_grammar.specs.Levels.{first_opened}
+use Rattle.ds2_tree.specs.Levels.{first_opened}
 use Rattle.ds2_tree.specs.Expressions.{is_null_word}
 use Rattle.ds2_tree.specs.Statements.{Statements, statements_spelling, AreStatements, statements_opens}
 use Rattle.ds2_tree.specs.Readings.{reading_spelling, IsReading}

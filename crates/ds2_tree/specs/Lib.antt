@@ -12,3 +12,7 @@ pub mod PackageParts
 pub mod PartViews
 pub mod UnitViews
 pub mod Examples
+pub mod Parsers
+pub mod Levels
+pub mod Acceptance
+pub mod Promise

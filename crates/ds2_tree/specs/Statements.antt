@@ -8,7 +8,7 @@ use Rattle.ds2_tree.specs.declared.statements.PutItem.TheVariants as item
 use Rattle.ds2_token.specs.Words.{is_any_word, is_text, is_word, is_one_of, is_name_token, is_table}
 use Rattle.ds2_tree.specs.Marks.{open_mark, close_mark, equals_mark, dot_mark, semicolon_mark}
 use Rattle.ds2_tree.specs.Lists.{one_token, if_any, all_spelled, Is, IfAny, Each}
-use Rattle.ds2_grammar.specs.Levels.{first_opened, one_in}
+use Rattle.ds2_tree.specs.Levels.{first_opened, one_in}
 use Rattle.ds2_tree.specs.Expressions.{Expression, expression_spelling, IsExpression, expression_opens, Arguments, NoArgument, Argument, arguments_spelling, AreArguments, arguments_opens, call_spelling, IsCallee, argument_list_opens}
 
 -- `(` expression `)` behind `select`

@@ -11,7 +11,7 @@ use Rattle.ds2_tree.specs.declared.units.Renaming.{Renaming}
 use Rattle.ds2_token.specs.Words.{is_word, is_one_of, is_name_token, is_package_name, is_table}
 use Rattle.ds2_tree.specs.Marks.{open_mark, close_mark, equals_mark, semicolon_mark}
 use Rattle.ds2_tree.specs.Lists.{one_token, if_any, all_spelled, Is, IfAny, Each, SomeOf}
-use Rattle.ds2_grammar.specs.Levels.{first_opened}
+use Rattle.ds2_tree.specs.Levels.{first_opened}
 use Rattle.ds2_tree.specs.Globals.{GlobalItem, global_spelling, IsGlobal, global_opens, parameters_spelling, AreParameters}
 
 -- a package

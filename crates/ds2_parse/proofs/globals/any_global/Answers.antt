@@ -1,6 +1,6 @@
 use Rattle.std.proofs.Common.{◌≡◌, refl, sym, ◌∙◌, subst, arith}
-use Rattle.ds2_grammar.specs.Parsers.{Read, One, Two, to, choose_by}
-use Rattle.ds2_grammar.specs.Promise.{Fails, Gives}
+use Rattle.ds2_tree.specs.Parsers.{Read, One, Two, to, choose_by}
+use Rattle.ds2_tree.specs.Promise.{Fails, Gives}
 use Rattle.ds2_tree.specs.Globals.{is_dcl, is_list_keyword}
 use Rattle.ds2_tree.specs.UnitViews.{method_tree, global_tree}
 use Rattle.ds2_parse_rules.specs.GlobalGrammar.{declaration_rule, method_rule, listed_rule, global_of_kind}

@@ -1,6 +1,6 @@
 use Rattle.std.proofs.Common.{codes, arith}
-use Rattle.ds2_grammar.specs.Parsers.{One, Two, kept, to, seq}
-use Rattle.ds2_grammar.specs.Promise.{Fails}
+use Rattle.ds2_tree.specs.Parsers.{One, Two, kept, to, seq}
+use Rattle.ds2_tree.specs.Promise.{Fails}
 use Rattle.ds2_tree.specs.Globals.{is_list_keyword}
 use Rattle.ds2_tree.specs.UnitViews.{global_tree}
 use Rattle.ds2_parse_rules.specs.GrammarTokens.{mark_rule}

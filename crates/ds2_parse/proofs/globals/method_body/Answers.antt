@@ -1,6 +1,6 @@
 use Rattle.std.proofs.Common.{◌≡◌, map, codes, refl, arith}
-use Rattle.ds2_grammar.specs.Parsers.{Read, seq, many_of, optional}
-use Rattle.ds2_grammar.specs.Promise.{Fails}
+use Rattle.ds2_tree.specs.Parsers.{Read, seq, many_of, optional}
+use Rattle.ds2_tree.specs.Promise.{Fails}
 use Rattle.ds2_tree.specs.Globals.{is_dcl}
 use Rattle.ds2_tree.specs.StatementViews.{statement_tree}
 use Rattle.ds2_parse_rules.specs.GrammarTokens.{mark_rule, word_rule}

@@ -1,6 +1,6 @@
 use Rattle.std.proofs.Common.{◌≡◌, codes, refl, arith}
-use Rattle.ds2_grammar.specs.Parsers.{Read, seq, optional}
-use Rattle.ds2_grammar.specs.Promise.{Fails}
+use Rattle.ds2_tree.specs.Parsers.{Read, seq, optional}
+use Rattle.ds2_tree.specs.Promise.{Fails}
 use Rattle.ds2_parse_rules.specs.GrammarTokens.{mark_rule, starts}
 use Rattle.ds2_parse_rules.specs.StatementGrammar.{statement_rule}
 use Rattle.ds2_parse_rules.specs.GlobalGrammar.{parameters_rule, returns_rule, body_rule}

@@ -1,6 +1,6 @@
 use Rattle.std.proofs.Common.{◌≡◌, suc, length, List, [], map, Err, sym, ap, subst, arith}
-use Rattle.ds2_grammar.specs.Parsers.{Read}
-use Rattle.ds2_grammar.specs.Promise.{Fails}
+use Rattle.ds2_tree.specs.Parsers.{Read}
+use Rattle.ds2_tree.specs.Promise.{Fails}
 use Rattle.ds2_tree.specs.Units.{SourcePart}
 use Rattle.ds2_tree.specs.UnitViews.{part_tree, source_tree}
 use Rattle.ds2_parse_rules.specs.UnitGrammar.{parts_rule, parse_source}

@@ -1,6 +1,6 @@
 use Rattle.std.proofs.Common.{◌≡◌, codes, refl, sym, ◌∙◌, subst, arith}
-use Rattle.ds2_grammar.specs.Parsers.{One, Two, to, seq, choose_by}
-use Rattle.ds2_grammar.specs.Promise.{Gives}
+use Rattle.ds2_tree.specs.Parsers.{One, Two, to, seq, choose_by}
+use Rattle.ds2_tree.specs.Promise.{Gives}
 use Rattle.ds2_tree.specs.UnitViews.{part_tree}
 use Rattle.ds2_parse_rules.specs.GrammarTokens.{mark_rule, word_rule, starts}
 use Rattle.ds2_parse_rules.specs.UnitGrammar.{unit_rule, part_of_kind}

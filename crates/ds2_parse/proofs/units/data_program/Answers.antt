@@ -1,6 +1,6 @@
 use Rattle.std.proofs.Common.{◌≡◌, codes, refl, arith}
-use Rattle.ds2_grammar.specs.Parsers.{Read, to, seq}
-use Rattle.ds2_grammar.specs.Promise.{Fails}
+use Rattle.ds2_tree.specs.Parsers.{Read, to, seq}
+use Rattle.ds2_tree.specs.Promise.{Fails}
 use Rattle.ds2_token.specs.Words.{is_table}
 use Rattle.ds2_tree.specs.UnitViews.{data_tree}
 use Rattle.ds2_parse_rules.specs.GrammarTokens.{mark_rule, word_rule, one_or_more}

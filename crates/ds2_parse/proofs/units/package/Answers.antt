@@ -1,6 +1,6 @@
 use Rattle.std.proofs.Common.{codes, arith, suc, length}
-use Rattle.ds2_grammar.specs.Parsers.{kept, to, seq}
-use Rattle.ds2_grammar.specs.Promise.{Fails}
+use Rattle.ds2_tree.specs.Parsers.{kept, to, seq}
+use Rattle.ds2_tree.specs.Promise.{Fails}
 use Rattle.ds2_token.specs.Words.{is_package_name}
 use Rattle.ds2_tree.specs.UnitViews.{package_tree}
 use Rattle.ds2_parse_rules.specs.GrammarTokens.{mark_rule, word_rule}

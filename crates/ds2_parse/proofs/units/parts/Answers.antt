@@ -1,6 +1,6 @@
 use Rattle.std.proofs.Common.{map, sym, ap, ◌∙◌, arith}
 use Rattle.std.proofs.lemmas.List.{map_push}
-use Rattle.ds2_grammar.specs.Parsers.{many_of}
+use Rattle.ds2_tree.specs.Parsers.{many_of}
 use Rattle.ds2_tree.specs.UnitViews.{part_tree}
 use Rattle.ds2_parse_rules.specs.UnitGrammar.{begins_part, part_rule}
 use Rattle.ds2_parse_rules.proofs.RuleSteps.{exit}

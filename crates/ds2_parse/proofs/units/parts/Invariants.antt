@@ -1,5 +1,5 @@
 use Rattle.std.proofs.Common.{◌≡◌, map, ◌++◌, length, ◌≤◌, ◌<◌, ℕ}
-use Rattle.ds2_grammar.specs.Parsers.{to, many_of}
+use Rattle.ds2_tree.specs.Parsers.{to, many_of}
 use Rattle.ds2_tree.specs.UnitViews.{part_tree}
 use Rattle.ds2_parse_rules.specs.UnitGrammar.{begins_part, part_rule}
 use Rattle.ds2_parse.proofs.units.parts.Given as goal

@@ -1,6 +1,6 @@
 use Rattle.std.proofs.Common.{◌≡◌, codes, refl, arith}
-use Rattle.ds2_grammar.specs.Parsers.{Read, kept, to, seq, optional}
-use Rattle.ds2_grammar.specs.Promise.{Fails}
+use Rattle.ds2_tree.specs.Parsers.{Read, kept, to, seq, optional}
+use Rattle.ds2_tree.specs.Promise.{Fails}
 use Rattle.ds2_token.specs.Words.{is_name_token}
 use Rattle.ds2_tree.specs.UnitViews.{thread_tree}
 use Rattle.ds2_parse_rules.specs.GrammarTokens.{mark_rule, word_rule, is_open_mark}

@@ -1,6 +1,6 @@
 use Rattle.std.proofs.Common.{◌≡◌, codes, refl, sym, ◌∙◌, arith}
-use Rattle.ds2_grammar.specs.Parsers.{Read, One, Two, to, choose_by}
-use Rattle.ds2_grammar.specs.Promise.{Fails}
+use Rattle.ds2_tree.specs.Parsers.{Read, One, Two, to, choose_by}
+use Rattle.ds2_tree.specs.Promise.{Fails}
 use Rattle.ds2_tree.specs.UnitViews.{package_tree, thread_tree, data_tree, part_tree}
 use Rattle.ds2_parse_rules.specs.GrammarTokens.{starts}
 use Rattle.ds2_parse_rules.specs.UnitGrammar.{package_rule, thread_rule, data_rule, part_of_kind}

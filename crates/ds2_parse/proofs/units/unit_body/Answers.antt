@@ -1,6 +1,6 @@
 use Rattle.std.proofs.Common.{◌≡◌, map, codes, refl, arith}
-use Rattle.ds2_grammar.specs.Parsers.{Read, seq, many_of}
-use Rattle.ds2_grammar.specs.Promise.{Fails}
+use Rattle.ds2_tree.specs.Parsers.{Read, seq, many_of}
+use Rattle.ds2_tree.specs.Promise.{Fails}
 use Rattle.ds2_tree.specs.UnitViews.{global_tree}
 use Rattle.ds2_parse_rules.specs.GrammarTokens.{mark_rule, word_rule}
 use Rattle.ds2_parse_rules.specs.GlobalGrammar.{begins_global, global_rule}

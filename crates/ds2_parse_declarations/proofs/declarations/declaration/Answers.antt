@@ -1,6 +1,6 @@
 use Rattle.std.proofs.Common.{◌≡◌, refl, sym, subst, arith}
-use Rattle.ds2_grammar.specs.Parsers.{kept, to, seq}
-use Rattle.ds2_grammar.specs.Promise.{Gives}
+use Rattle.ds2_tree.specs.Parsers.{kept, to, seq}
+use Rattle.ds2_tree.specs.Promise.{Gives}
 use Rattle.ds2_tree.specs.Globals.{is_dcl}
 use Rattle.ds2_parse_rules.specs.GlobalGrammar.{declaration_of, declaration_tail}
 use Rattle.ds2_parse_rules.proofs.RuleSteps.{held, taken, on_read}

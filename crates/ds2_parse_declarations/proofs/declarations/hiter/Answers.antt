@@ -1,5 +1,5 @@
 use Rattle.ds2_parse_rules.specs.GlobalGrammar.{hiter_rule, package_declaration}
-use Rattle.ds2_grammar.specs.Parsers.{One, Two}
+use Rattle.ds2_tree.specs.Parsers.{One, Two}
 use Rattle.ds2_parse_rules.proofs.RuleSteps.{read_whole, read_stops}
 use Rattle.ds2_parse_declarations.proofs.declarations.hiter.Goals as goal
 

@@ -1,5 +1,5 @@
 use Rattle.ds2_parse_rules.specs.GlobalGrammar.{instance_rule, package_declaration}
-use Rattle.ds2_grammar.specs.Parsers.{Two}
+use Rattle.ds2_tree.specs.Parsers.{Two}
 use Rattle.ds2_parse_rules.proofs.RuleSteps.{read_whole, read_stops}
 use Rattle.ds2_parse_declarations.proofs.declarations.instance.Goals as goal
 

@@ -1,6 +1,6 @@
 use Rattle.std.proofs.Common.{◌≡◌, codes, refl, sym, subst, arith}
-use Rattle.ds2_grammar.specs.Parsers.{One, to, seq}
-use Rattle.ds2_grammar.specs.Promise.{Gives}
+use Rattle.ds2_tree.specs.Parsers.{One, to, seq}
+use Rattle.ds2_tree.specs.Promise.{Gives}
 use Rattle.ds2_parse_rules.specs.GrammarTokens.{word_rule}
 use Rattle.ds2_parse_rules.specs.GlobalGrammar.{package_tail, package_declaration, declaration_of}
 use Rattle.ds2_parse_rules.proofs.RuleSteps.{held, taken, on_read}

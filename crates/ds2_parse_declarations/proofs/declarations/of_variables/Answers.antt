@@ -1,4 +1,4 @@
-use Rattle.ds2_grammar.specs.Parsers.{Two, to}
+use Rattle.ds2_tree.specs.Parsers.{Two, to}
 use Rattle.ds2_tree.specs.declared.globals.Declaration.TheVariants as declared_as
 use Rattle.ds2_parse_rules.specs.GlobalGrammar.{variables_of, variables_tail, declaration_of}
 use Rattle.ds2_parse_rules.proofs.RuleSteps.{exit}

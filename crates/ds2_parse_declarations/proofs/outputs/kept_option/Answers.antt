@@ -1,5 +1,5 @@
 use Rattle.ds2_parse_rules.specs.UnitGrammar.{kept_option_rule, option_of_kind}
-use Rattle.ds2_grammar.specs.Parsers.{One}
+use Rattle.ds2_tree.specs.Parsers.{One}
 use Rattle.ds2_parse_rules.proofs.RuleSteps.{read_whole, read_stops}
 use Rattle.ds2_parse_declarations.proofs.outputs.kept_option.Goals as goal
 

@@ -1,5 +1,5 @@
 use Rattle.ds2_parse_rules.specs.UnitGrammar.{overwrite_rule, option_of_kind}
-use Rattle.ds2_grammar.specs.Parsers.{One, Two}
+use Rattle.ds2_tree.specs.Parsers.{One, Two}
 use Rattle.ds2_parse_rules.proofs.RuleSteps.{read_whole, read_stops}
 use Rattle.ds2_parse_declarations.proofs.outputs.overwrite.Goals as goal
 

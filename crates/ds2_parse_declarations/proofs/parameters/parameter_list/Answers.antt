@@ -1,6 +1,6 @@
 use Rattle.std.proofs.Common.{◌++◌, ◌∷◌, [], sym, ap, ◌∙◌, subst, arith}
-use Rattle.ds2_grammar.specs.Parsers.{to, many_of}
-use Rattle.ds2_grammar.specs.Promise.{Gives}
+use Rattle.ds2_tree.specs.Parsers.{to, many_of}
+use Rattle.ds2_tree.specs.Promise.{Gives}
 use Rattle.ds2_parse_rules.specs.GrammarTokens.{is_comma_mark, comma_list}
 use Rattle.ds2_parse_rules.specs.GlobalGrammar.{begins_parameter, parameter_rule, parameter_behind}
 use Rattle.ds2_parse_declarations.specs.UnitParts.{behind_comma}

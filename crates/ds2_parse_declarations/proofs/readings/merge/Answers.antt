@@ -1,5 +1,5 @@
 use Rattle.ds2_parse_rules.specs.ReadingGrammar.{merge_rule, reading_of_kind}
-use Rattle.ds2_grammar.specs.Parsers.{Two}
+use Rattle.ds2_tree.specs.Parsers.{Two}
 use Rattle.ds2_parse_rules.proofs.RuleSteps.{read_whole, read_stops}
 use Rattle.ds2_parse_declarations.proofs.readings.merge.Goals as goal
 

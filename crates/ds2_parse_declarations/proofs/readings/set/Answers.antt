@@ -1,6 +1,6 @@
 use Rattle.std.proofs.Common.{◌≡◌, codes, refl, sym, ◌∙◌, subst, arith}
-use Rattle.ds2_grammar.specs.Parsers.{One, Two, to, seq, choose_by}
-use Rattle.ds2_grammar.specs.Promise.{Gives}
+use Rattle.ds2_tree.specs.Parsers.{One, Two, to, seq, choose_by}
+use Rattle.ds2_tree.specs.Promise.{Gives}
 use Rattle.ds2_parse_rules.specs.GrammarTokens.{word_rule, starts}
 use Rattle.ds2_parse_rules.specs.ReadingGrammar.{set_from_rule, set_tables_rule, reading_of_kind}
 use Rattle.ds2_parse_rules.proofs.RuleSteps.{held, taken, on_read, on_yes, on_no}

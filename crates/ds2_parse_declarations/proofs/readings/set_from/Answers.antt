@@ -1,5 +1,5 @@
 use Rattle.ds2_parse_rules.specs.ReadingGrammar.{set_from_rule, reading_of_kind}
-use Rattle.ds2_grammar.specs.Parsers.{One}
+use Rattle.ds2_tree.specs.Parsers.{One}
 use Rattle.ds2_parse_rules.proofs.RuleSteps.{read_whole, read_stops}
 use Rattle.ds2_parse_declarations.proofs.readings.set_from.Goals as goal
 

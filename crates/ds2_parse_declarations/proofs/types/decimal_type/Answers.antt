@@ -1,6 +1,6 @@
 use Rattle.std.proofs.Common.{length, suc, arith}
 use Rattle.ds2_parse_rules.specs.GlobalGrammar.{decimal_type_rule, type_of_kind}
-use Rattle.ds2_grammar.specs.Parsers.{One, Two}
+use Rattle.ds2_tree.specs.Parsers.{One, Two}
 use Rattle.ds2_parse_rules.proofs.RuleSteps.{read_whole, read_stops}
 use Rattle.ds2_parse_declarations.proofs.types.decimal_type.Goals as goal
 

@@ -1,5 +1,5 @@
 use Rattle.std.proofs.Common.{◌++◌, sym, ◌∙◌, arith}
-use Rattle.ds2_grammar.specs.Parsers.{to, many_of}
+use Rattle.ds2_tree.specs.Parsers.{to, many_of}
 use Rattle.ds2_parse_rules.proofs.RuleSteps.{exit}
 use Rattle.ds2_parse_rules.proofs.PartSteps.{item_found, item_stops, no_item}
 use Rattle.ds2_parse_rules.proofs.rules.further_of.Goals as goal

@@ -1,5 +1,5 @@
 use Rattle.std.proofs.Common.{◌≡◌, ◌++◌, length, ◌≤◌, ◌<◌, ℕ}
-use Rattle.ds2_grammar.specs.Parsers.{to, many_of}
+use Rattle.ds2_tree.specs.Parsers.{to, many_of}
 use Rattle.ds2_parse_rules.proofs.rules.further_of.Given as goal
 
 -- some turns are left, more than tokens, and they give what the whole gives

@@ -1,6 +1,6 @@
 use Rattle.std.proofs.Common.{sym, subst}
-use Rattle.ds2_grammar.specs.Parsers.{many_of}
-use Rattle.ds2_grammar.specs.Promise.{Gives}
+use Rattle.ds2_tree.specs.Parsers.{many_of}
+use Rattle.ds2_tree.specs.Promise.{Gives}
 use Rattle.ds2_parse_rules.proofs.PartSteps.{nothing_found}
 use Rattle.ds2_parse_rules.proofs.rules.items_of.Goals as goal
 

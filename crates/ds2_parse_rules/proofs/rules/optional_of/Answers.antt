@@ -1,5 +1,5 @@
 use Rattle.std.proofs.Common.{sym, ◌∙◌}
-use Rattle.ds2_grammar.specs.Parsers.{optional}
+use Rattle.ds2_tree.specs.Parsers.{optional}
 use Rattle.ds2_parse_rules.proofs.RuleSteps.{exit}
 use Rattle.ds2_parse_rules.proofs.PartSteps.{optional_stops, optional_read, optional_absent}
 use Rattle.ds2_parse_rules.proofs.rules.optional_of.Goals as goal

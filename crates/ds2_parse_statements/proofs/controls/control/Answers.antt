@@ -1,5 +1,5 @@
 use Rattle.std.proofs.Common.{length, sym, ap, subst, arith}
-use Rattle.ds2_grammar.specs.Promise.{Gives}
+use Rattle.ds2_tree.specs.Promise.{Gives}
 use Rattle.ds2_tree.specs.StatementViews.{control_tree}
 use Rattle.ds2_parse_rules.specs.ExpressionGrammar.{expression}
 use Rattle.ds2_parse_statements.proofs.ControlSteps.{control_counted, control_tested}

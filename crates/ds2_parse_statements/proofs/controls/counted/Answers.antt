@@ -1,6 +1,6 @@
 use Rattle.std.proofs.Common.{codes, sym, ap, ◌∙◌, arith}
 use Rattle.std.specs.Option.{option_map}
-use Rattle.ds2_grammar.specs.Parsers.{Read, to}
+use Rattle.ds2_tree.specs.Parsers.{Read, to}
 use Rattle.ds2_tree.specs.Statements.{Counted}
 use Rattle.ds2_tree.specs.ExpressionViews.{expression_tree}
 use Rattle.ds2_tree.specs.StatementViews.{counted_tree, control_tree}

@@ -1,6 +1,6 @@
 use Rattle.std.proofs.Common.{codes, Some, sym, ap, ◌∙◌, arith}
 use Rattle.std.specs.Option.{option_map}
-use Rattle.ds2_grammar.specs.Parsers.{Read, first, seq, optional}
+use Rattle.ds2_tree.specs.Parsers.{Read, first, seq, optional}
 use Rattle.ds2_tree.specs.ExpressionViews.{expression_tree}
 use Rattle.ds2_parse_rules.specs.GrammarTokens.{mark_rule, is_open_mark, enclosed}
 use Rattle.ds2_parse_rules.specs.ExpressionGrammar.{expression}

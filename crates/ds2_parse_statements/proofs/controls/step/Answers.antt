@@ -1,6 +1,6 @@
 use Rattle.std.proofs.Common.{codes, Some, sym, ◌∙◌, arith}
 use Rattle.std.specs.Option.{option_map}
-use Rattle.ds2_grammar.specs.Parsers.{seq}
+use Rattle.ds2_tree.specs.Parsers.{seq}
 use Rattle.ds2_tree.specs.ExpressionViews.{expression_tree}
 use Rattle.ds2_parse_rules.specs.GrammarTokens.{word_rule, starts}
 use Rattle.ds2_parse_rules.specs.ExpressionGrammar.{expression}

@@ -1,5 +1,5 @@
 use Rattle.std.proofs.Common.{codes, sym, ap, ◌∙◌, arith}
-use Rattle.ds2_grammar.specs.Parsers.{Read, to}
+use Rattle.ds2_tree.specs.Parsers.{Read, to}
 use Rattle.ds2_tree.specs.Statements.{Tested}
 use Rattle.ds2_tree.specs.ExpressionViews.{expression_tree}
 use Rattle.ds2_tree.specs.StatementViews.{tested_tree, control_tree}

@@ -1,8 +1,8 @@
 use Rattle.std.proofs.Common.{◌++◌, [], ◌∷◌, length, map, codes, None, refl, sym, ap, ◌∙◌, subst, arith}
 use Rattle.std.proofs.lemmas.List.{append-nil}
 use Rattle.std.specs.Option.{option_map}
-use Rattle.ds2_grammar.specs.Parsers.{Read, first, and_then, pure, to, seq, many_of, optional}
-use Rattle.ds2_grammar.specs.Promise.{Gives}
+use Rattle.ds2_tree.specs.Parsers.{Read, first, and_then, pure, to, seq, many_of, optional}
+use Rattle.ds2_tree.specs.Promise.{Gives}
 use Rattle.ds2_tree.specs.declared.expressions.Argument as code_argument
 use Rattle.ds2_tree.specs.declared.expressions.ChainKind.TheVariants.{Concatenation}
 use Rattle.ds2_tree.specs.Expressions.{Parenthesis, is_operator}

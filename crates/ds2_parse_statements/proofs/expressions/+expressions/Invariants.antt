@@ -1,5 +1,5 @@
 use Rattle.std.proofs.Common.{◌≡◌, ◌++◌, length, map, ◌+◌, ◌*◌, ◌≤◌, ◌<◌, ℕ, codes}
-use Rattle.ds2_grammar.specs.Parsers.{and_then, pure, seq, many_of}
+use Rattle.ds2_tree.specs.Parsers.{and_then, pure, seq, many_of}
 use Rattle.ds2_tree.specs.declared.expressions.ChainKind.{ChainKind}
 use Rattle.ds2_tree.specs.declared.expressions.ChainKind.TheVariants.{Or, And, Concatenation, Sum, Product}
 use Rattle.ds2_tree.specs.Expressions.{is_operator}

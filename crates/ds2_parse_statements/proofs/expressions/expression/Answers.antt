@@ -1,5 +1,5 @@
 use Rattle.std.proofs.Common.{sym, subst}
-use Rattle.ds2_grammar.specs.Promise.{Gives}
+use Rattle.ds2_tree.specs.Promise.{Gives}
 use Rattle.ds2_tree.specs.ExpressionViews.{expression_tree}
 use Rattle.ds2_parse_statements.proofs.ExpressionSteps.{expression_at}
 use Rattle.ds2_parse_statements.proofs.StatementPromises.{expression_promise}

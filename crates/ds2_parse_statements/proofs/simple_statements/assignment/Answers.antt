@@ -1,5 +1,5 @@
 use Rattle.std.proofs.Common.{codes, arith}
-use Rattle.ds2_grammar.specs.Parsers.{to, seq}
+use Rattle.ds2_tree.specs.Parsers.{to, seq}
 use Rattle.ds2_tree.specs.Statements.{Assignment}
 use Rattle.ds2_tree.specs.ExpressionViews.{expression_tree}
 use Rattle.ds2_tree.specs.StatementViews.{statement_tree}

@@ -1,5 +1,5 @@
 use Rattle.std.proofs.Common.{codes}
-use Rattle.ds2_grammar.specs.Parsers.{to}
+use Rattle.ds2_tree.specs.Parsers.{to}
 use Rattle.ds2_tree.specs.Statements.{Continue}
 use Rattle.ds2_tree.specs.StatementViews.{statement_tree}
 use Rattle.ds2_parse_rules.specs.GrammarTokens.{mark_rule, word_rule}

@@ -1,5 +1,5 @@
 use Rattle.std.proofs.Common.{codes, sym, ap, ◌∙◌}
-use Rattle.ds2_grammar.specs.Parsers.{Read, to, seq}
+use Rattle.ds2_tree.specs.Parsers.{Read, to, seq}
 use Rattle.ds2_tree.specs.Statements.{Call}
 use Rattle.ds2_tree.specs.StatementViews.{statement_tree}
 use Rattle.ds2_parse_rules.specs.GrammarTokens.{mark_rule}

@@ -1,5 +1,5 @@
 use Rattle.std.proofs.Common.{sym, subst}
-use Rattle.ds2_grammar.specs.Promise.{Gives}
+use Rattle.ds2_tree.specs.Promise.{Gives}
 use Rattle.ds2_parse_rules.specs.StatementGrammar.{item_rule}
 use Rattle.ds2_parse_rules.proofs.RuleSteps.{exit}
 use Rattle.ds2_parse_statements.proofs.SimpleSteps.{item_name_stops, item_text, item_named}

@@ -1,6 +1,6 @@
 use Rattle.std.proofs.Common.{◌++◌, sym, ap, ◌∙◌, arith}
 use Rattle.std.proofs.lemmas.List.{append-nil}
-use Rattle.ds2_grammar.specs.Parsers.{Read, many_of}
+use Rattle.ds2_tree.specs.Parsers.{Read, many_of}
 use Rattle.ds2_parse_rules.specs.StatementGrammar.{begins_item, item_rule}
 use Rattle.ds2_parse_rules.proofs.RuleSteps.{exit, loop_step, loop_fails, loop_ends, none_yet}
 use Rattle.ds2_parse_statements.proofs.SimpleSteps.{item_grown}

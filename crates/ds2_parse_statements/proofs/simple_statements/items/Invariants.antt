@@ -1,5 +1,5 @@
 use Rattle.std.proofs.Common.{◌≡◌, ◌++◌, ◌≤◌, ◌<◌, ℕ, length}
-use Rattle.ds2_grammar.specs.Parsers.{and_then, pure, many_of}
+use Rattle.ds2_tree.specs.Parsers.{and_then, pure, many_of}
 use Rattle.ds2_parse_rules.specs.StatementGrammar.{begins_item, item_rule}
 use Rattle.ds2_parse_statements.proofs.simple_statements.items.Given as goal
 

@@ -1,4 +1,4 @@
-use Rattle.ds2_grammar.specs.Parsers.{to}
+use Rattle.ds2_tree.specs.Parsers.{to}
 use Rattle.ds2_parse_rules.specs.StatementGrammar.{item_tail, named_item}
 use Rattle.ds2_parse_rules.proofs.RuleSteps.{exit}
 use Rattle.ds2_parse_statements.proofs.SimpleSteps.{member_stops, item_member, item_equals}

@@ -1,6 +1,6 @@
 use Rattle.std.proofs.Common.{codes, sym, subst, arith}
-use Rattle.ds2_grammar.specs.Parsers.{seq}
-use Rattle.ds2_grammar.specs.Promise.{Gives}
+use Rattle.ds2_tree.specs.Parsers.{seq}
+use Rattle.ds2_tree.specs.Promise.{Gives}
 use Rattle.ds2_tree.specs.Statements.{Call}
 use Rattle.ds2_tree.specs.StatementViews.{statement_tree}
 use Rattle.ds2_parse_rules.specs.GrammarTokens.{mark_rule, word_rule}

@@ -1,6 +1,6 @@
 use Rattle.std.proofs.Common.{sym, ◌∙◌}
 use Rattle.std.specs.Option.{option_map}
-use Rattle.ds2_grammar.specs.Parsers.{optional}
+use Rattle.ds2_tree.specs.Parsers.{optional}
 use Rattle.ds2_tree.specs.ExpressionViews.{expression_tree}
 use Rattle.ds2_parse_rules.specs.ExpressionGrammar.{begins_expression, expression}
 use Rattle.ds2_parse_rules.proofs.RuleSteps.{exit}

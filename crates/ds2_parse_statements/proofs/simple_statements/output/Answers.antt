@@ -1,5 +1,5 @@
 use Rattle.std.proofs.Common.{codes, arith}
-use Rattle.ds2_grammar.specs.Parsers.{to, seq, many_of, kept}
+use Rattle.ds2_tree.specs.Parsers.{to, seq, many_of, kept}
 use Rattle.ds2_token.specs.Words.{is_table}
 use Rattle.ds2_tree.specs.Statements.{Output}
 use Rattle.ds2_tree.specs.StatementViews.{statement_tree}

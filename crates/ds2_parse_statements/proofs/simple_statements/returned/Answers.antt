@@ -1,6 +1,6 @@
 use Rattle.std.proofs.Common.{codes, arith}
 use Rattle.std.specs.Option.{option_map}
-use Rattle.ds2_grammar.specs.Parsers.{to, seq, optional}
+use Rattle.ds2_tree.specs.Parsers.{to, seq, optional}
 use Rattle.ds2_tree.specs.Statements.{Return}
 use Rattle.ds2_tree.specs.ExpressionViews.{expression_tree}
 use Rattle.ds2_tree.specs.StatementViews.{statement_tree}

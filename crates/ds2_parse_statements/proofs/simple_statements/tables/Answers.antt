@@ -1,6 +1,6 @@
 use Rattle.std.proofs.Common.{◌++◌, length, ap, ◌∙◌, arith}
 use Rattle.std.proofs.lemmas.List.{append-nil}
-use Rattle.ds2_grammar.specs.Parsers.{Read, many_of, kept}
+use Rattle.ds2_tree.specs.Parsers.{Read, many_of, kept}
 use Rattle.ds2_token.specs.Words.{is_table}
 use Rattle.ds2_parse_rules.proofs.RuleSteps.{loop_step, loop_ends, none_yet}
 use Rattle.ds2_parse_rules.proofs.FrontSteps.{fronted_when, kept_read}

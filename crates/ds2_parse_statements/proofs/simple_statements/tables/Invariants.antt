@@ -1,5 +1,5 @@
 use Rattle.std.proofs.Common.{◌≡◌, ◌++◌, ◌≤◌, ◌<◌, ℕ, length}
-use Rattle.ds2_grammar.specs.Parsers.{and_then, pure, many_of, kept}
+use Rattle.ds2_tree.specs.Parsers.{and_then, pure, many_of, kept}
 use Rattle.ds2_token.specs.Words.{is_table}
 use Rattle.ds2_parse_statements.proofs.simple_statements.tables.Given as goal
 

@@ -1,8 +1,8 @@
 use Rattle.std.proofs.Common.{◌++◌, [], ◌∷◌, length, codes, None, Some, sym, ap, ◌∙◌, subst, arith, map}
 use Rattle.std.proofs.lemmas.List.{append-nil}
 use Rattle.std.specs.Option.{option_map}
-use Rattle.ds2_grammar.specs.Parsers.{Read, and_then, pure, to, seq, many_of, optional}
-use Rattle.ds2_grammar.specs.Promise.{Gives}
+use Rattle.ds2_tree.specs.Parsers.{Read, and_then, pure, to, seq, many_of, optional}
+use Rattle.ds2_tree.specs.Promise.{Gives}
 use Rattle.ds2_tree.specs.Statements.{Select, When, NoWhen}
 use Rattle.ds2_tree.specs.ExpressionViews.{expression_tree, arguments_of}
 use Rattle.ds2_tree.specs.StatementViews.{statement_tree, if_else, control_tree, whens_of, others_of, otherwise_tree}
@@ -15,14 +15,14 @@ use Rattle.ds2_parse_statements.specs.StatementParts.{within_rule, arm_rule, els
 use Rattle.ds2_parse_statements.proofs.ControlSteps.{optional_stops, optional_read}
 use Rattle.ds2_parse_statements.proofs.StraightSteps.{stops_2_of_4, stops_3_of_4, stops_4_of_4, stops_2_of_5, stops_3_of_5, stops_4_of_5, stops_5_of_5, stops_2_of_6, stops_3_of_6, stops_4_of_6, stops_5_of_6, stops_6_of_6, read_4, read_5, read_6}
 use Rattle.ds2_parse_statements.proofs.StatementSteps.{starts_is, statement_is, if_begins, if_stops, others_and, whens_grown, whens_all, was_read, stopped_under, with_semicolon, with_name, with_null, with_leave, with_continue, with_later, with_return, with_output, with_put, with_if, with_select, with_do}
-use Rattle.ds2_grammar.specs.Parsers.{chain}
+use Rattle.ds2_tree.specs.Parsers.{chain}
 use Rattle.ds2_tree.specs.Expressions.{Argument}
 use Rattle.ds2_parse_statements.specs.StatementParts.{ArmTree}
 use Rattle.ds2_parse_rules.specs.StatementGrammar.{WhenTree}
 use Rattle.ds2_parse_rules.proofs.RuleSteps.{plain_outcome}
 use Rattle.ds2_parse_statements.proofs.StatementSteps.{conditional_stops, conditional_read, mapped_grown}
-use Rattle.ds2_grammar.specs.Promise.{Fails}
-use Rattle.ds2_grammar.specs.Parsers.{Parser}
+use Rattle.ds2_tree.specs.Promise.{Fails}
+use Rattle.ds2_tree.specs.Parsers.{Parser}
 use Rattle.ds2_tree.specs.Statements.{Statement, Otherwise'}
 use Rattle.ds2_tree.specs.declared.statements.ElseIf as code_else_if
 use Rattle.ds2_token.specs.declared.token.Token.{Token}

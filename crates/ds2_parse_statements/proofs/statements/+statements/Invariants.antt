@@ -1,5 +1,5 @@
 use Rattle.std.proofs.Common.{◌≡◌, ◌++◌, length, map, ◌+◌, ◌*◌, ◌≤◌, ◌<◌, ℕ, codes}
-use Rattle.ds2_grammar.specs.Parsers.{and_then, pure, to, many_of}
+use Rattle.ds2_tree.specs.Parsers.{and_then, pure, to, many_of}
 use Rattle.ds2_tree.specs.StatementViews.{statement_tree, whens_of}
 use Rattle.ds2_parse_rules.specs.GrammarTokens.{starts}
 use Rattle.ds2_parse_rules.specs.ExpressionGrammar.{expression}

@@ -2,7 +2,7 @@ use Rattle.std.proofs.Common.{codes}
 use Rattle.ds2_token.specs.Words.{is_name_token}
 use Rattle.ds2_parse_rules.specs.GrammarTokens.{mark_rule, is_comma_mark}
 use Rattle.ds2_parse_rules.specs.GlobalGrammar.{bracketed_name_of}
-use Rattle.ds2_grammar.specs.Parsers.{kept, seq, optional}
+use Rattle.ds2_tree.specs.Parsers.{kept, seq, optional}
 use Rattle.ds2_parse_rules.proofs.RuleSteps.{read_whole, read_stops}
 use Rattle.ds2_parse_declarations.proofs.declarations.BracketedNameRuleRule.read.Goals as goal
 

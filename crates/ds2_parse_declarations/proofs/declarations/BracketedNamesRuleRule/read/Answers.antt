@@ -1,6 +1,6 @@
 use Rattle.std.proofs.Common.{◌≡◌, ◌++◌, ◌∷◌, [], None, sym, ap, ◌∙◌, subst, arith}
-use Rattle.ds2_grammar.specs.Parsers.{kept, to, seq, many_of}
-use Rattle.ds2_grammar.specs.Promise.{Fails, Gives}
+use Rattle.ds2_tree.specs.Parsers.{kept, to, seq, many_of}
+use Rattle.ds2_tree.specs.Promise.{Fails, Gives}
 use Rattle.ds2_token.specs.Words.{is_name_token}
 use Rattle.ds2_parse_rules.specs.GlobalGrammar.{begins_bracketed_name, bracketed_name_of, bracketed_name_rule, bracketed_names_of}
 use Rattle.ds2_parse_rules.proofs.RuleSteps.{exit, held, taken, on_read, on_stop}

@@ -1,7 +1,7 @@
 use Rattle.std.proofs.Common.{codes}
 use Rattle.ds2_parse_rules.specs.GrammarTokens.{mark_rule}
 use Rattle.ds2_parse_rules.specs.GlobalGrammar.{bracketed_of, bracketed_names_rule}
-use Rattle.ds2_grammar.specs.Parsers.{seq}
+use Rattle.ds2_tree.specs.Parsers.{seq}
 use Rattle.ds2_parse_rules.proofs.RuleSteps.{read_whole, read_stops}
 use Rattle.ds2_parse_declarations.proofs.declarations.BracketedRuleRule.read.Goals as goal
 

@@ -1,6 +1,6 @@
 use Rattle.std.proofs.Common.{◌≡◌, codes, refl, arith}
-use Rattle.ds2_grammar.specs.Parsers.{Read, to, seq}
-use Rattle.ds2_grammar.specs.Promise.{Fails}
+use Rattle.ds2_tree.specs.Parsers.{Read, to, seq}
+use Rattle.ds2_tree.specs.Promise.{Fails}
 use Rattle.ds2_parse_rules.specs.GrammarTokens.{mark_rule, comma_list}
 use Rattle.ds2_parse_rules.specs.GlobalGrammar.{constant_rule, constant_behind, constant_list_of, begins_constant}
 use Rattle.ds2_parse_rules.proofs.RuleSteps.{exit, held, on_read, on_stop, on_last, on_last_stop}

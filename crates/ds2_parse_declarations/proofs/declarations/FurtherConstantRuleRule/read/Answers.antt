@@ -1,6 +1,6 @@
 use Rattle.std.proofs.Common.{◌≡◌, codes, Option, Some, refl, sym, subst}
-use Rattle.ds2_grammar.specs.Parsers.{to, seq}
-use Rattle.ds2_grammar.specs.Promise.{Gives}
+use Rattle.ds2_tree.specs.Parsers.{to, seq}
+use Rattle.ds2_tree.specs.Promise.{Gives}
 use Rattle.ds2_parse_rules.specs.GrammarTokens.{mark_rule}
 use Rattle.ds2_base.specs.declared.place.Place.{Place}
 use Rattle.ds2_token.specs.declared.token.Token.{Token}

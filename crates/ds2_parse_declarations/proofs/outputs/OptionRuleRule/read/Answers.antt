@@ -1,6 +1,6 @@
 use Rattle.std.proofs.Common.{◌≡◌, codes, refl, sym, ◌∙◌, subst}
-use Rattle.ds2_grammar.specs.Parsers.{One, Two, to, choose_by}
-use Rattle.ds2_grammar.specs.Promise.{Gives}
+use Rattle.ds2_tree.specs.Parsers.{One, Two, to, choose_by}
+use Rattle.ds2_tree.specs.Promise.{Gives}
 use Rattle.ds2_tree.specs.Units.{is_kept_or_dropped}
 use Rattle.ds2_parse_rules.specs.GrammarTokens.{starts}
 use Rattle.ds2_parse_rules.specs.UnitGrammar.{kept_option_rule, overwrite_rule, rename_rule, option_of_kind}

@@ -1,7 +1,7 @@
 use Rattle.std.proofs.Common.{codes}
 use Rattle.ds2_parse_rules.specs.GrammarTokens.{mark_rule}
 use Rattle.ds2_parse_rules.specs.UnitGrammar.{options_read, option_rule, begins_option}
-use Rattle.ds2_grammar.specs.Parsers.{seq, many_of}
+use Rattle.ds2_tree.specs.Parsers.{seq, many_of}
 use Rattle.ds2_parse_rules.proofs.RuleSteps.{read_whole, read_stops}
 use Rattle.ds2_parse_declarations.proofs.outputs.OptionsRuleRule.read.Goals as goal
 

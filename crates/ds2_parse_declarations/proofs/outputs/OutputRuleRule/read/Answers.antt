@@ -1,7 +1,7 @@
 use Rattle.ds2_token.specs.Words.{is_table}
 use Rattle.ds2_parse_rules.specs.GrammarTokens.{is_open_mark}
 use Rattle.ds2_parse_rules.specs.UnitGrammar.{options_rule, output_read}
-use Rattle.ds2_grammar.specs.Parsers.{kept, seq, optional}
+use Rattle.ds2_tree.specs.Parsers.{kept, seq, optional}
 use Rattle.ds2_parse_rules.proofs.RuleSteps.{read_whole, read_stops}
 use Rattle.ds2_parse_declarations.proofs.outputs.OutputRuleRule.read.Goals as goal
 

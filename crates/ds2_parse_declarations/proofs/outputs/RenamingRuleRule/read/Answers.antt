@@ -2,7 +2,7 @@ use Rattle.std.proofs.Common.{codes}
 use Rattle.ds2_token.specs.Words.{is_name_token}
 use Rattle.ds2_parse_rules.specs.GrammarTokens.{mark_rule}
 use Rattle.ds2_parse_rules.specs.UnitGrammar.{renaming_of}
-use Rattle.ds2_grammar.specs.Parsers.{kept, seq}
+use Rattle.ds2_tree.specs.Parsers.{kept, seq}
 use Rattle.ds2_parse_rules.proofs.RuleSteps.{read_whole, read_stops}
 use Rattle.ds2_parse_declarations.proofs.outputs.RenamingRuleRule.read.Goals as goal
 

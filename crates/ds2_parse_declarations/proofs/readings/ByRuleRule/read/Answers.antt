@@ -1,7 +1,7 @@
 use Rattle.std.proofs.Common.{codes}
 use Rattle.ds2_parse_rules.specs.GrammarTokens.{mark_rule, word_rule, one_or_more}
 use Rattle.ds2_parse_rules.specs.ReadingGrammar.{begins_by_variable, by_variable_rule, by_of}
-use Rattle.ds2_grammar.specs.Parsers.{seq}
+use Rattle.ds2_tree.specs.Parsers.{seq}
 use Rattle.ds2_parse_rules.proofs.RuleSteps.{read_whole, read_stops}
 use Rattle.ds2_parse_declarations.proofs.readings.ByRuleRule.read.Goals as goal
 

@@ -1,6 +1,6 @@
 use Rattle.std.proofs.Common.{◌≡◌, codes, refl, sym, ◌∙◌, subst, arith}
-use Rattle.ds2_grammar.specs.Parsers.{One, Two, to, choose_by}
-use Rattle.ds2_grammar.specs.Promise.{Gives}
+use Rattle.ds2_tree.specs.Parsers.{One, Two, to, choose_by}
+use Rattle.ds2_tree.specs.Promise.{Gives}
 use Rattle.ds2_parse_rules.specs.GrammarTokens.{starts}
 use Rattle.ds2_parse_rules.specs.ReadingGrammar.{merge_rule, reading_of_kind, set_rule}
 use Rattle.ds2_parse_rules.proofs.RuleSteps.{held, taken, on_yes, on_no}

@@ -2,7 +2,7 @@ use Rattle.std.proofs.Common.{codes}
 use Rattle.ds2_token.specs.Words.{is_integer}
 use Rattle.ds2_parse_rules.specs.GrammarTokens.{mark_rule, word_rule}
 use Rattle.ds2_parse_rules.specs.ReadingGrammar.{threads_of}
-use Rattle.ds2_grammar.specs.Parsers.{kept, seq}
+use Rattle.ds2_tree.specs.Parsers.{kept, seq}
 use Rattle.ds2_parse_rules.proofs.RuleSteps.{read_whole, read_stops}
 use Rattle.ds2_parse_declarations.proofs.readings.ThreadsRuleRule.read.Goals as goal
 

@@ -1,6 +1,6 @@
 use Rattle.std.proofs.Common.{◌≡◌, codes, refl, sym, ◌∙◌, subst}
-use Rattle.ds2_grammar.specs.Parsers.{One, Two, to, choose_by}
-use Rattle.ds2_grammar.specs.Promise.{Gives}
+use Rattle.ds2_tree.specs.Parsers.{One, Two, to, choose_by}
+use Rattle.ds2_tree.specs.Promise.{Gives}
 use Rattle.ds2_tree.specs.Globals.{is_decimal_keyword}
 use Rattle.ds2_parse_rules.specs.GrammarTokens.{word_rule, starts}
 use Rattle.ds2_parse_rules.specs.GlobalGrammar.{decimal_type_rule, text_type_rule, type_of_kind}

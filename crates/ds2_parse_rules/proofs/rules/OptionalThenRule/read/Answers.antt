@@ -1,6 +1,6 @@
 use Rattle.std.proofs.Common.{◌≡◌, refl, arith}
-use Rattle.ds2_grammar.specs.Parsers.{Read, seq, optional}
-use Rattle.ds2_grammar.specs.Promise.{Fails}
+use Rattle.ds2_tree.specs.Parsers.{Read, seq, optional}
+use Rattle.ds2_tree.specs.Promise.{Fails}
 use Rattle.ds2_parse_rules.proofs.RuleSteps.{exit, plainly, on_read, on_stop, on_last, on_last_stop}
 use Rattle.ds2_parse_rules.proofs.rules.OptionalThenRule.read.Goals as goal
 

@@ -1,6 +1,6 @@
 use Rattle.std.proofs.Common.{◌≡◌, ◌++◌, [], ◌∷◌, refl, sym, ap, ◌∙◌, subst, arith}
-use Rattle.ds2_grammar.specs.Parsers.{to, seq, many_of}
-use Rattle.ds2_grammar.specs.Promise.{Gives, Fails}
+use Rattle.ds2_tree.specs.Parsers.{to, seq, many_of}
+use Rattle.ds2_tree.specs.Promise.{Gives, Fails}
 use Rattle.ds2_parse_rules.proofs.RuleSteps.{exit, held, taken, on_read, on_stop}
 use Rattle.ds2_parse_rules.proofs.rules.SomeOfRule.read.Goals as goal
 

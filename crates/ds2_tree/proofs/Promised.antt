@@ -6,14 +6,14 @@ use Rattle.ds2_base.specs.declared.stop.Stop.TheVariants as stop
 use Rattle.ds2_token.specs.declared.token.Token.{Token}
 use Rattle.ds2_base.specs.declared.place.Place.{Place}
 use Rattle.ds2_base.specs.declared.place.Refusal.{Refusal}
-use Rattle.ds2_grammar.specs.declared.kind.ParseKind.{ParseKind}
-use Rattle.ds2_grammar.specs.declared.kind.ParseKind.TheVariants as kind
-use Rattle.ds2_grammar.specs.Parsers.{ParserOutcome, Read, Unexpected, TooDeep, Spent, Parser, first}
-use Rattle.ds2_grammar.specs.Acceptance.{Symbol, OpensInAll, Answers}
-use Rattle.ds2_grammar.specs.Promise.{EndsThere, Promises, Gives, IsRefusedAs, RefusedAt, Said, SaysOfText}
-use Rattle.ds2_grammar.proofs.Goes.{goes, goes_deep}
-use Rattle.ds2_grammar.proofs.Rules.{Sym, Rule}
-use Rattle.ds2_grammar.proofs.Steady.{Alike, Moves}
+use Rattle.ds2_tree.specs.declared.kind.ParseKind.{ParseKind}
+use Rattle.ds2_tree.specs.declared.kind.ParseKind.TheVariants as kind
+use Rattle.ds2_tree.specs.Parsers.{ParserOutcome, Read, Unexpected, TooDeep, Spent, Parser, first}
+use Rattle.ds2_tree.specs.Acceptance.{Symbol, OpensInAll, Answers}
+use Rattle.ds2_tree.specs.Promise.{EndsThere, Promises, Gives, IsRefusedAs, RefusedAt, Said, SaysOfText}
+use Rattle.ds2_tree.proofs.Goes.{goes, goes_deep}
+use Rattle.ds2_tree.proofs.Rules.{Sym, Rule}
+use Rattle.ds2_tree.proofs.Steady.{Alike, Moves}
 
 abbrev EndsText : {A : Type 0} → ParserOutcome A → Type 0
 EndsText (Read x []) = Unit {0}

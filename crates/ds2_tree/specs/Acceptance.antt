@@ -1,7 +1,7 @@
 -- What parsing says of the tokens, in terms of spellings alone.
 use Rattle.std.specs.Prelude.{◌≡◌, ℕ, List, [], ◌∷◌, ◌++◌, Option, Some, None}
 use Rattle.ds2_token.specs.declared.token.Token.{Token}
-use Rattle.ds2_grammar.specs.Parsers.{ParserOutcome, Read, Unexpected, TooDeep, Spent}
+use Rattle.ds2_tree.specs.Parsers.{ParserOutcome, Read, Unexpected, TooDeep, Spent}
 
 -- a symbol of the grammar: its spelling, its well-levelled trees, and the tokens from the first one on that opens more than n levels
 pub record Symbol (A : Type 0) : Type 1 where

@@ -3,10 +3,10 @@ use Rattle.std.proofs.Common.{if◌then◌else◌, true≢false, ◌≡◌, ℕ,
 use Rattle.std.proofs.lemmas.List.{append-nil}
 use Rattle.std.proofs.lemmas.Option.{none-some}
 use Rattle.ds2_token.specs.declared.token.Token.{Token}
-use Rattle.ds2_grammar.specs.Parsers.{ParserOutcome, Read, Unexpected, TooDeep, Spent, Parser, Either, One, Two, and_then, ◌>>>◌, pure, unexpected, too_deep, first, token_value, one, passing, kept, when, either, choose_by, to, seq, many_of, optional, chain, closed}
-use Rattle.ds2_grammar.specs.Levels.{first_opened}
-use Rattle.ds2_grammar.proofs.Goes.{goes, part, last, none_both}
-use Rattle.ds2_grammar.proofs.Rules.{Sym, Goes, Rule, shift, no_rule}
+use Rattle.ds2_tree.specs.Parsers.{ParserOutcome, Read, Unexpected, TooDeep, Spent, Parser, Either, One, Two, and_then, ◌>>>◌, pure, unexpected, too_deep, first, token_value, one, passing, kept, when, either, choose_by, to, seq, many_of, optional, chain, closed}
+use Rattle.ds2_tree.specs.Levels.{first_opened}
+use Rattle.ds2_tree.proofs.Goes.{goes, part, last, none_both}
+use Rattle.ds2_tree.proofs.Rules.{Sym, Goes, Rule, shift, no_rule}
 
 abbrev some_or : {A : Type 0} → A → Option A → A
 some_or d (Some a) = a

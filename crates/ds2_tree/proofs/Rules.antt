@@ -2,7 +2,7 @@
 use Rattle.std.proofs.Common.{◌≡◌, ℕ, ◌+◌, ◌≤◌, List, [], ◌∷◌, ◌++◌, length, refl, sym, ap, ◌∙◌, arith, append_assoc, length-append}
 use Rattle.std.proofs.lemmas.List.{append-nil}
 use Rattle.ds2_token.specs.declared.token.Token.{Token}
-use Rattle.ds2_grammar.specs.Parsers.{ParserOutcome, Read, Unexpected, TooDeep, Spent, Parser, and_then}
+use Rattle.ds2_tree.specs.Parsers.{ParserOutcome, Read, Unexpected, TooDeep, Spent, Parser, and_then}
 
 -- a symbol of the grammar: its spelling, its well-levelled trees, and which of these are read before a rest
 pub record Sym (A : Type 0) : Type 1 where

@@ -2,11 +2,11 @@
 use Rattle.std.proofs.Common.{◌≡◌, ℕ, suc, ◌+◌, ◌≤◌, List, [], ◌∷◌, ◌++◌, length, Some, None, refl, sym, ap, ◌∙◌, subst, arith, append_assoc, ◌⊎◌, inl, inr}
 use Rattle.std.proofs.lemmas.List.{append-nil, append_cancel_right}
 use Rattle.ds2_token.specs.declared.token.Token.{Token}
-use Rattle.ds2_grammar.specs.Parsers.{ParserOutcome, Read, Unexpected, TooDeep, Spent, Parser, first}
-use Rattle.ds2_grammar.specs.Acceptance.{Symbol, Begins, EndsAll, UnexpectedAt, OpensInAll, TooDeepAt, Answers, Exactly}
-use Rattle.ds2_grammar.proofs.Goes.{goes, goes_deep, goes_at}
-use Rattle.ds2_grammar.proofs.Rules.{Sym, Rule}
-use Rattle.ds2_grammar.proofs.Steady.{Moves, Steady}
+use Rattle.ds2_tree.specs.Parsers.{ParserOutcome, Read, Unexpected, TooDeep, Spent, Parser, first}
+use Rattle.ds2_tree.specs.Acceptance.{Symbol, Begins, EndsAll, UnexpectedAt, OpensInAll, TooDeepAt, Answers, Exactly}
+use Rattle.ds2_tree.proofs.Goes.{goes, goes_deep, goes_at}
+use Rattle.ds2_tree.proofs.Rules.{Sym, Rule}
+use Rattle.ds2_tree.proofs.Steady.{Moves, Steady}
 
 -- ---- one list in two ways
 

@@ -2,7 +2,7 @@
 use Rattle.std.proofs.Common.{◌≡◌, ℕ, zero, suc, ◌≤◌, Bool, true, false, List, [], ◌∷◌, ◌++◌, Option, Some, None, refl, sym, ap, ◌∙◌, arith, append_assoc}
 use Rattle.std.proofs.lemmas.Option.{none-some}
 use Rattle.ds2_token.specs.declared.token.Token.{Token}
-use Rattle.ds2_grammar.specs.Parsers.{ParserOutcome, Read, Unexpected, TooDeep, Spent, Parser, and_then, ◌>>>◌, pure, unexpected, too_deep, first, peek, skip, token_value, on, one, when, either, choose_by, to, seq, many_of, optional}
+use Rattle.ds2_tree.specs.Parsers.{ParserOutcome, Read, Unexpected, TooDeep, Spent, Parser, and_then, ◌>>>◌, pure, unexpected, too_deep, first, peek, skip, token_value, on, one, when, either, choose_by, to, seq, many_of, optional}
 
 -- the same next token
 abbrev pub Alike : List Token → List Token → Type 0

@@ -2,8 +2,8 @@
 use Rattle.std.proofs.Common.{◌≡◌, List, [], ◌++◌, Option, Some, None, refl, sym, ap, ◌∙◌, append_assoc}
 use Rattle.std.proofs.lemmas.List.{append-nil}
 use Rattle.ds2_token.specs.declared.token.Token.{Token}
-use Rattle.ds2_grammar.specs.Levels.{first_opened}
-use Rattle.ds2_grammar.specs.Parsers.{ParserOutcome, Read, TooDeep, Parser, and_then}
+use Rattle.ds2_tree.specs.Levels.{first_opened}
+use Rattle.ds2_tree.specs.Parsers.{ParserOutcome, Read, TooDeep, Parser, and_then}
 
 -- `out` where no token opens a level too many, else TooDeep from that token on
 abbrev pub goes : {A : Type 0} → Option (List Token) → List Token → ParserOutcome A → ParserOutcome A

@@ -6,10 +6,10 @@ use Rattle.ds2_base.specs.declared.place.Refusal.{Refusal}
 use Rattle.ds2_base.specs.declared.stop.Stop.{Stop}
 use Rattle.ds2_base.specs.declared.stop.Stop.TheVariants as stop
 use Rattle.ds2_token.specs.declared.token.Token.{Token}
-use Rattle.ds2_grammar.specs.declared.kind.ParseKind.{ParseKind}
-use Rattle.ds2_grammar.specs.declared.kind.ParseKind.TheVariants as kind
-use Rattle.ds2_grammar.specs.Parsers.{ParserOutcome, Read, Unexpected, TooDeep, Spent, Parser, and_then, ◌>>>◌, pure, first, token_value, kept, when, either, choose_by, to, seq, many_of}
-use Rattle.ds2_grammar.specs.Promise.{IsRefusedAs, Fails, Gives}
+use Rattle.ds2_tree.specs.declared.kind.ParseKind.{ParseKind}
+use Rattle.ds2_tree.specs.declared.kind.ParseKind.TheVariants as kind
+use Rattle.ds2_tree.specs.Parsers.{ParserOutcome, Read, Unexpected, TooDeep, Spent, Parser, and_then, ◌>>>◌, pure, first, token_value, kept, when, either, choose_by, to, seq, many_of}
+use Rattle.ds2_tree.specs.Promise.{IsRefusedAs, Fails, Gives}
 
 refused_on : {A B : Type 0} (end : Place) (why : ParseKind) (place : Place) (o : ParserOutcome A) (f : A → Parser B) → IsRefusedAs end why place o → IsRefusedAs end why place (and_then o f)
 refused_on end kind.Unexpected place (Unexpected r) f h = h

@@ -1,4 +1,0 @@
-pub mod Parsers
-pub mod Levels
-pub mod Acceptance
-pub mod Promise
