@@ -6,7 +6,7 @@ use Rattle.ds2_value.specs.Row.{Row}
 use Rattle.ds2_value.specs.declared.fault.Ending.TheVariants.{Normal}
 use Rattle.ds2_value.specs.declared.value.Value.{Value}
 use Rattle.ds2_value.specs.declared.value.Value.TheVariants.{Null, Int}
-use Rattle.ds2_dealer.specs.Runs.{run_length, run_count}
+use Rattle.ds2_schedule.specs.Runs.{run_length, run_count}
 use Rattle.ds2_schedule.specs.Groups.{UnitRun, IsSameRun, IsSameEnd, IsGroupIndependent, IsAmongGroups, AreSameButEarly, run_loads, then_from}
 use Rattle.ds2_schedule.specs.Schedule.{AgreeAsStates}
 use Rattle.ds2_code.specs.CodeRun.{run_code}

@@ -6,7 +6,7 @@ use Rattle.ds2_value.specs.declared.ty.Ty.TheVariants.{BigInt}
 use Rattle.ds2_value.specs.declared.value.Value.{Value}
 use Rattle.ds2_value.specs.declared.value.Value.TheVariants.{Null, Int}
 use Rattle.ds2_table.specs.Loads.{Load, KeyedLoad, keyed_load}
-use Rattle.ds2_dealer.specs.Stage.{StageStep, Draws, HandsIn, Retakes}
+use Rattle.ds2_schedule.specs.Stage.{StageStep, Draws, HandsIn, Retakes}
 use Rattle.ds2_schedule.specs.Schedule.{FixedPart}
 use Rattle.ds2_code.specs.declared.instr.Instr.TheVariants as instr
 use Rattle.ds2_code.specs.declared.parts.ProgramParts.{ProgramParts}

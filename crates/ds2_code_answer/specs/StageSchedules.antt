@@ -6,7 +6,7 @@ use Rattle.ds2_value.specs.declared.value.Value.{Value}
 use Rattle.ds2_table.specs.LoadLaws.{AreInByOrder}
 use Rattle.ds2_table.specs.Loads.{Load, KeyedLoad, groups}
 use Rattle.ds2_table.specs.OneThread.{Units, Reads, alone_answer}
-use Rattle.ds2_dealer.specs.Stage.{StageStep}
+use Rattle.ds2_schedule.specs.Stage.{StageStep}
 use Rattle.ds2_schedule.specs.Groups.{Given, given_by, IsGroupIndependent, IsAmongGroups, stage_program, put_together, IsWholeHistory, results_by_group}
 use Rattle.ds2_schedule.specs.Schedule.{GroupProgram, FixedPart, AgreeAsStates, one_thread}
 use Rattle.ds2_code.specs.declared.parts.ProgramParts.{ProgramParts}

@@ -6,8 +6,8 @@ use Rattle.std.proofs.lemmas.Bool.Decides.{nat_tests}
 use Rattle.std.proofs.lemmas.Bool.{cases_lt, eq-eqb, eqb-true}
 use Rattle.std.proofs.lemmas.List.{append-nil}
 use Rattle.std.proofs.Math.Nat.{mul-le-mul_right}
-use Rattle.ds2_dealer.specs.Runs.{times}
-use Rattle.ds2_dealer.specs.Stage.{inserted, ascending}
+use Rattle.ds2_schedule.specs.Runs.{times}
+use Rattle.ds2_schedule.specs.Stage.{inserted, ascending}
 use Rattle.ds2_schedule.specs.Bags.{AreFrom, IsAscending, groups_of_runs}
 
 pub from_lower : (a b : ℕ) (xs : List ℕ) → b ≤ a → AreFrom a xs → AreFrom b xs

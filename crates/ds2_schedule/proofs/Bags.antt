@@ -7,14 +7,14 @@ use Rattle.std.proofs.lemmas.List.{map-append, append-nil, append_assoc, length-
 use Rattle.std.proofs.lemmas.Bool.{cases_eq, cases_lt, eqb-true}
 use Rattle.std.proofs.lemmas.Bool.Decides.{nat_tests}
 use Rattle.std.proofs.Math.Nat.{mul-le-mul_right}
-use Rattle.ds2_dealer.specs.Runs.{run_length, run_count, run_groups, times, once_below}
-use Rattle.ds2_dealer.specs.Stage.{HandIn, Stage, StageStep, Draws, HandsIn, Retakes, changed_at, without_next, ascending, has_faulted, some_fault, fault_below, after_step, opening_stage, after_steps, group_of}
-use Rattle.ds2_dealer.specs.Sums.{has_fault_at}
-use Rattle.ds2_dealer.proofs.Legal.{IsLegalStep, AreLegal, IsCompleteStage, left_of, are_legal_of, is_complete_of, and_true, or_true, or_left, or_right}
+use Rattle.ds2_schedule.specs.Runs.{run_length, run_count, run_groups, times, once_below}
+use Rattle.ds2_schedule.specs.Stage.{HandIn, Stage, StageStep, Draws, HandsIn, Retakes, changed_at, without_next, ascending, has_faulted, some_fault, fault_below, after_step, opening_stage, after_steps, group_of}
+use Rattle.ds2_schedule.specs.Sums.{has_fault_at}
+use Rattle.ds2_schedule.proofs.Legal.{IsLegalStep, AreLegal, IsCompleteStage, left_of, are_legal_of, is_complete_of, and_true, or_true, or_left, or_right}
 use Rattle.ds2_schedule.specs.Bags.{GroupRun, Bag, group_in, numbers_in, groups_in, groups_of_runs, is_among, AreFrom, IsAscending, OnlyLastFaults, IsBag, AreBags, owner, worker_draws, caller_draws, run_hand_ins, all_hand_ins, history, handed_by, all_handed, missing, StageHasEnded, AreWhole, EndedIsComplete, WholeBagsHaveAll}
-use Rattle.ds2_dealer.proofs.Counts.{times-append, times_numbers, left_last, lt_true, lt_false}
-use Rattle.ds2_dealer.proofs.Runs.{enough, one_at_least}
-use Rattle.ds2_dealer.proofs.Steps.{Sound, sound_all, sound_start}
+use Rattle.ds2_schedule.proofs.Counts.{times-append, times_numbers, left_last, lt_true, lt_false}
+use Rattle.ds2_schedule.proofs.Runs.{enough, one_at_least}
+use Rattle.ds2_schedule.proofs.Steps.{Sound, sound_all, sound_start}
 use Rattle.ds2_schedule.proofs.Ascending.{none_lower, times_head, same_list, ascending_is, numbers_are_from, numbers_ascend, filter_ascends, append_ascends, runs_numbers, times_kept, times_dropped, from_lower}
 
 -- legal steps from one state to another

@@ -3,14 +3,14 @@ use Rattle.std.proofs.Common.{◌≡◌, ℕ, zero, suc, ◌+◌, ◌<◌, List,
 use Rattle.std.specs.Prelude.{Some, map, replicate, slice_get}
 use Rattle.std.proofs.lemmas.List.{length-replicate}
 use Rattle.std.proofs.lemmas.Option.{slice_get_within, slice_get_cases}
-use Rattle.ds2_dealer.specs.Runs.{run_length}
-use Rattle.ds2_dealer.specs.Stage.{Stage, StageStep, Draws, HandsIn, Retakes, after_step, opening_stage}
-use Rattle.ds2_dealer.proofs.Legal.{IsLegalStep, AreLegal}
+use Rattle.ds2_schedule.specs.Runs.{run_length}
+use Rattle.ds2_schedule.specs.Stage.{Stage, StageStep, Draws, HandsIn, Retakes, after_step, opening_stage}
+use Rattle.ds2_schedule.proofs.Legal.{IsLegalStep, AreLegal}
 use Rattle.ds2_schedule.specs.Schedule.{GroupProgram, AgreeAsStates, IsCarriedStep, carried, AreCarried, IsCarried, in_order, one_thread}
 use Rattle.ds2_schedule.specs.Bags.{GroupRun, Bag, worker_draws, caller_draws, run_hand_ins, all_hand_ins, history, handed_by, all_handed, StageHasEnded, AreAnswers, BagsAnswer, answer_from, EndedIsCarried, EndedIsOneThread}
-use Rattle.ds2_dealer.proofs.Steps.{Sound, sound_step, sound_start}
+use Rattle.ds2_schedule.proofs.Steps.{Sound, sound_step, sound_start}
 use Rattle.ds2_schedule.proofs.Schedule.{Free, free_of, itself, StillAgree, agree_step, agree_all, agree_start, every_schedule}
-use Rattle.ds2_dealer.proofs.Counts.{length_changed}
+use Rattle.ds2_schedule.proofs.Counts.{length_changed}
 use Rattle.ds2_schedule.proofs.Bags.{ended_goes, complete_facts}
 
 -- a hand-in has the rows and the fault of the first state's result

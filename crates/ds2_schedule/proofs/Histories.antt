@@ -1,6 +1,6 @@
 -- The replays of some histories, by computing them.
 use Rattle.std.proofs.Common.{refl}
-use Rattle.ds2_dealer.specs.Runs.{run_length, run_count}
+use Rattle.ds2_schedule.specs.Runs.{run_length, run_count}
 use Rattle.ds2_schedule.specs.Histories.{HistoriesReplay}
 
 pub histories_replay : HistoriesReplay

@@ -6,3 +6,10 @@ pub mod Numbers
 pub mod Groups
 pub mod Histories
 pub mod Sample
+pub mod Runs
+pub mod Counts
+pub mod Legal
+pub mod Steps
+pub mod Sums
+pub mod Ticket
+pub mod Answered

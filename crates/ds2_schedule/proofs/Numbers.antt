@@ -3,9 +3,9 @@ use Rattle.std.proofs.Common.{◌≡◌, ℕ, ◌+◌, [], ◌∷◌, arith, inl
 use Rattle.std.specs.Prelude.{if◌then◌else◌, ◌==◌}
 use Rattle.std.proofs.lemmas.Bool.Decides.{nat_tests}
 use Rattle.std.proofs.lemmas.Bool.{cases_eq}
-use Rattle.ds2_dealer.specs.Runs.{once_below}
+use Rattle.ds2_schedule.specs.Runs.{once_below}
 use Rattle.ds2_schedule.specs.Numbers.{DrawsTheNext, StillAscends}
-use Rattle.ds2_dealer.proofs.Counts.{times-append}
+use Rattle.ds2_schedule.proofs.Counts.{times-append}
 use Rattle.ds2_schedule.proofs.Ascending.{append_ascends}
 
 pub draws_the_next : DrawsTheNext

@@ -3,7 +3,7 @@ use Rattle.std.proofs.Common.{◌≡◌, ℕ, ◌*◌, List, [], ◌∷◌, ◌+
 use Rattle.std.specs.Prelude.{if◌then◌else◌, ◌==◌}
 use Rattle.std.proofs.lemmas.List.{append-nil, append_assoc}
 use Rattle.std.proofs.lemmas.Bool.{eqb-true}
-use Rattle.ds2_dealer.specs.Runs.{run_length, run_count}
+use Rattle.ds2_schedule.specs.Runs.{run_length, run_count}
 use Rattle.ds2_schedule.specs.Schedule.{Agree}
 use Rattle.ds2_schedule.specs.Groups.{UnitRun, Normally, ByFault, IsJoining, with_before, then_from, run_loads, IsSameRun, SameButEarly, AreSameButEarly, IsGroupIndependent, IsAmongGroups}
 use Rattle.ds2_schedule.specs.Sample.{SampleState, sample_content, sample_fixed, is_early_flag, amount_set, sample_run, sample_units, sample_groups, sample_start, SampleMeetsPremises}

@@ -7,11 +7,11 @@ use Rattle.std.proofs.lemmas.List.{map-append, append-nil, append_assoc}
 use Rattle.std.proofs.lemmas.Bool.{cases_eq, cases_lt, eq-eqb, eqb-true}
 use Rattle.std.proofs.lemmas.Bool.Decides.{nat_tests}
 use Rattle.std.proofs.Math.Nat.{mul-le-mul_right}
-use Rattle.ds2_dealer.specs.Runs.{run_length, times}
-use Rattle.ds2_dealer.specs.Stage.{HandIn, Stage, StageStep, Draws, HandsIn, Retakes, changed_at, has_faulted, some_fault, fault_below, after_step, opening_stage, after_steps, replay, group_of}
-use Rattle.ds2_dealer.proofs.Legal.{IsLegalStep, AreLegal, IsCompleteStage, legal_steps, complete_stage, or_true, and_true}
-use Rattle.ds2_dealer.proofs.Steps.{sound_all, sound_start}
-use Rattle.ds2_dealer.proofs.Runs.{enough, one_at_least}
+use Rattle.ds2_schedule.specs.Runs.{run_length, times}
+use Rattle.ds2_schedule.specs.Stage.{HandIn, Stage, StageStep, Draws, HandsIn, Retakes, changed_at, has_faulted, some_fault, fault_below, after_step, opening_stage, after_steps, replay, group_of}
+use Rattle.ds2_schedule.proofs.Legal.{IsLegalStep, AreLegal, IsCompleteStage, legal_steps, complete_stage, or_true, and_true}
+use Rattle.ds2_schedule.proofs.Steps.{sound_all, sound_start}
+use Rattle.ds2_schedule.proofs.Runs.{enough, one_at_least}
 use Rattle.ds2_schedule.specs.Schedule.{OneThreadAgrees, from_first, left_by_one, GroupProgram, FixedPart, AgreeAsStates, AreIndependent, IsCarriedStep, carried, with_result, brought, AreCarried, all_brought, IsCarried, results, result_at, up_to_fault, next_result, in_order, one_thread, EverySchedule}
 use Rattle.ds2_schedule.specs.Bags.{answer_from}
 

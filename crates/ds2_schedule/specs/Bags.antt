@@ -1,9 +1,9 @@
 -- What workers and the caller have when a stage has ended, and the history that it stands for.
 use Rattle.std.specs.Prelude.{◌≡◌, ℕ, zero, suc, ◌+◌, ◌*◌, ◌<◌, ◌≤◌, List, [], ◌∷◌, ◌++◌, Bool, true, not, ◌⊎◌, length, map, min, if◌then◌else◌, ◌==◌}
 use Rattle.std.specs.List.{AllByRecursion, list_any, filter, flat_map, range_with_len, concat}
-use Rattle.ds2_dealer.specs.Runs.{run_length, run_count, run_groups, times, once_below}
-use Rattle.ds2_dealer.specs.Stage.{HandIn, StageStep, Draws, HandsIn, Retakes, some_fault, is_legal, is_complete}
-use Rattle.ds2_dealer.specs.Sums.{has_fault_at}
+use Rattle.ds2_schedule.specs.Runs.{run_length, run_count, run_groups, times, once_below}
+use Rattle.ds2_schedule.specs.Stage.{HandIn, StageStep, Draws, HandsIn, Retakes, some_fault, is_legal, is_complete}
+use Rattle.ds2_schedule.specs.Sums.{has_fault_at}
 use Rattle.ds2_schedule.specs.Schedule.{GroupProgram, FixedPart, AgreeAsStates, AreIndependent, IsCarried, in_order, one_thread}
 
 -- A group that a party ran, the number of its rows, and whether it ended in a fault.

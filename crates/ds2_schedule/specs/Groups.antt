@@ -1,7 +1,7 @@
 -- Units over groups of loads: what a group gives, when groups are independent at a grain, and what a stage gives on one thread and on many.
 use Rattle.std.specs.Prelude.{◌≡◌, ℕ, List, [], ◌∷◌, Bool, true, false, Option, Some, None, length, slice_get}
 use Rattle.std.specs.List.{flat_map}
-use Rattle.ds2_dealer.specs.Stage.{StageStep, is_legal, is_complete}
+use Rattle.ds2_schedule.specs.Stage.{StageStep, is_legal, is_complete}
 use Rattle.ds2_schedule.specs.Schedule.{GroupProgram, FixedPart, Agree, AgreeAsStates, IsCarried, results, in_order, one_thread}
 
 -- How a unit ended: normally, in a state, or by a fault; and what it gave (its rows, lines, ending and way, or count).

@@ -1,7 +1,7 @@
 -- Histories of stages, and what their replays are.
 use Rattle.std.specs.Prelude.{◌≡◌, ℕ, List, [], ◌∷◌, ◌++◌, Bool, true, false, map}
 use Rattle.std.specs.List.{range_with_len, concat}
-use Rattle.ds2_dealer.specs.Stage.{StageStep, Draws, HandsIn, Retakes, replay, is_legal, is_complete, group_of}
+use Rattle.ds2_schedule.specs.Stage.{StageStep, Draws, HandsIn, Retakes, replay, is_legal, is_complete, group_of}
 use Rattle.ds2_schedule.specs.Bags.{caller_draws}
 
 -- What a replay shows: whether the history is legal and complete, how many runs were drawn, the groups left party by party, and the groups handed in.

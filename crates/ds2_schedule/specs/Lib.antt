@@ -4,3 +4,8 @@ pub mod Bags
 pub mod Numbers
 pub mod Histories
 pub mod Sample
+pub mod Runs
+pub mod Stage
+pub mod Rule
+pub mod Seats
+pub mod Sums

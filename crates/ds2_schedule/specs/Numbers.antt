@@ -1,6 +1,6 @@
 -- What the numbers that a seat shows tell.
 use Rattle.std.specs.Prelude.{◌≡◌, ℕ, ◌+◌, ◌≤◌, List, [], ◌∷◌, ◌++◌}
-use Rattle.ds2_dealer.specs.Runs.{times, once_below}
+use Rattle.ds2_schedule.specs.Runs.{times, once_below}
 use Rattle.ds2_schedule.specs.Bags.{IsAscending}
 
 -- A seat that shows every number below k, each once, and all numbers again after its draw of d, drew k.

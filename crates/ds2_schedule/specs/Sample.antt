@@ -1,6 +1,6 @@
 -- A small stage for which the premises of the law on stages hold: a total of amounts at a fixed rate.
 use Rattle.std.specs.Prelude.{◌≡◌, ℕ, ◌*◌, List, [], ◌∷◌, ◌++◌, Bool, true, false, length, if◌then◌else◌, ◌==◌}
-use Rattle.ds2_dealer.specs.Stage.{StageStep, Draws, HandsIn, Retakes, is_legal, is_complete}
+use Rattle.ds2_schedule.specs.Stage.{StageStep, Draws, HandsIn, Retakes, is_legal, is_complete}
 use Rattle.ds2_schedule.specs.Schedule.{FixedPart, Agree, IsCarried}
 use Rattle.ds2_schedule.specs.Groups.{UnitRun, Normally, ByFault, StageUnits, IsJoining, IsGroupIndependent, IsAmongGroups, stage_program}
 

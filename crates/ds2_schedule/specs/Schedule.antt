@@ -1,7 +1,7 @@
 -- Histories of a stage in which each party carries a state, and what one thread gives.
 use Rattle.std.specs.Prelude.{◌≡◌, ℕ, zero, suc, ◌+◌, List, [], ◌∷◌, ◌++◌, Bool, true, false, Option, Some, None, replicate, slice_get, if◌then◌else◌, ◌==◌}
 use Rattle.std.specs.List.{list_any}
-use Rattle.ds2_dealer.specs.Stage.{StageStep, Draws, HandsIn, Retakes, changed_at, is_legal, is_complete}
+use Rattle.ds2_schedule.specs.Stage.{StageStep, Draws, HandsIn, Retakes, changed_at, is_legal, is_complete}
 
 -- What running a group from a state gives, the state that it leaves, and of a result the number of its rows and whether it is a fault.
 pub record GroupProgram (S O : Type 0) : Type 0 where

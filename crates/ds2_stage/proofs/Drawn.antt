@@ -3,16 +3,16 @@ use Rattle.std.proofs.Common.{◌≡◌, ◌≤◌, ◌+◌, ℕ, zero, suc, Lis
 use Rattle.std.specs.List.{range_with_len}
 use Rattle.std.proofs.lemmas.Bool.Decides.{nat_tests}
 use Rattle.std.proofs.lemmas.List.{append_assoc, append-nil}
-use Rattle.ds2_dealer.specs.declared.rule.SeatView.{SeatView}
-use Rattle.ds2_dealer.specs.declared.rule.SeatView.TheVariants.{First}
-use Rattle.ds2_dealer.specs.declared.tickets.Draw.{Draw}
-use Rattle.ds2_dealer.specs.declared.tickets.Draw.TheVariants.{NoMore}
-use Rattle.ds2_dealer.specs.declared.tickets.Tickets.{Tickets}
-use Rattle.ds2_dealer.specs.declared.tickets.TicketSeat.{TicketSeat}
-use Rattle.ds2_dealer.specs.Runs.{times, once_below}
-use Rattle.ds2_dealer.specs.Rule.{ShowsAll, MayDraw, with_number}
-use Rattle.ds2_dealer.specs.Seats.{view_of, HasDrawn}
-use Rattle.ds2_dealer.proofs.Counts.{times-append, times_numbers}
+use Rattle.ds2_schedule.specs.declared.rule.SeatView.{SeatView}
+use Rattle.ds2_schedule.specs.declared.rule.SeatView.TheVariants.{First}
+use Rattle.ds2_schedule.specs.declared.tickets.Draw.{Draw}
+use Rattle.ds2_schedule.specs.declared.tickets.Draw.TheVariants.{NoMore}
+use Rattle.ds2_schedule.specs.declared.tickets.Tickets.{Tickets}
+use Rattle.ds2_schedule.specs.declared.tickets.TicketSeat.{TicketSeat}
+use Rattle.ds2_schedule.specs.Runs.{times, once_below}
+use Rattle.ds2_schedule.specs.Rule.{ShowsAll, MayDraw, with_number}
+use Rattle.ds2_schedule.specs.Seats.{view_of, HasDrawn}
+use Rattle.ds2_schedule.proofs.Counts.{times-append, times_numbers}
 use Rattle.ds2_stage.specs.Ended.{HasAllNumbers, HasDrawnRest}
 use Rattle.ds2_stage.specs.Gathered.{HasJoined}
 use Rattle.ds2_stage.specs.Passes.{PassView}

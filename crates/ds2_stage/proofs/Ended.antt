@@ -8,14 +8,14 @@ use Rattle.std.proofs.lemmas.List.{length-map}
 use Rattle.std.proofs.lemmas.List.Folds.{list_any-append}
 use Rattle.std.proofs.lemmas.List.Sums.{sum_by-cons}
 use Rattle.std.proofs.Math.Nat.{mul-le-mul_right}
-use Rattle.ds2_dealer.specs.declared.tickets.Tickets.{Tickets}
-use Rattle.ds2_dealer.specs.declared.tickets.TicketSeat.{TicketSeat}
-use Rattle.ds2_dealer.specs.Runs.{RunsAreLeast, run_length, run_count, times, once_below}
-use Rattle.ds2_dealer.specs.Stage.{HandIn, some_fault}
-use Rattle.ds2_dealer.specs.Rule.{shown, past}
-use Rattle.ds2_dealer.specs.Seats.{view_of}
-use Rattle.ds2_dealer.specs.Sums.{has_fault_at}
-use Rattle.ds2_dealer.proofs.Counts.{times-append}
+use Rattle.ds2_schedule.specs.declared.tickets.Tickets.{Tickets}
+use Rattle.ds2_schedule.specs.declared.tickets.TicketSeat.{TicketSeat}
+use Rattle.ds2_schedule.specs.Runs.{RunsAreLeast, run_length, run_count, times, once_below}
+use Rattle.ds2_schedule.specs.Stage.{HandIn, some_fault}
+use Rattle.ds2_schedule.specs.Rule.{shown, past}
+use Rattle.ds2_schedule.specs.Seats.{view_of}
+use Rattle.ds2_schedule.specs.Sums.{has_fault_at}
+use Rattle.ds2_schedule.proofs.Counts.{times-append}
 use Rattle.ds2_schedule.specs.Bags.{GroupRun, Bag, group_in, numbers_in, groups_in, is_among, IsBag, AreBags, handed_by, all_handed, missing, CallerHasStopped, StageHasEnded, AreAnswers, BagsAnswer, EndedIsComplete, EndedIsCarried, WholeBagsHaveAll, AreWhole, groups_of_runs, history}
 use Rattle.ds2_bags.specs.declared.group_end.GroupEnd.{GroupEnd}
 use Rattle.ds2_bags.specs.Endings.{ended_by_fault}

@@ -3,12 +3,12 @@ use Rattle.std.proofs.Common.{◌≡◌, ◌≤◌, ◌<◌, ◌+◌, ℕ, List,
 use Rattle.std.specs.Prelude.{sum_by}
 use Rattle.std.specs.List.{All}
 use Rattle.std.proofs.lemmas.List.Sums.{sum_by_push}
-use Rattle.ds2_dealer.specs.declared.rule.SeatView.{SeatView}
-use Rattle.ds2_dealer.specs.declared.rule.SeatView.TheVariants.{First, Other, Spent}
-use Rattle.ds2_dealer.specs.declared.tickets.Tickets.{Tickets}
-use Rattle.ds2_dealer.specs.Runs.{times, once_below}
-use Rattle.ds2_dealer.specs.Rule.{shown, past, most_past, MayJoin, ShowsAll, with_joined}
-use Rattle.ds2_dealer.specs.Seats.{view_of, IsSeatOf}
+use Rattle.ds2_schedule.specs.declared.rule.SeatView.{SeatView}
+use Rattle.ds2_schedule.specs.declared.rule.SeatView.TheVariants.{First, Other, Spent}
+use Rattle.ds2_schedule.specs.declared.tickets.Tickets.{Tickets}
+use Rattle.ds2_schedule.specs.Runs.{times, once_below}
+use Rattle.ds2_schedule.specs.Rule.{shown, past, most_past, MayJoin, ShowsAll, with_joined}
+use Rattle.ds2_schedule.specs.Seats.{view_of, IsSeatOf}
 use Rattle.ds2_stage.specs.Bags.{IsWorkerSeat}
 use Rattle.ds2_stage.specs.Gathered.{IsEndedPass, HasJoined, times_shown}
 use Rattle.ds2_stage.specs.Passes.{PassView, IsCallerPass, IsMerged}

@@ -6,8 +6,8 @@ use Rattle.std.proofs.lemmas.List.Sums.{sum_by_push}
 use Rattle.std.proofs.lemmas.List.{append_assoc, append-nil}
 use Rattle.std.proofs.lemmas.List.Folds.{list_any-append}
 use Rattle.std.proofs.lemmas.Bool.Decides.{nat_tests}
-use Rattle.ds2_dealer.specs.Runs.{run_groups}
-use Rattle.ds2_dealer.specs.Rule.{past}
+use Rattle.ds2_schedule.specs.Runs.{run_groups}
+use Rattle.ds2_schedule.specs.Rule.{past}
 use Rattle.ds2_schedule.specs.Bags.{GroupRun, groups_of_runs, AreFrom, OnlyLastFaults}
 use Rattle.ds2_stage.specs.Bags.{has_fault}
 use Rattle.ds2_stage.specs.Working.{AreCalm}

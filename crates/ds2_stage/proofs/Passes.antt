@@ -3,7 +3,7 @@ use Rattle.std.proofs.Common.{◌≡◌, ◌<◌, ◌+◌, ℕ, zero, suc, List,
 use Rattle.std.specs.Prelude.{slice_index_or, map}
 use Rattle.std.proofs.Math.ListN.{get_or-append}
 use Rattle.std.proofs.Math.Seq.{get_or-append_seam}
-use Rattle.ds2_dealer.specs.declared.tickets.Tickets.{Tickets}
+use Rattle.ds2_schedule.specs.declared.tickets.Tickets.{Tickets}
 use Rattle.ds2_stage.specs.Passes.{PassView, IsWorkerPass, AreInOrderOfNumber}
 
 last_of : (xs : List PassView) (y d : PassView) (n : ℕ) → length xs ≡ n → slice_index_or (xs ++ y ∷ []) n d ≡ y

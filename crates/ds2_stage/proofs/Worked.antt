@@ -6,14 +6,14 @@ use Rattle.std.proofs.lemmas.List.{append_assoc, append-nil, map-append}
 use Rattle.std.proofs.lemmas.List.Sums.{sum_by_push}
 use Rattle.std.proofs.lemmas.Bool.{cases_lt}
 use Rattle.std.proofs.lemmas.Bool.Decides.{nat_tests}
-use Rattle.ds2_dealer.specs.declared.rule.SeatView.{SeatView}
-use Rattle.ds2_dealer.specs.declared.rule.SeatView.TheVariants.{First, Other, Spent}
-use Rattle.ds2_dealer.specs.declared.tickets.Tickets.{Tickets}
-use Rattle.ds2_dealer.specs.declared.tickets.Draw.{Draw}
-use Rattle.ds2_dealer.specs.declared.tickets.Draw.TheVariants.{Run, NoMore}
-use Rattle.ds2_dealer.specs.Runs.{run_groups}
-use Rattle.ds2_dealer.specs.Rule.{shown, past, with_number, MayDraw, IsAbove}
-use Rattle.ds2_dealer.specs.Seats.{view_of, IsSeatOf, IsInside, HasDrawn, draw_of, groups_drawn}
+use Rattle.ds2_schedule.specs.declared.rule.SeatView.{SeatView}
+use Rattle.ds2_schedule.specs.declared.rule.SeatView.TheVariants.{First, Other, Spent}
+use Rattle.ds2_schedule.specs.declared.tickets.Tickets.{Tickets}
+use Rattle.ds2_schedule.specs.declared.tickets.Draw.{Draw}
+use Rattle.ds2_schedule.specs.declared.tickets.Draw.TheVariants.{Run, NoMore}
+use Rattle.ds2_schedule.specs.Runs.{run_groups}
+use Rattle.ds2_schedule.specs.Rule.{shown, past, with_number, MayDraw, IsAbove}
+use Rattle.ds2_schedule.specs.Seats.{view_of, IsSeatOf, IsInside, HasDrawn, draw_of, groups_drawn}
 use Rattle.ds2_schedule.specs.Bags.{GroupRun, group_in, groups_of_runs, AreFrom, IsAscending, AreAnswers}
 use Rattle.ds2_bags.specs.declared.group_end.GroupEnd.{GroupEnd}
 use Rattle.ds2_bags.specs.Rest.{answered_run}

@@ -1,10 +1,10 @@
 -- What a worker brings.
 use Rattle.std.specs.Prelude.{◌≡◌, ℕ, ◌+◌, ◌≤◌, List, [], ◌++◌, Bool, false, Option, None, length, map, sum_by, IfSome}
-use Rattle.ds2_dealer.specs.declared.rule.SeatView.{SeatView}
-use Rattle.ds2_dealer.specs.declared.rule.SeatView.TheVariants.{First, Other, Spent}
-use Rattle.ds2_dealer.specs.declared.tickets.Tickets.{Tickets}
-use Rattle.ds2_dealer.specs.Rule.{shown, past}
-use Rattle.ds2_dealer.specs.Seats.{view_of, IsSeatOf}
+use Rattle.ds2_schedule.specs.declared.rule.SeatView.{SeatView}
+use Rattle.ds2_schedule.specs.declared.rule.SeatView.TheVariants.{First, Other, Spent}
+use Rattle.ds2_schedule.specs.declared.tickets.Tickets.{Tickets}
+use Rattle.ds2_schedule.specs.Rule.{shown, past}
+use Rattle.ds2_schedule.specs.Seats.{view_of, IsSeatOf}
 use Rattle.ds2_schedule.specs.Bags.{GroupRun, group_in, groups_of_runs, AreFrom, IsAscending, OnlyLastFaults, AreAnswers}
 use Rattle.ds2_bags.specs.declared.group_end.GroupEnd.{GroupEnd}
 use Rattle.ds2_bags.specs.StageEnds.{program_of_job}

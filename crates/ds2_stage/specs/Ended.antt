@@ -1,13 +1,13 @@
 -- What all parties have when a stage has ended, and the history that it stands for.
 use Rattle.std.specs.Prelude.{◌≡◌, ℕ, ◌+◌, ◌≤◌, List, ◌++◌, true, length, map}
 use Rattle.std.specs.List.{range_with_len, concat}
-use Rattle.ds2_dealer.specs.declared.rule.SeatView.TheVariants.{First}
-use Rattle.ds2_dealer.specs.declared.tickets.Tickets.{Tickets}
-use Rattle.ds2_dealer.specs.declared.tickets.TicketSeat.{TicketSeat}
-use Rattle.ds2_dealer.specs.Runs.{times, once_below}
-use Rattle.ds2_dealer.specs.Seats.{view_of}
-use Rattle.ds2_dealer.specs.Stage.{StageStep, is_legal, is_complete}
-use Rattle.ds2_dealer.specs.Rule.{shown, past}
+use Rattle.ds2_schedule.specs.declared.rule.SeatView.TheVariants.{First}
+use Rattle.ds2_schedule.specs.declared.tickets.Tickets.{Tickets}
+use Rattle.ds2_schedule.specs.declared.tickets.TicketSeat.{TicketSeat}
+use Rattle.ds2_schedule.specs.Runs.{times, once_below}
+use Rattle.ds2_schedule.specs.Seats.{view_of}
+use Rattle.ds2_schedule.specs.Stage.{StageStep, is_legal, is_complete}
+use Rattle.ds2_schedule.specs.Rule.{shown, past}
 use Rattle.ds2_schedule.specs.Bags.{GroupRun, Bag, group_in, groups_in, groups_of_runs, IsBag, history, StageHasEnded, AreAnswers, BagsAnswer}
 use Rattle.ds2_schedule.specs.Schedule.{IsCarried, results, in_order}
 use Rattle.ds2_bags.specs.declared.finishing.StageEnd.{StageEnd}

@@ -1,11 +1,11 @@
 -- What the caller has behind the joins.
 use Rattle.std.specs.Prelude.{◌≡◌, ℕ, List, sum_by, length, ◌≤◌}
-use Rattle.ds2_dealer.specs.declared.rule.SeatView.TheVariants.{First}
-use Rattle.ds2_dealer.specs.declared.tickets.Tickets.{Tickets}
-use Rattle.ds2_dealer.specs.declared.tickets.TicketSeat.{TicketSeat}
-use Rattle.ds2_dealer.specs.Runs.{times, once_below}
-use Rattle.ds2_dealer.specs.Rule.{shown, past}
-use Rattle.ds2_dealer.specs.Seats.{view_of, IsSeatOf}
+use Rattle.ds2_schedule.specs.declared.rule.SeatView.TheVariants.{First}
+use Rattle.ds2_schedule.specs.declared.tickets.Tickets.{Tickets}
+use Rattle.ds2_schedule.specs.declared.tickets.TicketSeat.{TicketSeat}
+use Rattle.ds2_schedule.specs.Runs.{times, once_below}
+use Rattle.ds2_schedule.specs.Rule.{shown, past}
+use Rattle.ds2_schedule.specs.Seats.{view_of, IsSeatOf}
 use Rattle.ds2_stage.specs.Bags.{IsWorkerSeat}
 use Rattle.ds2_stage.specs.Passes.{PassView}
 

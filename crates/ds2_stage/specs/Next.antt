@@ -1,6 +1,6 @@
 -- A worker's next group.
 use Rattle.std.specs.Prelude.{ℕ, ◌<◌, List, Option, Some, None}
-use Rattle.ds2_dealer.specs.declared.tickets.Tickets.{Tickets}
+use Rattle.ds2_schedule.specs.declared.tickets.Tickets.{Tickets}
 use Rattle.ds2_bags.specs.declared.group_end.GroupEnd.{GroupEnd}
 use Rattle.ds2_schedule.specs.Bags.{GroupRun}
 use Rattle.ds2_stage.specs.Bags.{HasWorked, not_early}

@@ -1,9 +1,9 @@
 -- What a party's pass shows.
 use Rattle.std.specs.Prelude.{◌≡◌, ℕ, ◌+◌, ◌<◌, List, [], length, slice_index_or}
-use Rattle.ds2_dealer.specs.declared.rule.SeatView.TheVariants.{First, Other}
-use Rattle.ds2_dealer.specs.declared.tickets.Tickets.{Tickets}
-use Rattle.ds2_dealer.specs.declared.tickets.TicketSeat.{TicketSeat}
-use Rattle.ds2_dealer.specs.Seats.{view_of, IsSeatOf}
+use Rattle.ds2_schedule.specs.declared.rule.SeatView.TheVariants.{First, Other}
+use Rattle.ds2_schedule.specs.declared.tickets.Tickets.{Tickets}
+use Rattle.ds2_schedule.specs.declared.tickets.TicketSeat.{TicketSeat}
+use Rattle.ds2_schedule.specs.Seats.{view_of, IsSeatOf}
 
 -- The number of the party, its seat, how many groups it handed in and their rows, and how many parts of each ledger it has.
 pub record PassView : Type 0 where

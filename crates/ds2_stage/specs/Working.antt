@@ -1,9 +1,9 @@
 -- A worker between two groups.
 use Rattle.std.specs.Prelude.{◌≡◌, ℕ, ◌-◌, ◌≤◌, List, ◌++◌, ◌∷◌, [], Bool, false, length, map, sum_by}
 use Rattle.std.specs.List.{AllByRecursion, range_with_len}
-use Rattle.ds2_dealer.specs.declared.tickets.Tickets.{Tickets}
-use Rattle.ds2_dealer.specs.Rule.{shown, MayDraw}
-use Rattle.ds2_dealer.specs.Seats.{view_of, IsSeatOf}
+use Rattle.ds2_schedule.specs.declared.tickets.Tickets.{Tickets}
+use Rattle.ds2_schedule.specs.Rule.{shown, MayDraw}
+use Rattle.ds2_schedule.specs.Seats.{view_of, IsSeatOf}
 use Rattle.ds2_schedule.specs.Bags.{GroupRun, group_in, groups_of_runs, IsAscending, AreAnswers}
 use Rattle.ds2_bags.specs.declared.group_end.GroupEnd.{GroupEnd}
 use Rattle.ds2_bags.specs.Endings.{ended_by_fault}

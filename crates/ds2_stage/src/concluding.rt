@@ -3,9 +3,9 @@ ghost use Rattle.std.specs.Prelude.{◌≡◌, ◌==◌, ℕ, ◌+◌, ◌<◌, 
 ghost use Rattle.std.specs.List.{All, list_any};
 ghost use Rattle.ds2_bags.specs.Endings.{ended_by_fault};
 ghost use Rattle.ds2_bags.specs.StageEnds.{IsStageEnd};
-ghost use Rattle.ds2_dealer.specs.Rule.{shown};
-ghost use Rattle.ds2_dealer.specs.Runs.{run_length};
-ghost use Rattle.ds2_dealer.specs.Seats.{view_of};
+ghost use Rattle.ds2_schedule.specs.Rule.{shown};
+ghost use Rattle.ds2_schedule.specs.Runs.{run_length};
+ghost use Rattle.ds2_schedule.specs.Seats.{view_of};
 ghost use Rattle.ds2_stage.specs.Ended.{IsEndedBag, HasEnded, HaveEachOnce, ComesOfHistory};
 ghost use Rattle.ds2_stage.specs.Bags.{EndedInFull};
 ghost use Rattle.ds2_stage.specs.Gathered.{IsEndedPass, times_shown};
@@ -18,8 +18,8 @@ use crate::pass::Pass;
 use crate::shared::Shared;
 use ds2_bags::{Answers, Done, Finished, GroupEnd, Job, StageEnd, finish, place};
 use ds2_base::{List, OutOfMemory};
-use ds2_dealer::TicketSeat;
-use ds2_dealer::laws::runs_are_least;
+use ds2_schedule::TicketSeat;
+use ds2_schedule::dealing_laws::runs_are_least;
 use ds2_outside::Gate;
 use ds2_schedule::laws::{
     ended_is_carried, ended_is_complete, every_schedule, whole_bags_have_all,

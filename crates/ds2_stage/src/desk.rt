@@ -4,7 +4,7 @@ ghost use Rattle.ds2_stage.specs.Passes.{IsHandedIn};
 ghost use Rattle.ds2_stage.specs.Odds.{IsOdd};
 
 use crate::pass::Pass;
-use ds2_dealer::{Book, Totals};
+use ds2_schedule::{Book, Totals};
 use std::sync::ledger;
 use std::sync::ledger::Ledger;
 

@@ -1,10 +1,10 @@
 //! The caller draws what the workers have left of the runs.
 ghost use Rattle.std.specs.Prelude.{◌≡◌, ℕ};
-ghost use Rattle.ds2_dealer.specs.Rule.{MayDraw};
-ghost use Rattle.ds2_dealer.specs.Seats.{view_of, IsSeatOf};
+ghost use Rattle.ds2_schedule.specs.Rule.{MayDraw};
+ghost use Rattle.ds2_schedule.specs.Seats.{view_of, IsSeatOf};
 ghost use Rattle.ds2_stage.specs.Ended.{HasAllNumbers, HasDrawnRest};
 
-use ds2_dealer::{Draw, TicketSeat, Tickets};
+use ds2_schedule::{Draw, TicketSeat, Tickets};
 
 // Draws until no run is left.
 pub(crate) fn draw_rest(tickets: &Tickets, seat: &mut TicketSeat)

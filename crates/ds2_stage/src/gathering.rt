@@ -7,7 +7,7 @@ ghost use Rattle.ds2_stage.specs.Passes.{PassView, IsCallerPass};
 use crate::pass::Pass;
 use crate::shared::Shared;
 use ds2_base::List;
-use ds2_dealer::{TicketSeat, Totals};
+use ds2_schedule::{TicketSeat, Totals};
 use std::sync::Wait;
 use std::sync::ledger::Ledger;
 

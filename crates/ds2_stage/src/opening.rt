@@ -1,13 +1,13 @@
 //! The opening of a stage.
 ghost use Rattle.std.specs.Prelude.{◌≡◌, ℕ, ◌+◌, ◌^◌, ◌<◌, ◌≤◌, IfOk, length, slice_index_or};
-ghost use Rattle.ds2_dealer.specs.Runs.{run_length, run_count};
+ghost use Rattle.ds2_schedule.specs.Runs.{run_length, run_count};
 ghost use Rattle.ds2_stage.specs.Passes.{PassView, IsWorkerPass, IsCallerPass};
 
 use crate::desk::Desk;
 use crate::pass::Pass;
 use crate::shared::Shared;
 use ds2_base::{List, OutOfMemory};
-use ds2_dealer::{Book, Tickets};
+use ds2_schedule::{Book, Tickets};
 use std::alloc::Global;
 use std::sync::ledger::{Blank, Ledger};
 use std::sync::{Mutex, ledger};

@@ -1,10 +1,10 @@
 //! What a party of a stage carries between two holdings of the lock.
 ghost use Rattle.std.specs.Prelude.{◌≡◌, ◌+◌, ℕ};
-ghost use Rattle.ds2_dealer.specs.Rule.{MayDraw, MayJoin, ShowsAll, with_joined};
-ghost use Rattle.ds2_dealer.specs.Seats.{view_of, IsSeatOf, IsRun, IsInside, HasDrawn};
+ghost use Rattle.ds2_schedule.specs.Rule.{MayDraw, MayJoin, ShowsAll, with_joined};
+ghost use Rattle.ds2_schedule.specs.Seats.{view_of, IsSeatOf, IsRun, IsInside, HasDrawn};
 ghost use Rattle.ds2_stage.specs.Passes.{IsSameButSeat, IsMerged};
 
-use ds2_dealer::{Draw, TicketSeat, Tickets};
+use ds2_schedule::{Draw, TicketSeat, Tickets};
 use std::marker::Model;
 use std::sync::ledger::{Ledger, Share};
 

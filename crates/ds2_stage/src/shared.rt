@@ -5,7 +5,7 @@ ghost use Rattle.ds2_stage.specs.Odds.{IsOdd};
 
 use crate::desk::{Desk, Odd};
 use crate::pass::Pass;
-use ds2_dealer::{Tickets, Totals};
+use ds2_schedule::{Tickets, Totals};
 use std::sync::ledger::Ledger;
 use std::sync::{Mutex, Wait};
 

@@ -1,5 +1,5 @@
 //! Seats go from thread to thread, and tickets are shared.
-use ds2_dealer::{TicketSeat, Tickets};
+use ds2_schedule::{TicketSeat, Tickets};
 
 fn crosses_threads<T: Send>() {}
 

@@ -1,6 +1,6 @@
 use Rattle.std.proofs.Common.{◌≡◌, ◌<◌, ℕ, length, ap, ◌∙◌, sym, subst, arith, None, vec_len}
 use Rattle.std.specs.Prelude.{slice_index_or}
-use Rattle.ds2_dealer.specs.Runs.{run_length, once_below}
+use Rattle.ds2_schedule.specs.Runs.{run_length, once_below}
 use Rattle.ds2_bags.specs.Endings.{ended_by_fault}
 use Rattle.ds2_bags.specs.Rest.{HasRunRest}
 use Rattle.ds2_bags.specs.StageEnds.{IsStageEnd}

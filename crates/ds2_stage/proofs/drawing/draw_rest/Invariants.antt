@@ -1,6 +1,6 @@
 use Rattle.std.proofs.Common.{ℕ}
-use Rattle.ds2_dealer.specs.Rule.{MayDraw}
-use Rattle.ds2_dealer.specs.Seats.{view_of, IsSeatOf}
+use Rattle.ds2_schedule.specs.Rule.{MayDraw}
+use Rattle.ds2_schedule.specs.Seats.{view_of, IsSeatOf}
 use Rattle.ds2_stage.specs.Ended.{HasAllNumbers}
 use Rattle.ds2_stage.proofs.Drawn.{HasDrawnSome}
 use Rattle.ds2_stage.proofs.drawing.draw_rest.Given as goal

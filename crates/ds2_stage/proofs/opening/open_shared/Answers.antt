@@ -1,5 +1,5 @@
 use Rattle.std.proofs.Common.{ap, ◌∙◌, arith, refl}
-use Rattle.ds2_dealer.specs.Rule.{with_split}
+use Rattle.ds2_schedule.specs.Rule.{with_split}
 use Rattle.ds2_stage.proofs.Passes.{workers_more}
 use Rattle.ds2_stage.proofs.opening.open_shared.Goals as goal
 

@@ -1,7 +1,7 @@
 use Rattle.std.proofs.Common.{◌≡◌, ◌+◌, ◌<◌, ◌≤◌, ℕ, [], vec_len}
 use Rattle.std.specs.Prelude.{slice_index_or, vec_capacity}
-use Rattle.ds2_dealer.specs.declared.rule.SeatView.TheVariants.{First}
-use Rattle.ds2_dealer.specs.Seats.{view_of, IsSeatOf}
+use Rattle.ds2_schedule.specs.declared.rule.SeatView.TheVariants.{First}
+use Rattle.ds2_schedule.specs.Seats.{view_of, IsSeatOf}
 use Rattle.ds2_stage.specs.Passes.{PassView, IsWorkerPass}
 use Rattle.ds2_stage.proofs.opening.open_shared.Given as goal
 

@@ -1,5 +1,0 @@
-use Rattle.ds2_dealer.proofs.Runs.{runs_are_least}
-use Rattle.ds2_dealer.proofs.laws.runs_are_least.Goals as goal
-
-pub returns : goal.returns
-returns c = runs_are_least

@@ -1,5 +1,0 @@
-pub mod Runs
-pub mod Stage
-pub mod Rule
-pub mod Seats
-pub mod Sums
