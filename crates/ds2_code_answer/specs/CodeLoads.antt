@@ -9,7 +9,7 @@ use Rattle.ds2_table.specs.Table.{Contents}
 use Rattle.ds2_reading.specs.declared.reading.ByKey.{ByKey}
 use Rattle.ds2_reading.specs.declared.reading.ReadTable.{ReadTable}
 use Rattle.ds2_reading.specs.declared.reading.Reading.{Reading}
-use Rattle.ds2_by_order.specs.ReadingKeys.{directions_of, keys_of_reading}
+use Rattle.ds2_reading.specs.ReadingKeys.{directions_of, keys_of_reading}
 use Rattle.ds2_code.specs.declared.parts.ByPart.{ByPart}
 use Rattle.ds2_code.specs.declared.parts.ProgramParts.{ProgramParts}
 use Rattle.ds2_code.specs.declared.parts.ReadPart.{ReadPart}

@@ -1,5 +1,5 @@
 -- Cursors over the loads of either statement.
-use Rattle.ds2_by_order.specs.CursorState.{Cursor}
+use Rattle.ds2_reading.specs.CursorState.{Cursor}
 use Rattle.ds2_layer_cases.specs.declared.loads.cursor.LoadCursor.{LoadCursor}
 use Rattle.ds2_layer_cases.specs.declared.loads.cursor.LoadCursor.TheVariants.{Set, Merge}
 

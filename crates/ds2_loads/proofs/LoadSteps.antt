@@ -4,7 +4,7 @@ use Rattle.std.specs.Prelude.{map, slice_get}
 use Rattle.ds2_value.specs.Row.{Row}
 use Rattle.ds2_table.specs.Table.{Contents}
 use Rattle.ds2_reading.specs.declared.reading.ReadTable.{ReadTable}
-use Rattle.ds2_by_order.specs.LoadMeaning.{row_or_none}
+use Rattle.ds2_reading.specs.LoadMeaning.{row_or_none}
 use Rattle.ds2_code.specs.declared.parts.Slot.{Slot}
 use Rattle.ds2_code.specs.Desk.{SlotSettings, with_slot_settings}
 use Rattle.ds2_code_answer.specs.CodeLoads.{column_nulls, table_nulls, row_of_table, settings_of_read, read_settings}

@@ -1,6 +1,6 @@
 //! A load by numbers of rows, as what it sets.
 ghost use Rattle.std.specs.Prelude.{◌≡◌, ◌==◌, ◌%◌, ◌||◌, not, [], if◌then◌else◌, length, map, OnOk};
-ghost use Rattle.ds2_by_order.specs.LoadMeaning.{bits_of, load_meaning, row_or_none};
+ghost use Rattle.ds2_reading.specs.LoadMeaning.{bits_of, load_meaning, row_or_none};
 ghost use Rattle.ds2_code.specs.Desk.{with_slot_settings};
 ghost use Rattle.ds2_slots.specs.LoadedHashes.{AreSlotTypesInBounds};
 ghost use Rattle.ds2_code_answer.specs.CodeLoads.{slot_flag, column_nulls, table_nulls, row_of_table, settings_of_read, read_settings, in_flag_setting, in_flag_settings, by_flag_settings, first_flag_of, last_flag_of, load_settings};

@@ -2,8 +2,8 @@
 use Rattle.std.proofs.Common.{◌≡◌, ℕ, zero, suc, ◌+◌, ◌-◌, ◌*◌, ◌^◌, ◌<◌, ◌≤◌, Bool, nat_lt, List, ◌∷◌, map, refl, sym, ap, ◌∙◌, subst, arith}
 use Rattle.std.specs.Prelude.{get_or}
 use Rattle.std.specs.List.{range_with_len}
-use Rattle.ds2_by_order.specs.LoadMeaning.{bits_of}
-use Rattle.ds2_by_order.proofs.Bits.{pow_some, pow_mono}
+use Rattle.ds2_reading.specs.LoadMeaning.{bits_of}
+use Rattle.ds2_reading.proofs.Bits.{pow_some, pow_mono}
 
 -- from the table t on, so many tables below n
 pub record HasFlags (given end : List ℕ) (n t flags : ℕ) : Type 0 where

@@ -10,12 +10,12 @@ use Rattle.ds2_table.specs.LoadLaws.{AreInByOrder, rows_of_key}
 use Rattle.ds2_table.specs.Loads.{InputRow, KeyedLoad, input_rows, matches, most_rows, merge_load, loads_of_key, merge_loads, groups}
 use Rattle.ds2_table.proofs.ByOrder.{rows_equiv}
 use Rattle.ds2_table.proofs.LoadOrder.{loads_stand_in_by_order}
-use Rattle.ds2_by_order.specs.CursorState.{start_at}
-use Rattle.ds2_by_order.specs.GroupStarts.{opens_group, group_openings, keys_of_loads}
-use Rattle.ds2_by_order.specs.KeyOrder.{InputKeys}
-use Rattle.ds2_by_order.specs.Places.{item_before}
-use Rattle.ds2_by_order.proofs.Flagged.{flagged_length, flagged_keys}
-use Rattle.ds2_by_order.proofs.Starts.{openings_are, as_many, beginnings}
+use Rattle.ds2_reading.specs.CursorState.{start_at}
+use Rattle.ds2_reading.specs.GroupStarts.{opens_group, group_openings, keys_of_loads}
+use Rattle.ds2_reading.specs.KeyOrder.{InputKeys}
+use Rattle.ds2_reading.specs.Places.{item_before}
+use Rattle.ds2_reading.proofs.Flagged.{flagged_length, flagged_keys}
+use Rattle.ds2_reading.proofs.Starts.{openings_are, as_many, beginnings}
 use Rattle.ds2_merge.specs.KeyPlaces.{opening_key_place, key_place_behind, loads_of_rows, loads_of_all, key_in_input, left_behind, HasTables, IsBetweenKeys, IsKeyEntered, key_openings_left, HasKeyPlaces, StandAtKeys}
 use Rattle.ds2_merge.specs.declared.key_place.KeyPlace.{KeyPlace}
 use Rattle.ds2_merge.specs.declared.key_place.KeyRows.{KeyRows}

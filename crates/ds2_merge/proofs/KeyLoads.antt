@@ -11,9 +11,9 @@ use Rattle.std.proofs.lemmas.Option.{slice_get-get_or, slice_get-map, slice_get_
 use Rattle.ds2_value.specs.declared.value.Value.{Value}
 use Rattle.ds2_table.specs.LoadLaws.{HaveTableKeys, rows_of_key}
 use Rattle.ds2_table.specs.Loads.{InputRow, numbered_rows, input_rows, rows_with_key, matches, most_rows, merge_load, loads_of_key}
-use Rattle.ds2_by_order.specs.RowsLeft.{ordered_rows, rows_left}
-use Rattle.ds2_by_order.proofs.RowCounts.{numbered_length}
-use Rattle.ds2_by_order.proofs.RowPlaces.{order_length}
+use Rattle.ds2_reading.specs.RowsLeft.{ordered_rows, rows_left}
+use Rattle.ds2_reading.proofs.RowCounts.{numbered_length}
+use Rattle.ds2_reading.proofs.RowPlaces.{order_length}
 use Rattle.ds2_merge.specs.KeyPlaces.{most_between, AreThere}
 use Rattle.ds2_merge.proofs.TableRows.{of_table, is_of, left_of_table, numbers_of_key, fewer_kept}
 

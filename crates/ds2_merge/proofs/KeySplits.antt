@@ -11,11 +11,11 @@ use Rattle.ds2_table.specs.LoadLaws.{AreSorted, rows_of_key}
 use Rattle.ds2_table.specs.Loads.{InputRow, keys_order, has_key, each_once, keys_of_rows}
 use Rattle.ds2_table.proofs.ByOrder.{Fits, rows_equiv}
 use Rattle.ds2_table.proofs.Sorted.{AllFit, keys_antisymm, not_before_row, first_part, second_part}
-use Rattle.ds2_by_order.specs.KeyOrder.{parts_order}
-use Rattle.ds2_by_order.proofs.FirstLeft.{before_chain, key_joined}
-use Rattle.ds2_by_order.proofs.Parts.{parts_agree}
-use Rattle.ds2_by_order.proofs.SortedNumbers.{same_level}
-use Rattle.ds2_by_order.proofs.Unique.{equal_rows}
+use Rattle.ds2_reading.specs.KeyOrder.{parts_order}
+use Rattle.ds2_reading.proofs.FirstLeft.{before_chain, key_joined}
+use Rattle.ds2_reading.proofs.Parts.{parts_agree}
+use Rattle.ds2_reading.proofs.SortedNumbers.{same_level}
+use Rattle.ds2_reading.proofs.Unique.{equal_rows}
 use Rattle.ds2_merge.specs.KeyPlaces.{HaveNewKeys}
 
 -- ---- rows of a key

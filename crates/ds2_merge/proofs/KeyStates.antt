@@ -8,13 +8,13 @@ use Rattle.ds2_value.specs.declared.value.Value.{Value}
 use Rattle.ds2_table.specs.LoadLaws.{HaveTableKeys, AreSorted, rows_of_key}
 use Rattle.ds2_table.specs.Loads.{InputRow, KeyedLoad, input_rows, rows_with_key, matches, most_rows, merge_load, loads_of_key, loads_of_keys, each_once, keys_of_rows, numbered_rows}
 use Rattle.ds2_table.proofs.Sorted.{AllFit, order_fits, sorted}
-use Rattle.ds2_by_order.specs.KeyOrder.{InputKeys, row_in}
-use Rattle.ds2_by_order.specs.Places.{item_before}
-use Rattle.ds2_by_order.specs.RowsLeft.{rows_not_given, ordered_rows, given_one_more, IsNextLeft, IsFirstLeft}
-use Rattle.ds2_by_order.specs.declared.table_row.TableRow.{TableRow}
-use Rattle.ds2_by_order.proofs.FirstLeft.{not_given_fit, stable_of, key_joined}
-use Rattle.ds2_by_order.proofs.RowPlaces.{input_fit, start_is, order_length}
-use Rattle.ds2_by_order.proofs.RowCounts.{numbered_length}
+use Rattle.ds2_reading.specs.KeyOrder.{InputKeys, row_in}
+use Rattle.ds2_reading.specs.Places.{item_before}
+use Rattle.ds2_reading.specs.RowsLeft.{rows_not_given, ordered_rows, given_one_more, IsNextLeft, IsFirstLeft}
+use Rattle.ds2_reading.specs.declared.table_row.TableRow.{TableRow}
+use Rattle.ds2_reading.proofs.FirstLeft.{not_given_fit, stable_of, key_joined}
+use Rattle.ds2_reading.proofs.RowPlaces.{input_fit, start_is, order_length}
+use Rattle.ds2_reading.proofs.RowCounts.{numbered_length}
 use Rattle.ds2_merge.specs.KeyPlaces.{opening_key_place, key_place_behind, most_between, AreThere, HaveNewKeys, loads_of_rows, loads_of_all, key_in_input, left_behind, HasTables, IsBetweenKeys, IsKeyEnd, IsKeyEntered}
 use Rattle.ds2_merge.specs.declared.key_place.KeyPlace.{KeyPlace}
 use Rattle.ds2_merge.specs.declared.key_place.KeyRows.{KeyRows}

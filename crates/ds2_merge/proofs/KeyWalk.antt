@@ -7,10 +7,10 @@ use Rattle.std.proofs.lemmas.List.{append-nil}
 use Rattle.ds2_table.specs.LoadLaws.{HaveTableKeys, AreSorted, rows_of_key}
 use Rattle.ds2_table.specs.Loads.{InputRow}
 use Rattle.ds2_table.proofs.Sorted.{AllFit, not_before_row, first_part}
-use Rattle.ds2_by_order.specs.KeyOrder.{InputKeys, row_in, parts_order}
-use Rattle.ds2_by_order.specs.RowsLeft.{given_one_more, IsNextLeft}
-use Rattle.ds2_by_order.specs.declared.table_row.TableRow.{TableRow}
-use Rattle.ds2_by_order.proofs.FirstLeft.{key_joined, same_length}
+use Rattle.ds2_reading.specs.KeyOrder.{InputKeys, row_in, parts_order}
+use Rattle.ds2_reading.specs.RowsLeft.{given_one_more, IsNextLeft}
+use Rattle.ds2_reading.specs.declared.table_row.TableRow.{TableRow}
+use Rattle.ds2_reading.proofs.FirstLeft.{key_joined, same_length}
 use Rattle.ds2_merge.specs.KeyPlaces.{AreThere, key_in_input, left_behind, IsKeyEnd}
 use Rattle.ds2_merge.proofs.KeySplits.{this_key, none_of_earlier, has_the_key, passed_behind, first_passes}
 use Rattle.ds2_merge.proofs.KeyStates.{left_fit, left_sorted, one_more_there}

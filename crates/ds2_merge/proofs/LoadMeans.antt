@@ -8,13 +8,13 @@ use Rattle.std.proofs.lemmas.List.{get_or-set_same, get_or-set_other}
 use Rattle.ds2_value.specs.declared.value.Value.{Value}
 use Rattle.ds2_reading.specs.declared.load.Load.{Load as LoadInCode}
 use Rattle.ds2_table.specs.Loads.{InputRow, KeyedLoad, flags_beside, is_new_key, flagged_load, input_rows, rows_with_key, matches, merge_load, merge_loads}
-use Rattle.ds2_by_order.specs.KeyOrder.{InputKeys, numbered_row}
-use Rattle.ds2_by_order.specs.LoadMeaning.{row_or_none, bits_of, flags_behind, load_meaning}
-use Rattle.ds2_by_order.specs.Places.{item_before}
-use Rattle.ds2_by_order.specs.RowsLeft.{ordered_rows, IsFirstLeft}
-use Rattle.ds2_by_order.specs.declared.table_row.TableRow.{TableRow}
-use Rattle.ds2_by_order.proofs.Flagged.{flagged_at}
-use Rattle.ds2_by_order.proofs.RowPlaces.{rows_of_one_within}
+use Rattle.ds2_reading.specs.KeyOrder.{InputKeys, numbered_row}
+use Rattle.ds2_reading.specs.LoadMeaning.{row_or_none, bits_of, flags_behind, load_meaning}
+use Rattle.ds2_reading.specs.Places.{item_before}
+use Rattle.ds2_reading.specs.RowsLeft.{ordered_rows, IsFirstLeft}
+use Rattle.ds2_reading.specs.declared.table_row.TableRow.{TableRow}
+use Rattle.ds2_reading.proofs.Flagged.{flagged_at}
+use Rattle.ds2_reading.proofs.RowPlaces.{rows_of_one_within}
 use Rattle.ds2_merge.specs.KeyPlaces.{key_place_behind, loads_of_all, key_in_input, IsAmongLoads, IsRowBehind}
 use Rattle.ds2_merge.specs.declared.key_place.KeyPlace.{KeyPlace}
 use Rattle.ds2_merge.specs.declared.key_place.KeyRows.{KeyRows}

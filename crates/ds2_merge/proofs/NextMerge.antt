@@ -5,8 +5,8 @@ use Rattle.std.specs.Option.{option_map}
 use Rattle.std.proofs.lemmas.Bool.Decides.{Decides-ltb}
 use Rattle.std.proofs.lemmas.Option.{slice_get_past}
 use Rattle.ds2_table.specs.Loads.{KeyedLoad, merge_loads}
-use Rattle.ds2_by_order.specs.KeyOrder.{InputKeys}
-use Rattle.ds2_by_order.proofs.Flagged.{flagged_length}
+use Rattle.ds2_reading.specs.KeyOrder.{InputKeys}
+use Rattle.ds2_reading.proofs.Flagged.{flagged_length}
 use Rattle.ds2_merge.specs.KeyPlaces.{key_place_behind, between_keys, behind_load_of_key, loads_given, loads_of_all, IsKeyEntered, IsAmongLoads, IsNextKey, IsWithinKey, IsReadyToMerge, IsCurrentKey}
 use Rattle.ds2_merge.specs.declared.key_place.KeyPlace.{KeyPlace}
 use Rattle.ds2_merge.specs.declared.key_place.KeyRows.{KeyRows}

@@ -9,10 +9,10 @@ use Rattle.ds2_table.specs.Table.{Contents}
 use Rattle.ds2_reading.specs.ReadingFits.{read_tables_fit, by_keys_fit, reading_fits_tables}
 use Rattle.ds2_reading.specs.declared.reading.ByKey.{ByKey}
 use Rattle.ds2_reading.specs.declared.reading.Reading.{Reading}
-use Rattle.ds2_by_order.specs.CursorState.{Cursor, cursor_at_start}
-use Rattle.ds2_by_order.specs.KeyOrder.{InputKeys}
-use Rattle.ds2_by_order.specs.ReadingKeys.{directions_of, keys_of_table, keys_of_reading}
-use Rattle.ds2_by_order.specs.Places.{HasRoom}
+use Rattle.ds2_reading.specs.CursorState.{Cursor, cursor_at_start}
+use Rattle.ds2_reading.specs.KeyOrder.{InputKeys}
+use Rattle.ds2_reading.specs.ReadingKeys.{directions_of, keys_of_table, keys_of_reading}
+use Rattle.ds2_reading.specs.Places.{HasRoom}
 use Rattle.ds2_merge.specs.KeyPlaces.{opening_key_place, between_keys, HasTables, IsBetweenKeys, IsReadyToMerge, loads_given}
 use Rattle.ds2_merge.specs.declared.key_place.KeyPlace.{KeyPlace}
 use Rattle.ds2_merge.proofs.KeyStates.{at_start}

@@ -10,10 +10,10 @@ use Rattle.ds2_value.specs.declared.value.Value.{Value}
 use Rattle.ds2_table.specs.LoadLaws.{HaveTableKeys, AreKeys, AreSorted, rows_of_key}
 use Rattle.ds2_table.specs.Loads.{InputRow, numbered_rows, rows_with_key}
 use Rattle.ds2_table.proofs.Sorted.{AllFit, not_before_row, first_part, second_part, order_fits, sorted}
-use Rattle.ds2_by_order.specs.RowsLeft.{ordered_rows, rows_not_given, rows_left}
-use Rattle.ds2_by_order.proofs.FirstLeft.{left_fit, left_sorted, ordered_fit, ordered_sorted, not_given_fit, all_in_order, stable_of}
-use Rattle.ds2_by_order.proofs.Keys.{one_has}
-use Rattle.ds2_by_order.proofs.Unique.{unique}
+use Rattle.ds2_reading.specs.RowsLeft.{ordered_rows, rows_not_given, rows_left}
+use Rattle.ds2_reading.proofs.FirstLeft.{left_fit, left_sorted, ordered_fit, ordered_sorted, not_given_fit, all_in_order, stable_of}
+use Rattle.ds2_reading.proofs.Keys.{one_has}
+use Rattle.ds2_reading.proofs.Unique.{unique}
 
 -- the test for rows of a table
 abbrev pub is_of : ℕ → InputRow → Bool

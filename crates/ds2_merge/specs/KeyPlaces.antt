@@ -4,12 +4,12 @@ use Rattle.std.specs.Option.{option_map}
 use Rattle.ds2_value.specs.declared.value.Value.{Value}
 use Rattle.ds2_table.specs.LoadLaws.{HaveTableKeys, rows_of_key}
 use Rattle.ds2_table.specs.Loads.{InputRow, KeyedLoad, input_rows, matches, most_rows, each_once, keys_of_rows, loads_of_keys, merge_loads, groups}
-use Rattle.ds2_by_order.specs.CursorState.{start_at}
-use Rattle.ds2_by_order.specs.GroupStarts.{group_openings}
-use Rattle.ds2_by_order.specs.KeyOrder.{InputKeys, key_of_row}
-use Rattle.ds2_by_order.specs.Places.{item_before, all_rows, HasRoom}
-use Rattle.ds2_by_order.specs.RowsLeft.{rows_left, IsNextLeft, IsFirstLeft}
-use Rattle.ds2_by_order.specs.declared.table_row.TableRow.{TableRow}
+use Rattle.ds2_reading.specs.CursorState.{start_at}
+use Rattle.ds2_reading.specs.GroupStarts.{group_openings}
+use Rattle.ds2_reading.specs.KeyOrder.{InputKeys, key_of_row}
+use Rattle.ds2_reading.specs.Places.{item_before, all_rows, HasRoom}
+use Rattle.ds2_reading.specs.RowsLeft.{rows_left, IsNextLeft, IsFirstLeft}
+use Rattle.ds2_reading.specs.declared.table_row.TableRow.{TableRow}
 use Rattle.ds2_merge.specs.declared.key_place.KeyPlace.{KeyPlace}
 use Rattle.ds2_merge.specs.declared.key_place.KeyRows.{KeyRows}
 use Rattle.ds2_merge.specs.declared.key_place.MergePlace.{MergePlace}

@@ -3,16 +3,15 @@ ghost use Rattle.std.specs.Prelude.{◌≡◌, ◌≤◌, IsTrue, IfOk, length};
 ghost use Rattle.std.specs.Option.{option_map};
 ghost use Rattle.ds2_table.specs.Loads.{merge_loads};
 ghost use Rattle.ds2_reading.specs.ReadingFits.{reading_fits_tables};
-ghost use Rattle.ds2_by_order.specs.CursorState.{cursor_at_start, next_load_of, behind_next, group_count, start_of_group, before_group};
-ghost use Rattle.ds2_by_order.specs.LoadMeaning.{load_meaning};
-ghost use Rattle.ds2_by_order.specs.ReadingKeys.{directions_of, keys_of_reading};
+ghost use Rattle.ds2_reading.specs.CursorState.{cursor_at_start, next_load_of, behind_next, group_count, start_of_group, before_group};
+ghost use Rattle.ds2_reading.specs.LoadMeaning.{load_meaning};
+ghost use Rattle.ds2_reading.specs.ReadingKeys.{directions_of, keys_of_reading};
 
 use crate::groups::group_places;
 use crate::key_place::{KeyPlace, MergePlace};
 use crate::next_load::next_load;
 use ds2_base::{List, OutOfMemory};
-use ds2_by_order::SortedTables;
-use ds2_reading::{Load, Reading, Tables};
+use ds2_reading::{Load, Reading, SortedTables, Tables};
 use std::alloc::Global;
 use std::marker::Model;
 use std::sync::Arc;
@@ -31,7 +30,7 @@ impl Model for MergeCursor {
     ghost use Rattle.std.specs.Arc.{arc_value};
     ghost use Rattle.std.specs.Prelude.{length};
     ghost use Rattle.ds2_table.specs.Loads.{merge_loads};
-    ghost use Rattle.ds2_by_order.specs.CursorState.{Cursor};
+    ghost use Rattle.ds2_reading.specs.CursorState.{Cursor};
     ghost use Rattle.ds2_merge.specs.KeyPlaces.{IsReadyToMerge, StandAtKeys, loads_given};
 
     ghost Value = { Cursor };

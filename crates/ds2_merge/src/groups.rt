@@ -5,7 +5,7 @@ ghost use Rattle.ds2_merge.specs.KeyPlaces.{HasTables, IsKeyEntered, HasKeyPlace
 use crate::key_place::{KeyPlace, KeyRows};
 use crate::next_key::next_key;
 use ds2_base::{List, OutOfMemory};
-use ds2_by_order::SortedTables;
+use ds2_reading::SortedTables;
 use std::alloc::Global;
 
 // The places where groups begin, with the one before a key where it opens a group.

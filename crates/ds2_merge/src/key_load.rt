@@ -2,14 +2,13 @@
 ghost use Rattle.std.specs.Prelude.{◌≡◌, ◌+◌, ◌<◌, ◌≤◌, length, map, take, slice_get, nat_eq, if◌then◌else◌, Some};
 ghost use Rattle.std.specs.Option.{option_map};
 ghost use Rattle.ds2_table.specs.Loads.{KeyedLoad, rows_with_key, matches, input_rows, merge_loads};
-ghost use Rattle.ds2_by_order.specs.KeyOrder.{key_of_row};
-ghost use Rattle.ds2_by_order.specs.LoadMeaning.{row_or_none, load_meaning};
+ghost use Rattle.ds2_reading.specs.KeyOrder.{key_of_row};
+ghost use Rattle.ds2_reading.specs.LoadMeaning.{row_or_none, load_meaning};
 ghost use Rattle.ds2_merge.specs.KeyPlaces.{IsAmongLoads, IsRowBehind};
 
 use crate::key_place::{KeyPlace, KeyRows};
 use crate::present::tables_between;
-use ds2_by_order::{SortedTables, TableRow, flags};
-use ds2_reading::Load;
+use ds2_reading::{Load, SortedTables, TableRow, flags};
 
 // The number of the row that the next load of a key reads of a table; the greatest number where it reads none.
 fn row_of_table(tables: &SortedTables, place: &KeyPlace, key: &KeyRows, table: usize) -> u64

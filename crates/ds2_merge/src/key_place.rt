@@ -2,7 +2,7 @@
 ghost use Rattle.std.specs.Prelude.{◌≡◌, ◌+◌, ◌^◌, ◌<◌};
 ghost use Rattle.ds2_merge.specs.KeyPlaces.{opening_key_place, key_place_behind, between_keys, behind_load_of_key};
 
-use ds2_by_order::TableRow;
+use ds2_reading::TableRow;
 
 /// A place between the loads of two keys.
 #[derive(Clone, Copy)]

@@ -1,10 +1,10 @@
 //! The rows of the key that comes next.
 ghost use Rattle.std.specs.Prelude.{◌≡◌, ◌≤◌};
-ghost use Rattle.ds2_by_order.specs.RowsLeft.{IsNextLeft};
+ghost use Rattle.ds2_reading.specs.RowsLeft.{IsNextLeft};
 ghost use Rattle.ds2_merge.specs.KeyPlaces.{AreThere, HasTables, IsKeyEnd, IsBetweenKeys, IsNextKey, most_between};
 
 use crate::key_place::{KeyPlace, KeyRows};
-use ds2_by_order::{SortedTables, TableRow};
+use ds2_reading::{SortedTables, TableRow};
 
 // How many rows of each table come before those of the next key, where the first row of a key is the next one.
 fn end_of_key(tables: &SortedTables, place: &KeyPlace, first: TableRow) -> [usize; 16]

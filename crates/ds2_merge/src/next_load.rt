@@ -2,14 +2,13 @@
 ghost use Rattle.std.specs.Prelude.{◌≡◌, ◌+◌, length, min, slice_get};
 ghost use Rattle.std.specs.Option.{option_map};
 ghost use Rattle.ds2_table.specs.Loads.{KeyedLoad, merge_loads};
-ghost use Rattle.ds2_by_order.specs.LoadMeaning.{load_meaning};
+ghost use Rattle.ds2_reading.specs.LoadMeaning.{load_meaning};
 ghost use Rattle.ds2_merge.specs.KeyPlaces.{IsReadyToMerge, IsCurrentKey, loads_given};
 
 use crate::key_load::load_of_key;
 use crate::key_place::{KeyRows, MergePlace};
 use crate::next_key::next_key;
-use ds2_by_order::SortedTables;
-use ds2_reading::Load;
+use ds2_reading::{Load, SortedTables};
 
 // The key whose load comes next; None exactly behind the last load.
 fn current_key(tables: &SortedTables, place: &MergePlace) -> Option<KeyRows>

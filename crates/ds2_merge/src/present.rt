@@ -1,7 +1,7 @@
 //! The tables that have rows between two places, as bits.
 ghost use Rattle.std.specs.Prelude.{◌≡◌, ℕ, suc, ◌+◌, ◌*◌, ◌<◌, ◌≤◌, ◌∷◌, nat_lt, map, get_or};
 ghost use Rattle.std.specs.List.{range_with_len};
-ghost use Rattle.ds2_by_order.specs.LoadMeaning.{bits_of};
+ghost use Rattle.ds2_reading.specs.LoadMeaning.{bits_of};
 
 // Flags with one more in front of them.
 fn with_flag(flag: bool, flags: u16) -> u16

@@ -1,1 +1,16 @@
 pub mod TableNumbers
+pub mod Bits
+pub mod Digits
+pub mod FirstLeft
+pub mod FlagLemmas
+pub mod Flagged
+pub mod HeadLemmas
+pub mod HeadsTell
+pub mod Keys
+pub mod Parts
+pub mod Ranges
+pub mod RowCounts
+pub mod RowPlaces
+pub mod SortedNumbers
+pub mod Starts
+pub mod Unique

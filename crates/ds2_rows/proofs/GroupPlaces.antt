@@ -8,15 +8,15 @@ use Rattle.ds2_value.specs.declared.value.Value.{Value}
 use Rattle.ds2_table.specs.LoadLaws.{HaveTableKeys, AreInByOrder}
 use Rattle.ds2_table.specs.Loads.{InputRow, KeyedLoad, set_loads, groups}
 use Rattle.ds2_table.proofs.LoadOrder.{loads_stand_in_by_order}
-use Rattle.ds2_by_order.specs.CursorState.{start_at}
-use Rattle.ds2_by_order.specs.GroupStarts.{opens_group, group_openings, keys_of_loads}
-use Rattle.ds2_by_order.specs.KeyOrder.{row_in, key_of_row, InputKeys}
-use Rattle.ds2_by_order.specs.Places.{opening_place, place_behind, item_before, all_rows, IsRowPlace}
-use Rattle.ds2_by_order.specs.RowsLeft.{rows_left, given_one_more, IsNextLeft}
-use Rattle.ds2_by_order.specs.declared.place.Place.{Place}
-use Rattle.ds2_by_order.specs.declared.table_row.TableRow.{TableRow}
-use Rattle.ds2_by_order.proofs.RowPlaces.{start_is, behind_is, front_is, at_front, behind_front, none_behind}
-use Rattle.ds2_by_order.proofs.Starts.{offsets, openings_are, as_many, beginnings}
+use Rattle.ds2_reading.specs.CursorState.{start_at}
+use Rattle.ds2_reading.specs.GroupStarts.{opens_group, group_openings, keys_of_loads}
+use Rattle.ds2_reading.specs.KeyOrder.{row_in, key_of_row, InputKeys}
+use Rattle.ds2_reading.specs.Places.{opening_place, place_behind, item_before, all_rows, IsRowPlace}
+use Rattle.ds2_reading.specs.RowsLeft.{rows_left, given_one_more, IsNextLeft}
+use Rattle.ds2_reading.specs.declared.place.Place.{Place}
+use Rattle.ds2_reading.specs.declared.table_row.TableRow.{TableRow}
+use Rattle.ds2_reading.proofs.RowPlaces.{start_is, behind_is, front_is, at_front, behind_front, none_behind}
+use Rattle.ds2_reading.proofs.Starts.{offsets, openings_are, as_many, beginnings}
 use Rattle.ds2_rows.specs.SetPlaces.{openings_left, HasPlaces, StandAtGroups}
 use Rattle.ds2_rows.proofs.SetLoads.{keys_of_set, as_many_loads}
 

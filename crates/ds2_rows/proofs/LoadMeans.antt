@@ -5,10 +5,10 @@ use Rattle.std.specs.List.{range_with_len}
 use Rattle.ds2_value.specs.declared.value.Value.{Value}
 use Rattle.ds2_reading.specs.declared.load.Load.{Load as LoadInCode}
 use Rattle.ds2_table.specs.Loads.{flags_beside, is_new_key, flagged_load, set_load}
-use Rattle.ds2_by_order.specs.KeyOrder.{row_in, key_of_row}
-use Rattle.ds2_by_order.specs.LoadMeaning.{row_or_none, bits_of, flags_behind, load_meaning}
-use Rattle.ds2_by_order.specs.declared.table_row.TableRow.{TableRow}
-use Rattle.ds2_by_order.proofs.Bits.{row_alone}
+use Rattle.ds2_reading.specs.KeyOrder.{row_in, key_of_row}
+use Rattle.ds2_reading.specs.LoadMeaning.{row_or_none, bits_of, flags_behind, load_meaning}
+use Rattle.ds2_reading.specs.declared.table_row.TableRow.{TableRow}
+use Rattle.ds2_reading.proofs.Bits.{row_alone}
 use Rattle.ds2_rows.proofs.SetLoads.{present_is}
 
 -- a load that reads this row alone, with the flags between the rows beside it

@@ -5,12 +5,12 @@ use Rattle.std.specs.Option.{option_map}
 use Rattle.std.proofs.lemmas.Option.{slice_get_past}
 use Rattle.ds2_value.specs.declared.value.Value.{Value}
 use Rattle.ds2_table.specs.Loads.{InputRow, Load, KeyedLoad, flagged_load, set_load, set_loads}
-use Rattle.ds2_by_order.specs.KeyOrder.{row_in, key_of_row, InputKeys}
-use Rattle.ds2_by_order.specs.Places.{place_behind, item_before, all_rows, IsRowPlace, HasRoom}
-use Rattle.ds2_by_order.specs.RowsLeft.{rows_left, given_one_more, IsNextLeft, IsFirstLeft}
-use Rattle.ds2_by_order.specs.declared.place.Place.{Place}
-use Rattle.ds2_by_order.specs.declared.table_row.TableRow.{TableRow}
-use Rattle.ds2_by_order.proofs.RowPlaces.{behind_is, front_is, at_front, front_within, none_behind, rows_of_one_within, previous_long}
+use Rattle.ds2_reading.specs.KeyOrder.{row_in, key_of_row, InputKeys}
+use Rattle.ds2_reading.specs.Places.{place_behind, item_before, all_rows, IsRowPlace, HasRoom}
+use Rattle.ds2_reading.specs.RowsLeft.{rows_left, given_one_more, IsNextLeft, IsFirstLeft}
+use Rattle.ds2_reading.specs.declared.place.Place.{Place}
+use Rattle.ds2_reading.specs.declared.table_row.TableRow.{TableRow}
+use Rattle.ds2_reading.proofs.RowPlaces.{behind_is, front_is, at_front, front_within, none_behind, rows_of_one_within, previous_long}
 use Rattle.ds2_rows.specs.SetPlaces.{IsReady}
 use Rattle.ds2_rows.proofs.SetLoads.{load_at, as_many_loads}
 

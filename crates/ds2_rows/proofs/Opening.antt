@@ -10,11 +10,11 @@ use Rattle.ds2_table.specs.Table.{Contents}
 use Rattle.ds2_reading.specs.ReadingFits.{read_tables_fit, by_keys_fit, reading_fits_tables}
 use Rattle.ds2_reading.specs.declared.reading.ByKey.{ByKey}
 use Rattle.ds2_reading.specs.declared.reading.Reading.{Reading}
-use Rattle.ds2_by_order.specs.CursorState.{Cursor, cursor_at_start}
-use Rattle.ds2_by_order.specs.KeyOrder.{InputKeys}
-use Rattle.ds2_by_order.specs.ReadingKeys.{directions_of, keys_of_table, keys_of_reading}
-use Rattle.ds2_by_order.specs.Places.{opening_place, HasRoom}
-use Rattle.ds2_by_order.proofs.RowPlaces.{start_is}
+use Rattle.ds2_reading.specs.CursorState.{Cursor, cursor_at_start}
+use Rattle.ds2_reading.specs.KeyOrder.{InputKeys}
+use Rattle.ds2_reading.specs.ReadingKeys.{directions_of, keys_of_table, keys_of_reading}
+use Rattle.ds2_reading.specs.Places.{opening_place, HasRoom}
+use Rattle.ds2_reading.proofs.RowPlaces.{start_is}
 use Rattle.ds2_rows.specs.SetPlaces.{IsReady}
 
 first_so : (b c : Bool) → b && c ≡ true → b ≡ true

@@ -7,8 +7,8 @@ use Rattle.std.proofs.lemmas.List.{length-map}
 use Rattle.std.proofs.lemmas.Option.{slice_get-map}
 use Rattle.ds2_value.specs.declared.value.Value.{Value}
 use Rattle.ds2_table.specs.Loads.{InputRow, KeyedLoad, flagged_load, set_load, set_loads}
-use Rattle.ds2_by_order.specs.Places.{item_before, all_rows}
-use Rattle.ds2_by_order.proofs.Flagged.{flagged_at, flagged_length, flagged_keys}
+use Rattle.ds2_reading.specs.Places.{item_before, all_rows}
+use Rattle.ds2_reading.proofs.Flagged.{flagged_at, flagged_length, flagged_keys}
 
 mapped_key : (n : ℕ) (row : Option InputRow) → option_map (λ (l : KeyedLoad). l.key) (option_map (set_load n) row) ≡ option_map (λ (r : InputRow). r.key) row
 mapped_key n None = refl

@@ -3,11 +3,11 @@ use Rattle.std.specs.Prelude.{◌≡◌, ℕ, ◌+◌, ◌≤◌, ◌++◌, leng
 use Rattle.std.specs.Option.{option_map}
 use Rattle.ds2_table.specs.LoadLaws.{HaveTableKeys}
 use Rattle.ds2_table.specs.Loads.{InputRow, set_loads, groups}
-use Rattle.ds2_by_order.specs.CursorState.{start_at}
-use Rattle.ds2_by_order.specs.GroupStarts.{group_openings}
-use Rattle.ds2_by_order.specs.KeyOrder.{InputKeys}
-use Rattle.ds2_by_order.specs.Places.{item_before, all_rows, IsRowPlace, HasRoom}
-use Rattle.ds2_by_order.specs.declared.place.Place.{Place}
+use Rattle.ds2_reading.specs.CursorState.{start_at}
+use Rattle.ds2_reading.specs.GroupStarts.{group_openings}
+use Rattle.ds2_reading.specs.KeyOrder.{InputKeys}
+use Rattle.ds2_reading.specs.Places.{item_before, all_rows, IsRowPlace, HasRoom}
+use Rattle.ds2_reading.specs.declared.place.Place.{Place}
 
 -- a place behind which the next load can be given
 pub record IsReady (input : InputKeys) (place : Place) : Type 0 where

@@ -1,12 +1,12 @@
 //! The places where groups begin.
 ghost use Rattle.std.specs.Prelude.{◌≤◌, length, IfOk};
 ghost use Rattle.ds2_table.specs.LoadLaws.{HaveTableKeys};
-ghost use Rattle.ds2_by_order.specs.Places.{place_behind, HasRoom};
-ghost use Rattle.ds2_by_order.specs.RowsLeft.{IsNextLeft};
+ghost use Rattle.ds2_reading.specs.Places.{place_behind, HasRoom};
+ghost use Rattle.ds2_reading.specs.RowsLeft.{IsNextLeft};
 ghost use Rattle.ds2_rows.specs.SetPlaces.{HasPlaces, StandAtGroups};
 
 use ds2_base::{List, OutOfMemory};
-use ds2_by_order::{Place, SortedTables, TableRow};
+use ds2_reading::{Place, SortedTables, TableRow};
 use std::alloc::Global;
 
 // The places where groups begin, with the one before a row where it opens a group.

@@ -2,12 +2,11 @@
 ghost use Rattle.std.specs.Prelude.{◌≡◌, ◌+◌, ◌^◌, ◌<◌, ◌≤◌, length, min, slice_get, slice_set, replicate, IfSome};
 ghost use Rattle.std.specs.Option.{option_map};
 ghost use Rattle.ds2_table.specs.Loads.{KeyedLoad, flagged_load, set_load, set_loads};
-ghost use Rattle.ds2_by_order.specs.KeyOrder.{key_of_row, row_in};
-ghost use Rattle.ds2_by_order.specs.LoadMeaning.{load_meaning};
+ghost use Rattle.ds2_reading.specs.KeyOrder.{key_of_row, row_in};
+ghost use Rattle.ds2_reading.specs.LoadMeaning.{load_meaning};
 ghost use Rattle.ds2_rows.specs.SetPlaces.{IsReady};
 
-use ds2_by_order::{Place, SortedTables, TableRow, flags};
-use ds2_reading::Load;
+use ds2_reading::{Load, Place, SortedTables, TableRow, flags};
 
 // For each table that no row of it is read, and of one table the row of this number.
 fn one_row(row: TableRow) -> [u64; 16]

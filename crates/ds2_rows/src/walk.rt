@@ -3,14 +3,13 @@ ghost use Rattle.std.specs.Prelude.{◌≡◌, IsTrue, IfOk, length};
 ghost use Rattle.std.specs.Option.{option_map};
 ghost use Rattle.ds2_table.specs.Loads.{set_loads};
 ghost use Rattle.ds2_reading.specs.ReadingFits.{reading_fits_tables};
-ghost use Rattle.ds2_by_order.specs.CursorState.{cursor_at_start, next_load_of, behind_next};
-ghost use Rattle.ds2_by_order.specs.LoadMeaning.{load_meaning};
-ghost use Rattle.ds2_by_order.specs.ReadingKeys.{directions_of, keys_of_reading};
+ghost use Rattle.ds2_reading.specs.CursorState.{cursor_at_start, next_load_of, behind_next};
+ghost use Rattle.ds2_reading.specs.LoadMeaning.{load_meaning};
+ghost use Rattle.ds2_reading.specs.ReadingKeys.{directions_of, keys_of_reading};
 
 use crate::row_load::next_load;
 use ds2_base::OutOfMemory;
-use ds2_by_order::{Place, SortedTables};
-use ds2_reading::{Load, Reading, Tables};
+use ds2_reading::{Load, Place, Reading, SortedTables, Tables};
 use std::alloc::Global;
 use std::marker::Model;
 
@@ -25,7 +24,7 @@ pub struct SetWalk {
 impl Model for SetWalk {
     ghost use Rattle.std.specs.Prelude.{length};
     ghost use Rattle.ds2_table.specs.Loads.{set_loads};
-    ghost use Rattle.ds2_by_order.specs.CursorState.{Cursor};
+    ghost use Rattle.ds2_reading.specs.CursorState.{Cursor};
     ghost use Rattle.ds2_rows.specs.SetPlaces.{IsReady};
 
     ghost Value = { Cursor };

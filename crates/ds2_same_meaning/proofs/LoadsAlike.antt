@@ -13,7 +13,7 @@ use Rattle.ds2_value.specs.declared.value.Value.TheVariants.{Null}
 use Rattle.ds2_table.specs.Loads.{Load, set_loads, merge_loads}
 use Rattle.ds2_table.specs.Table.{Contents}
 use Rattle.ds2_reading.specs.declared.reading.ByKey.{ByKey}
-use Rattle.ds2_by_order.specs.ReadingKeys.{directions_of, column_of_slot, columns_of_bys, key_in_columns, keys_in_columns, keys_of_table}
+use Rattle.ds2_reading.specs.ReadingKeys.{directions_of, column_of_slot, columns_of_bys, key_in_columns, keys_in_columns, keys_of_table}
 use Rattle.ds2_meaning.specs.declared.location.Global.{Global}
 use Rattle.ds2_meaning.specs.declared.location.Global.TheVariants.{Named, First, Last, Present}
 use Rattle.ds2_meaning.specs.declared.readings.ByVariable.{ByVariable}

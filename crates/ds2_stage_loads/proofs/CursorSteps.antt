@@ -5,8 +5,8 @@ use Rattle.std.specs.Option.{option_map}
 use Rattle.std.proofs.lemmas.List.{length-append, length-map, drop-map}
 use Rattle.ds2_table.specs.LoadLaws.{one_after_another}
 use Rattle.ds2_table.specs.Loads.{Load, KeyedLoad, groups}
-use Rattle.ds2_by_order.specs.CursorState.{Cursor, next_load_of, behind_next, before_group, group_count, start_of_group}
-use Rattle.ds2_by_order.specs.LoadMeaning.{load_meaning}
+use Rattle.ds2_reading.specs.CursorState.{Cursor, next_load_of, behind_next, before_group, group_count, start_of_group}
+use Rattle.ds2_reading.specs.LoadMeaning.{load_meaning}
 use Rattle.ds2_reading.specs.declared.load.Load.{Load as LoadInCode}
 use Rattle.ds2_code.specs.Desk.{SlotSettings}
 use Rattle.ds2_loads.specs.declared.table_load.TableLoad.{TableLoad}

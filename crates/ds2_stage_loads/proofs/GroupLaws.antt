@@ -4,7 +4,7 @@ use Rattle.std.proofs.lemmas.List.{map-append}
 use Rattle.ds2_table.specs.LoadLaws.{GroupsDivideLoads, LoadsStandInByOrder, one_after_another}
 use Rattle.ds2_table.specs.Loads.{KeyedLoad, groups}
 use Rattle.ds2_table.specs.Table.{Contents}
-use Rattle.ds2_by_order.specs.ReadingKeys.{directions_of, keys_of_reading}
+use Rattle.ds2_reading.specs.ReadingKeys.{directions_of, keys_of_reading}
 use Rattle.ds2_reading.specs.declared.reading.Reading.{Reading}
 use Rattle.ds2_code.specs.declared.parts.ProgramParts.{ProgramParts}
 use Rattle.ds2_code.specs.declared.parts.ReadingPart.{ReadingPart}

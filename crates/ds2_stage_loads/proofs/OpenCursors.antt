@@ -8,9 +8,9 @@ use Rattle.ds2_value.specs.Value.{or_null}
 use Rattle.ds2_table.specs.LoadLaws.{one_after_another, AreKeys, HaveTableKeys}
 use Rattle.ds2_table.specs.Loads.{Load, KeyedLoad, keyed_load, groups}
 use Rattle.ds2_table.specs.Table.{Contents}
-use Rattle.ds2_by_order.specs.CursorState.{Cursor, cursor_at_start, next_load_of, behind_next}
-use Rattle.ds2_by_order.specs.LoadMeaning.{load_meaning}
-use Rattle.ds2_by_order.specs.ReadingKeys.{directions_of, column_of_slot, columns_of_bys, key_in_columns, keys_in_columns, keys_of_table}
+use Rattle.ds2_reading.specs.CursorState.{Cursor, cursor_at_start, next_load_of, behind_next}
+use Rattle.ds2_reading.specs.LoadMeaning.{load_meaning}
+use Rattle.ds2_reading.specs.ReadingKeys.{directions_of, column_of_slot, columns_of_bys, key_in_columns, keys_in_columns, keys_of_table}
 use Rattle.ds2_reading.specs.declared.reading.ByKey.{ByKey}
 use Rattle.ds2_reading.specs.declared.reading.ReadTable.{ReadTable}
 use Rattle.ds2_reading.specs.declared.load.Load.{Load as LoadInCode}

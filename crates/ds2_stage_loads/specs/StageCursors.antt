@@ -1,8 +1,8 @@
 -- Places in the loads of a program: which loads are left, and in which groups all of them are.
 use Rattle.std.specs.Prelude.{◌≡◌, ℕ, Bool, true, false, List, [], ◌∷◌, length, map, take, drop, Option, MatchOption, slice_get, Some}
 use Rattle.ds2_table.specs.Loads.{KeyedLoad, keyed_load, groups}
-use Rattle.ds2_by_order.specs.CursorState.{Cursor, group_count}
-use Rattle.ds2_by_order.specs.LoadMeaning.{load_meaning}
+use Rattle.ds2_reading.specs.CursorState.{Cursor, group_count}
+use Rattle.ds2_reading.specs.LoadMeaning.{load_meaning}
 use Rattle.ds2_reading.specs.declared.load.Load.{Load as LoadInCode}
 use Rattle.ds2_reading.specs.declared.reading.Reading.{Reading}
 use Rattle.ds2_code.specs.Desk.{SlotSettings}

@@ -1,7 +1,7 @@
 //! Loads that are kept in a list.
 ghost use Rattle.std.specs.Prelude.{◌≡◌, ◌+◌, false, None, Some, IfOk, MatchOption, map, drop, slice_get};
 ghost use Rattle.ds2_table.specs.Loads.{KeyedLoad};
-ghost use Rattle.ds2_by_order.specs.LoadMeaning.{load_meaning};
+ghost use Rattle.ds2_reading.specs.LoadMeaning.{load_meaning};
 
 use ds2_base::{List, OutOfMemory};
 use ds2_merge::MergeWalk;

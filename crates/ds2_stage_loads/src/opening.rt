@@ -1,7 +1,7 @@
 //! The loads of a program at their opening.
 ghost use Rattle.std.specs.Prelude.{◌≡◌, ◌≤◌, IsTrue, IfOk, length};
 ghost use Rattle.ds2_table.specs.Loads.{set_loads, merge_loads};
-ghost use Rattle.ds2_by_order.specs.ReadingKeys.{directions_of, keys_of_reading};
+ghost use Rattle.ds2_reading.specs.ReadingKeys.{directions_of, keys_of_reading};
 ghost use Rattle.ds2_reading.specs.ReadingFits.{reading_fits_tables};
 ghost use Rattle.ds2_code_answer.specs.CodeLoads.{code_keyed_loads, code_reading, retains_columns};
 ghost use Rattle.ds2_unit.specs.UnitsRun.{ReadsNoThread};

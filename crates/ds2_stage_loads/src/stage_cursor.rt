@@ -1,6 +1,6 @@
 //! The place in the loads of a program.
 ghost use Rattle.std.specs.Prelude.{◌≡◌, ◌+◌, ◌<◌, IfOk, length};
-ghost use Rattle.ds2_by_order.specs.CursorState.{group_count, start_of_group};
+ghost use Rattle.ds2_reading.specs.CursorState.{group_count, start_of_group};
 ghost use Rattle.ds2_loads.specs.declared.table_load.TableLoad.{TableLoad as LoadOf};
 ghost use Rattle.ds2_stage_loads.specs.StageCursors.{IsCursorOver, HasGivenNext, HasEntered, cursor_groups, group_number};
 

@@ -4,8 +4,8 @@ use Rattle.std.specs.Prelude.{slice_get}
 use Rattle.std.specs.Option.{option_map}
 use Rattle.ds2_table.specs.Loads.{Load, KeyedLoad}
 use Rattle.ds2_reading.specs.declared.load.Load.{Load as LoadInCode}
-use Rattle.ds2_by_order.specs.CursorState.{Cursor, next_load_of, behind_next}
-use Rattle.ds2_by_order.specs.LoadMeaning.{load_meaning}
+use Rattle.ds2_reading.specs.CursorState.{Cursor, next_load_of, behind_next}
+use Rattle.ds2_reading.specs.LoadMeaning.{load_meaning}
 use Rattle.ds2_code.specs.Desk.{SlotSettings}
 use Rattle.ds2_loads.specs.declared.table_load.TableLoad.{TableLoad}
 use Rattle.ds2_unit.specs.StatementSource.{settings_of_statement, settings_left}

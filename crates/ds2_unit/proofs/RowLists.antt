@@ -11,9 +11,9 @@ use Rattle.ds2_reading.specs.declared.load.Load.{Load as LoadInCode}
 use Rattle.ds2_reading.specs.declared.reading.ByKey.{ByKey}
 use Rattle.ds2_reading.specs.declared.reading.ReadTable.{ReadTable}
 use Rattle.ds2_reading.specs.declared.reading.Reading.{Reading}
-use Rattle.ds2_by_order.specs.LoadMeaning.{row_or_none, bits_of, load_meaning}
-use Rattle.ds2_by_order.specs.ReadingKeys.{keys_in_columns, keys_of_table, directions_of}
-use Rattle.ds2_by_order.proofs.Bits.{row_alone}
+use Rattle.ds2_reading.specs.LoadMeaning.{row_or_none, bits_of, load_meaning}
+use Rattle.ds2_reading.specs.ReadingKeys.{keys_in_columns, keys_of_table, directions_of}
+use Rattle.ds2_reading.proofs.Bits.{row_alone}
 use Rattle.ds2_code.specs.declared.parts.Slot.{Slot}
 use Rattle.ds2_code.specs.Desk.{SlotSettings}
 use Rattle.ds2_code_answer.specs.CodeLoads.{table_nulls, read_settings, in_flag_settings, by_flag_settings, first_flag_of, last_flag_of, load_settings}

@@ -4,7 +4,7 @@ use Rattle.ds2_value.specs.declared.value.Value.{Value}
 use Rattle.ds2_table.specs.Loads.{InputRow, numbered_rows, input_rows}
 use Rattle.ds2_table.specs.Table.{Contents}
 use Rattle.ds2_reading.specs.declared.reading.ReadTable.{ReadTable}
-use Rattle.ds2_by_order.specs.ReadingKeys.{keys_of_table}
+use Rattle.ds2_reading.specs.ReadingKeys.{keys_of_table}
 use Rattle.ds2_unit.specs.declared.row_place.RowPlace.{RowPlace}
 
 -- the rows that are left: of the first of these tables, which has this number, those behind so many, and all rows of the further ones

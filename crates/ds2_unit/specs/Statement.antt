@@ -3,7 +3,7 @@ use Rattle.std.specs.Prelude.{Bool, false, List, map}
 use Rattle.ds2_table.specs.Loads.{KeyedLoad, set_loads, merge_loads}
 use Rattle.ds2_table.specs.Table.{Contents}
 use Rattle.ds2_reading.specs.declared.reading.Reading.{Reading}
-use Rattle.ds2_by_order.specs.ReadingKeys.{directions_of, keys_of_reading}
+use Rattle.ds2_reading.specs.ReadingKeys.{directions_of, keys_of_reading}
 use Rattle.ds2_code.specs.declared.parts.Slot.{Slot}
 use Rattle.ds2_code.specs.Desk.{SlotSettings}
 use Rattle.ds2_code_answer.specs.CodeLoads.{load_settings}

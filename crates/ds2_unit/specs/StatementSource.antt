@@ -1,8 +1,8 @@
 -- What the loads of a reading statement set.
 use Rattle.std.specs.Prelude.{List, length, map, drop}
 use Rattle.ds2_table.specs.Loads.{KeyedLoad, Load}
-use Rattle.ds2_by_order.specs.CursorState.{Cursor}
-use Rattle.ds2_by_order.specs.LoadMeaning.{load_meaning}
+use Rattle.ds2_reading.specs.CursorState.{Cursor}
+use Rattle.ds2_reading.specs.LoadMeaning.{load_meaning}
 use Rattle.ds2_code.specs.Desk.{SlotSettings}
 use Rattle.ds2_code_answer.specs.CodeLoads.{load_settings}
 use Rattle.ds2_loads.specs.declared.table_load.TableLoad.{TableLoad}

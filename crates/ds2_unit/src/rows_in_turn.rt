@@ -1,13 +1,12 @@
 //! The rows of a statement's tables, row after row and table after table, as loads.
 ghost use Rattle.std.specs.Prelude.{◌≡◌, ◌+◌, ◌^◌, ◌<◌, ◌≤◌, ℕ, [], length, drop, replicate, slice_set, IfSome, MatchOption};
 ghost use Rattle.ds2_table.specs.Loads.{set_load};
-ghost use Rattle.ds2_by_order.specs.LoadMeaning.{load_meaning};
-ghost use Rattle.ds2_by_order.specs.ReadingKeys.{keys_of_table};
+ghost use Rattle.ds2_reading.specs.LoadMeaning.{load_meaning};
+ghost use Rattle.ds2_reading.specs.ReadingKeys.{keys_of_table};
 ghost use Rattle.ds2_unit.specs.RowsBehind.{rows_behind, IsRowNext};
 
 use crate::row_place::RowPlace;
-use ds2_by_order::flags;
-use ds2_reading::{Load, ReadTable, Tables};
+use ds2_reading::{Load, ReadTable, Tables, flags};
 
 // How many rows a table has.
 #[tactic(auto, using(crate::proofs::RowLists::rows_counted))]

@@ -1,7 +1,7 @@
 //! One case.
 ghost use Rattle.std.specs.Prelude.{◌≡◌, ◌≤◌, IsTrue, length};
 ghost use Rattle.ds2_reading.specs.ReadingFits.{reading_fits_tables};
-ghost use Rattle.ds2_by_order.specs.CursorState.{group_count};
+ghost use Rattle.ds2_reading.specs.CursorState.{group_count};
 ghost use Rattle.ds2_layer_cases.specs.LoadCursors.{cursor_in};
 
 use crate::loads::cursor::LoadCursor;

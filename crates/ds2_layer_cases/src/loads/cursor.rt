@@ -1,6 +1,6 @@
 //! The cursors of both statements as one.
 ghost use Rattle.std.specs.Prelude.{◌≡◌, ◌≤◌};
-ghost use Rattle.ds2_by_order.specs.CursorState.{group_count};
+ghost use Rattle.ds2_reading.specs.CursorState.{group_count};
 ghost use Rattle.ds2_layer_cases.specs.LoadCursors.{cursor_in};
 
 use ds2_base::OutOfMemory;

@@ -1,5 +1,5 @@
 use Rattle.std.proofs.Common.{◌≡◌, length}
-use Rattle.ds2_by_order.specs.LoadMeaning.{bits_of}
+use Rattle.ds2_reading.specs.LoadMeaning.{bits_of}
 use Rattle.ds2_code.specs.Desk.{with_slot_settings}
 use Rattle.ds2_code_answer.specs.CodeLoads.{by_flag_settings, first_flag_of}
 use Rattle.ds2_loads.proofs.table_load.set_first_flags.Given as goal

@@ -1,7 +1,7 @@
 use Rattle.std.proofs.Common.{◌≡◌, length, map, Some, refl}
 use Rattle.std.specs.Prelude.{slice_get}
 use Rattle.std.proofs.lemmas.Option.{slice_get_read}
-use Rattle.ds2_by_order.specs.LoadMeaning.{row_or_none}
+use Rattle.ds2_reading.specs.LoadMeaning.{row_or_none}
 use Rattle.ds2_code.specs.Desk.{with_slot_settings}
 use Rattle.ds2_code_answer.specs.CodeLoads.{read_settings}
 use Rattle.ds2_loads.proofs.LoadSteps.{reads_next}

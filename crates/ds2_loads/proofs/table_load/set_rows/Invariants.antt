@@ -1,6 +1,6 @@
 use Rattle.std.proofs.Common.{◌≡◌, drop}
 use Rattle.std.specs.Prelude.{map}
-use Rattle.ds2_by_order.specs.LoadMeaning.{row_or_none}
+use Rattle.ds2_reading.specs.LoadMeaning.{row_or_none}
 use Rattle.ds2_code.specs.Desk.{with_slot_settings}
 use Rattle.ds2_code_answer.specs.CodeLoads.{read_settings}
 use Rattle.ds2_loads.proofs.table_load.set_rows.Given as goal

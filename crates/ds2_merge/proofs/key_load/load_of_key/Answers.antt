@@ -3,7 +3,7 @@ use Rattle.std.specs.Prelude.{get_or, is_some, Some}
 use Rattle.std.specs.List.{range_with_len}
 use Rattle.std.specs.Option.{option_map}
 use Rattle.ds2_table.specs.Loads.{input_rows, matches}
-use Rattle.ds2_by_order.specs.LoadMeaning.{bits_of}
+use Rattle.ds2_reading.specs.LoadMeaning.{bits_of}
 use Rattle.ds2_merge.specs.KeyPlaces.{key_in_input}
 use Rattle.ds2_merge.proofs.LoadMeans.{before_long, behind_long, present_is, load_means, load_is}
 use Rattle.ds2_merge.proofs.key_load.load_of_key.Goals as goal

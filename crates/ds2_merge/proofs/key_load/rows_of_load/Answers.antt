@@ -1,7 +1,7 @@
 use Rattle.std.proofs.Common.{length, refl, ◌∙◌, arith}
 use Rattle.std.specs.Prelude.{slice_get}
 use Rattle.ds2_table.specs.Loads.{rows_with_key, input_rows}
-use Rattle.ds2_by_order.proofs.FirstLeft.{same_length}
+use Rattle.ds2_reading.proofs.FirstLeft.{same_length}
 use Rattle.ds2_merge.specs.KeyPlaces.{key_in_input}
 use Rattle.ds2_merge.proofs.LoadMeans.{one_more_read, rows_read}
 use Rattle.ds2_merge.proofs.key_load.rows_of_load.Goals as goal

@@ -1,7 +1,7 @@
 use Rattle.std.proofs.Common.{◌≡◌, ℕ, ◌<◌, length}
 use Rattle.std.specs.Prelude.{slice_get, get_or}
 use Rattle.ds2_table.specs.Loads.{rows_with_key, input_rows}
-use Rattle.ds2_by_order.specs.LoadMeaning.{row_or_none}
+use Rattle.ds2_reading.specs.LoadMeaning.{row_or_none}
 use Rattle.ds2_merge.specs.KeyPlaces.{key_in_input}
 use Rattle.ds2_merge.proofs.key_load.rows_of_load.Given as goal
 

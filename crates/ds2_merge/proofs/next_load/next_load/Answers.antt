@@ -2,7 +2,7 @@ use Rattle.std.proofs.Common.{length, ap, sym, ◌∙◌}
 use Rattle.std.specs.Prelude.{slice_get}
 use Rattle.std.specs.Option.{option_map}
 use Rattle.ds2_table.specs.Loads.{KeyedLoad, merge_loads}
-use Rattle.ds2_by_order.specs.LoadMeaning.{load_meaning}
+use Rattle.ds2_reading.specs.LoadMeaning.{load_meaning}
 use Rattle.ds2_merge.specs.KeyPlaces.{loads_given}
 use Rattle.ds2_merge.proofs.KeyStates.{count_fits}
 use Rattle.ds2_merge.proofs.NextMerge.{ready_behind, given_is, no_load, none_given}

@@ -1,5 +1,5 @@
 use Rattle.std.proofs.Common.{length}
-use Rattle.ds2_by_order.specs.RowsLeft.{rows_left}
+use Rattle.ds2_reading.specs.RowsLeft.{rows_left}
 use Rattle.ds2_rows.specs.SetPlaces.{HasPlaces}
 use Rattle.ds2_rows.proofs.groups.group_places.Given as goal
 

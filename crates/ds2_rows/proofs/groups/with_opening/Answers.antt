@@ -1,7 +1,7 @@
 use Rattle.std.proofs.Common.{List, sym, subst, ◌∙◌}
-use Rattle.ds2_by_order.specs.Places.{place_behind}
-use Rattle.ds2_by_order.specs.declared.place.Place.{Place}
-use Rattle.ds2_by_order.proofs.RowPlaces.{previous_long}
+use Rattle.ds2_reading.specs.Places.{place_behind}
+use Rattle.ds2_reading.specs.declared.place.Place.{Place}
+use Rattle.ds2_reading.proofs.RowPlaces.{previous_long}
 use Rattle.ds2_rows.specs.SetPlaces.{HasPlaces}
 use Rattle.ds2_rows.proofs.GroupPlaces.{opened, passed}
 use Rattle.ds2_rows.proofs.groups.with_opening.Goals as goal

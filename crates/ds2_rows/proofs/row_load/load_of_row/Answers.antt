@@ -1,7 +1,7 @@
 use Rattle.std.proofs.Common.{length}
 use Rattle.std.specs.Prelude.{is_some}
 use Rattle.std.specs.Option.{option_map}
-use Rattle.ds2_by_order.specs.KeyOrder.{key_of_row}
+use Rattle.ds2_reading.specs.KeyOrder.{key_of_row}
 use Rattle.ds2_rows.proofs.LoadMeans.{load_means}
 use Rattle.ds2_rows.proofs.row_load.load_of_row.Goals as goal
 

@@ -1,9 +1,9 @@
 use Rattle.std.proofs.Common.{length, ap, subst, ◌∙◌, arith}
 use Rattle.std.specs.Prelude.{Some}
 use Rattle.std.specs.Option.{option_map}
-use Rattle.ds2_by_order.specs.LoadMeaning.{load_meaning}
-use Rattle.ds2_by_order.specs.RowsLeft.{IsFirstLeft}
-use Rattle.ds2_by_order.specs.declared.place.Place.{Place}
+use Rattle.ds2_reading.specs.LoadMeaning.{load_meaning}
+use Rattle.ds2_reading.specs.RowsLeft.{IsFirstLeft}
+use Rattle.ds2_reading.specs.declared.place.Place.{Place}
 use Rattle.ds2_rows.proofs.NextLoad.{no_load_result, none_given, long_before, next_long, loads_room, number_fits, ready_behind, one_given, load_is}
 use Rattle.ds2_rows.proofs.row_load.next_load.Goals as goal
 

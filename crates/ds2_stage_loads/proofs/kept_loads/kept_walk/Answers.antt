@@ -1,7 +1,7 @@
 use Rattle.std.proofs.Common.{List, ◌++◌, map, drop, ap, ◌∙◌}
 use Rattle.ds2_table.specs.Loads.{KeyedLoad}
-use Rattle.ds2_by_order.specs.CursorState.{Cursor}
-use Rattle.ds2_by_order.specs.LoadMeaning.{load_meaning}
+use Rattle.ds2_reading.specs.CursorState.{Cursor}
+use Rattle.ds2_reading.specs.LoadMeaning.{load_meaning}
 use Rattle.ds2_reading.specs.declared.load.Load.{Load as LoadInCode}
 use Rattle.ds2_stage_loads.proofs.OpenCursors.{kept_more, kept_all}
 use Rattle.ds2_stage_loads.proofs.kept_loads.kept_walk.Goals as goal

@@ -1,6 +1,6 @@
 use Rattle.std.proofs.Common.{◌≡◌, ◌++◌, length, map, drop}
 use Rattle.ds2_table.specs.Loads.{KeyedLoad}
-use Rattle.ds2_by_order.specs.LoadMeaning.{load_meaning}
+use Rattle.ds2_reading.specs.LoadMeaning.{load_meaning}
 use Rattle.ds2_stage_loads.proofs.kept_loads.kept_walk.Given as goal
 
 abbrev pub invariant-loads : goal.invariant-loads

@@ -1,6 +1,6 @@
 use Rattle.std.proofs.Common.{length, refl}
 use Rattle.ds2_table.specs.Loads.{merge_loads}
-use Rattle.ds2_by_order.specs.ReadingKeys.{directions_of, keys_of_reading}
+use Rattle.ds2_reading.specs.ReadingKeys.{directions_of, keys_of_reading}
 use Rattle.ds2_stage_loads.specs.declared.kept_loads.KeptLoads.{KeptLoads}
 use Rattle.ds2_stage_loads.proofs.OpenCursors.{kept_opened, walked_all}
 use Rattle.ds2_stage_loads.proofs.opening.keep_merge.Goals as goal

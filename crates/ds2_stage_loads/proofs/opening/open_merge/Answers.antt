@@ -1,5 +1,5 @@
 use Rattle.ds2_table.specs.Loads.{merge_loads}
-use Rattle.ds2_by_order.specs.ReadingKeys.{directions_of, keys_of_reading}
+use Rattle.ds2_reading.specs.ReadingKeys.{directions_of, keys_of_reading}
 use Rattle.ds2_stage_loads.proofs.OpenCursors.{have_table_keys, merge_opened}
 use Rattle.ds2_stage_loads.proofs.opening.open_merge.Goals as goal
 

@@ -1,7 +1,7 @@
 use Rattle.std.proofs.Common.{not, ◌||◌, if◌then◌else◌, List, [], length, map, take, sym, ap, ◌∙◌}
 use Rattle.ds2_reading.specs.declared.reading.ByKey.{ByKey}
 use Rattle.ds2_reading.specs.declared.reading.ReadTable.{ReadTable}
-use Rattle.ds2_by_order.specs.LoadMeaning.{bits_of, row_or_none}
+use Rattle.ds2_reading.specs.LoadMeaning.{bits_of, row_or_none}
 use Rattle.ds2_code.specs.Desk.{with_slot_settings}
 use Rattle.ds2_code_answer.specs.CodeLoads.{table_nulls, read_settings, in_flag_settings, by_flag_settings, first_flag_of, last_flag_of}
 use Rattle.ds2_loads.proofs.LoadSteps.{five_in_turn, reads_taken}

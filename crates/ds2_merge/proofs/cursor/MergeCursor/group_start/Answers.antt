@@ -1,7 +1,7 @@
 use Rattle.std.proofs.Common.{◌≤◌, sym, subst, arith, List, ap, ◌∙◌}
 use Rattle.std.specs.Arc.{arc_value}
 use Rattle.std.specs.Prelude.{slice_get}
-use Rattle.ds2_by_order.specs.CursorState.{Cursor, group_count}
+use Rattle.ds2_reading.specs.CursorState.{Cursor, group_count}
 use Rattle.ds2_merge.specs.KeyPlaces.{loads_given}
 use Rattle.ds2_merge.specs.declared.key_place.KeyPlace.{KeyPlace}
 use Rattle.ds2_merge.proofs.Opening.{cursor_of, not_past}

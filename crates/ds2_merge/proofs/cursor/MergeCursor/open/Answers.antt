@@ -1,5 +1,5 @@
 use Rattle.std.proofs.Common.{ap, arith, length, ◌∙◌, List, sym, subst}
-use Rattle.ds2_by_order.specs.KeyOrder.{InputKeys}
+use Rattle.ds2_reading.specs.KeyOrder.{InputKeys}
 use Rattle.ds2_merge.specs.KeyPlaces.{between_keys, loads_given, StandAtKeys}
 use Rattle.ds2_merge.proofs.Opening.{by_count, can_read, ready_at_start, opened_is}
 use Rattle.ds2_merge.specs.declared.key_place.KeyPlace.{KeyPlace}

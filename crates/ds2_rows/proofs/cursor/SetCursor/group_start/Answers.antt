@@ -1,8 +1,8 @@
 use Rattle.std.proofs.Common.{◌≤◌, sym, subst, arith, List, ap, ◌∙◌}
 use Rattle.std.specs.Arc.{arc_value}
 use Rattle.std.specs.Prelude.{slice_get}
-use Rattle.ds2_by_order.specs.CursorState.{Cursor, group_count}
-use Rattle.ds2_by_order.specs.declared.place.Place.{Place}
+use Rattle.ds2_reading.specs.CursorState.{Cursor, group_count}
+use Rattle.ds2_reading.specs.declared.place.Place.{Place}
 use Rattle.ds2_rows.proofs.Opening.{cursor_of, not_past}
 use Rattle.ds2_rows.proofs.cursor.SetCursor.group_start.Goals as goal
 

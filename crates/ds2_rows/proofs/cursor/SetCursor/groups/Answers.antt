@@ -1,5 +1,5 @@
 use Rattle.std.proofs.Common.{List, length, ap, arith}
-use Rattle.ds2_by_order.specs.declared.place.Place.{Place}
+use Rattle.ds2_reading.specs.declared.place.Place.{Place}
 use Rattle.ds2_rows.proofs.cursor.SetCursor.groups.Goals as goal
 
 pub returns : goal.returns

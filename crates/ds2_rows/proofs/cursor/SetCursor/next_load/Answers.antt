@@ -1,5 +1,5 @@
 use Rattle.std.proofs.Common.{ℕ, ap}
-use Rattle.ds2_by_order.specs.CursorState.{Cursor}
+use Rattle.ds2_reading.specs.CursorState.{Cursor}
 use Rattle.ds2_rows.proofs.Opening.{cursor_of}
 use Rattle.ds2_rows.proofs.cursor.SetCursor.next_load.Goals as goal
 

@@ -1,6 +1,6 @@
 use Rattle.std.proofs.Common.{ap, arith, length, List, sym, subst}
-use Rattle.ds2_by_order.specs.KeyOrder.{InputKeys}
-use Rattle.ds2_by_order.specs.declared.place.Place.{Place}
+use Rattle.ds2_reading.specs.KeyOrder.{InputKeys}
+use Rattle.ds2_reading.specs.declared.place.Place.{Place}
 use Rattle.ds2_rows.proofs.Opening.{few_tables, table_count, by_count, ready_at_start, opened_is}
 use Rattle.ds2_rows.specs.SetPlaces.{StandAtGroups}
 use Rattle.ds2_rows.proofs.cursor.SetCursor.open.Goals as goal

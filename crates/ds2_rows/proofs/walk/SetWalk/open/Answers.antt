@@ -1,5 +1,5 @@
 use Rattle.std.proofs.Common.{ap}
-use Rattle.ds2_by_order.specs.declared.place.Place.{Place}
+use Rattle.ds2_reading.specs.declared.place.Place.{Place}
 use Rattle.ds2_rows.proofs.Opening.{ready_at_start, opened_is}
 use Rattle.ds2_rows.proofs.walk.SetWalk.open.Goals as goal
 

@@ -1,6 +1,6 @@
 use Rattle.std.proofs.Common.{map, drop, ap}
 use Rattle.ds2_table.specs.Loads.{KeyedLoad}
-use Rattle.ds2_by_order.specs.CursorState.{Cursor}
+use Rattle.ds2_reading.specs.CursorState.{Cursor}
 use Rattle.ds2_code_answer.specs.CodeLoads.{load_settings}
 use Rattle.ds2_unit.proofs.merge_loads.MergeLoads.open.Goals as goal
 

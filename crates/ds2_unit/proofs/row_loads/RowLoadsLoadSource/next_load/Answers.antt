@@ -1,7 +1,7 @@
 use Rattle.std.proofs.Common.{◌≡◌, ◌+◌, ◌∷◌, map, drop, length, List, sym, ap, ◌∙◌, arith}
 use Rattle.ds2_table.specs.Loads.{Load, set_load}
 use Rattle.ds2_reading.specs.declared.reading.ReadTable.{ReadTable}
-use Rattle.ds2_by_order.specs.LoadMeaning.{load_meaning}
+use Rattle.ds2_reading.specs.LoadMeaning.{load_meaning}
 use Rattle.ds2_code.specs.Desk.{SlotSettings}
 use Rattle.ds2_unit.specs.RowsBehind.{rows_behind}
 use Rattle.ds2_unit.specs.RowSource.{settings_of_input_row}

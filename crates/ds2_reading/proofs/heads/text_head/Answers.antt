@@ -1,0 +1,7 @@
+use Rattle.std.proofs.Common.{ap, ◌∙◌}
+use Rattle.ds2_reading.specs.KeyHeads.{head_with_digits}
+use Rattle.ds2_reading.proofs.Digits.{same_digits}
+use Rattle.ds2_reading.proofs.heads.text_head.Goals as goal
+
+pub returns : goal.returns
+returns c = c.bytes_head.ensures ∙ ap (head_with_digits 17 1) c.as_bytes.ensures.value ∙ same_digits 17 1 c.args.text.now c.utf8.text

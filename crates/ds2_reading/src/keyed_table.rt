@@ -1,0 +1,90 @@
+//! A table with the columns of the BY variables.
+ghost use Rattle.std.specs.Prelude.{◌≡◌, [], IsTrue, IfOk, IfSome, length, get_or, option_copied, slice_get};
+ghost use Rattle.ds2_value.specs.Value.{or_null};
+ghost use Rattle.ds2_reading.specs.KeyHeads.{IsKeyHead};
+ghost use Rattle.ds2_reading.specs.ReadingKeys.{keys_of_table};
+ghost use Rattle.ds2_reading.specs.KeyOrder.{part_of_key};
+ghost use Rattle.ds2_reading.specs.ReadingFits.{read_table_fits};
+
+use crate::columns::columns_of_bys;
+use crate::heads::heads_of;
+use ds2_base::{List, OutOfMemory};
+use crate::{ByKey, ReadTable, Tables};
+use ds2_table::Table;
+use ds2_value::Value;
+use std::alloc::Global;
+use std::marker::Model;
+use std::sync::Arc;
+
+/// A table that is read. A contract sees the key of each of its rows.
+#[derive(Drop)]
+pub(crate) struct KeyedTable {
+    table: Arc<Table, Global>,
+    columns: List<usize>,
+    // for each row the head of its key, or for none
+    heads: List<u128>,
+}
+
+impl Model for KeyedTable {
+    ghost use Rattle.std.specs.Prelude.{List as Items};
+    ghost use Rattle.std.specs.Arc.{arc_value};
+    ghost use Rattle.ds2_value.specs.declared.value.Value.{Value as Part};
+    ghost use Rattle.ds2_reading.specs.KeyHeads.{AreKeyHeads};
+    ghost use Rattle.ds2_reading.specs.ReadingKeys.{keys_in_columns};
+
+    ghost Value = { Items (Items Part) };
+
+    ghost view = { λ t. keys_in_columns t.columns (arc_value t.table).rows };
+
+    ghost invariant = { λ t. AreKeyHeads t.heads (keys_in_columns t.columns (arc_value t.table).rows) };
+}
+
+impl KeyedTable {
+    /// The table of this number with the columns of the BY variables.
+    pub(crate) fn open(
+        alloc: Global,
+        tables: &Tables,
+        bys: &[ByKey],
+        read: &ReadTable,
+    ) -> Result<KeyedTable, OutOfMemory>
+        requires { IsTrue (read_table_fits tables.now read.now) }
+        ensures { IfOk result (λ keyed. keyed ≡ keys_of_table tables.now bys.now read.now) }
+    {
+        let columns = columns_of_bys(alloc, read.slots.as_slice(), bys)?;
+        match tables.get(read.table as usize) {
+            None => unreachable!(),
+            Some(table) => {
+                let heads = heads_of(alloc, table, columns.as_slice())?;
+                Ok(KeyedTable {
+                    table: table.clone()?,
+                    columns,
+                    heads,
+                })
+            }
+        }
+    }
+
+    /// The number of rows.
+    pub(crate) fn len(&self) -> usize
+        ensures { result ≡ length self.now }
+    {
+        self.table.rows().len()
+    }
+
+    /// The value of a BY variable in a row; null, or None, where there is none.
+    #[tactic(auto, using(crate::proofs::Keys::key_parts))]
+    pub(crate) fn part(&self, row: usize, by: usize) -> Option<&Value>
+        ensures { or_null (option_copied result) ≡ part_of_key (get_or self.now row []) by }
+    {
+        let column = *self.columns.get(by)?;
+        self.table.rows().get(row)?.get(column)
+    }
+
+    /// The head of a row's key; None where heads are not kept, or there is no such row.
+    pub(crate) fn head(&self, row: usize) -> Option<&u128>
+        ensures { IfSome result (λ head. IsKeyHead head.now (part_of_key (get_or self.now row []) 0)) }
+    {
+        let head = self.heads.get(row)?;
+        Some(head)
+    }
+}
