@@ -3,3 +3,4 @@ pub mod VariableForms
 pub mod InputForms
 pub mod ColumnForms
 pub mod UnitReadings
+pub mod ThreadTrees

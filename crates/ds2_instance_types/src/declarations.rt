@@ -5,7 +5,7 @@ ghost use Rattle.ds2_elaboration.specs.ProgramTypes.{construction_refusals, inst
 ghost use Rattle.ds2_elaboration.specs.UnitsBefore.{UnitsBefore, package_types};
 ghost use Rattle.ds2_instance_types.specs.Declarations.{declared_of_sort, package_declared, IsDeclared};
 ghost use Rattle.ds2_instance_types.specs.HashDeclarations.{hash_declared, hash_sort, hash_variables_of};
-ghost use Rattle.ds2_known_types.specs.TypesKnown.{TellsTypes};
+ghost use Rattle.ds2_declared_types.specs.TypesKnown.{TellsTypes};
 ghost use Rattle.ds2_names.specs.SourceUnit.{AnyPackage, AnyThread, HashIterator, TableColumns, columns_stored, spelled_name};
 ghost use Rattle.ds2_scope.specs.CodeUnits.{source_instance};
 ghost use Rattle.ds2_type_tables.specs.Globals.{HasGlobals};
@@ -16,7 +16,7 @@ use crate::hashes::{HashDeclaration, hash_clash, hash_object, text_name};
 use crate::variables::variables_copy;
 use ds2_base::{OutOfMemory, Refusal};
 use ds2_declared_types::names::name;
-use ds2_known_types::{KnownTypes, parameters_of};
+use ds2_declared_types::{KnownTypes, parameters_of};
 use ds2_meaning::{
     DeclaredHash, DeclaredIterator, Instance as TypedInstance, MentionedTable, ThreadInstance,
     TypeKind,

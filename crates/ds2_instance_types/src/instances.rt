@@ -7,7 +7,7 @@ ghost use Rattle.ds2_elaboration.specs.Typings.{TypeRefusals};
 ghost use Rattle.ds2_instance_types.specs.Declarations.{IsDeclared};
 ghost use Rattle.ds2_instance_types.specs.FurtherInstances.{instances_and};
 ghost use Rattle.ds2_instance_types.specs.TypedInstanceLists.{instances_rules, AreDeclared, AreInstancesOf, IsGrownBy};
-ghost use Rattle.ds2_known_types.specs.TypesKnown.{TellsTypes};
+ghost use Rattle.ds2_declared_types.specs.TypesKnown.{TellsTypes};
 ghost use Rattle.ds2_names.specs.NameRules.{from_each};
 ghost use Rattle.ds2_names.specs.SourceUnit.{SourceInstance, TableColumns, columns_stored};
 ghost use Rattle.ds2_scope.specs.CodeUnits.{instances_in_source};
@@ -16,7 +16,7 @@ ghost use Rattle.ds2_types.specs.Judgements.{IsOutcome};
 
 use crate::declarations::{DeclarationOutcome, InstanceContext, TypedDeclaration, declared};
 use ds2_base::{List, OutOfMemory, Refusal};
-use ds2_known_types::KnownTypes;
+use ds2_declared_types::KnownTypes;
 use ds2_meaning::{
     DeclaredHash, DeclaredIterator, Instance as TypedInstance, MentionedTable, ThreadInstance,
     TypeKind,

@@ -1,7 +1,7 @@
 -- Typed units: packages, and data programs and thread programs with the places of their system methods, which their trees leave out.
 use Rattle.std.specs.Prelude.{◌≡◌, codes, List, option_map}
 use Rattle.ds2_elaboration.specs.UnitsBefore.{UnitsBefore}
-use Rattle.ds2_known_types.specs.TypesKnown.{types_of_package}
+use Rattle.ds2_declared_types.specs.TypesKnown.{types_of_package}
 use Rattle.ds2_tree.specs.Globals.{Method}
 use Rattle.ds2_tree.specs.UnitViews.{package_tree}
 use Rattle.ds2_tree.specs.declared.units.Package.{Package}

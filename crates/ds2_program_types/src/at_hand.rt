@@ -3,7 +3,7 @@ ghost use Rattle.std.specs.Prelude.{◌≡◌, IfOk, List as Items, drop, option
 ghost use Rattle.std.specs.Option.{option_map};
 ghost use Rattle.ds2_elaboration.specs.SourceTypes.{unit_names};
 ghost use Rattle.ds2_elaboration.specs.UnitsBefore.{UnitsBefore};
-ghost use Rattle.ds2_known_types.specs.TypesKnown.{TellsTypes};
+ghost use Rattle.ds2_declared_types.specs.TypesKnown.{TellsTypes};
 ghost use Rattle.ds2_names.specs.SourceUnit.{KnownUnit, columns_stored, names_of_unit};
 ghost use Rattle.ds2_program_types.specs.UnitsAtHand.{IsAtHand, IsReadingOf};
 ghost use Rattle.ds2_scope.specs.CodeUnits.{unit_source};
@@ -15,7 +15,7 @@ use ds2_base::{List, OutOfMemory, Place};
 use ds2_declared_types::columns::ReadFrom;
 use ds2_declared_types::input_types::{InputTypes, types_of_columns, types_of_inputs};
 use ds2_declared_types::variables::program_variables;
-use ds2_known_types::{KnownTypes, stage_behind, stage_columns};
+use ds2_declared_types::{KnownTypes, stage_behind, stage_columns};
 use ds2_meaning::{Shared, TypedThread};
 use ds2_names::{NamedSchema, PlacedName};
 use ds2_scope::{

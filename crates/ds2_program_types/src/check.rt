@@ -4,7 +4,7 @@ ghost use Rattle.std.specs.Option.{option_map};
 ghost use Rattle.ds2_elaboration.specs.ProgramTypes.{broken_type_rules};
 ghost use Rattle.ds2_elaboration.specs.SourceTypes.{unit_names};
 ghost use Rattle.ds2_elaboration.specs.UnitsBefore.{UnitsBefore};
-ghost use Rattle.ds2_known_types.specs.TypesKnown.{TellsTypes};
+ghost use Rattle.ds2_declared_types.specs.TypesKnown.{TellsTypes};
 ghost use Rattle.ds2_meaning.specs.View.{over_stage, typed_thread_program, unit_tree, unshared};
 ghost use Rattle.ds2_meaning.specs.declared.units.TypedThread.{out-TypedThread};
 ghost use Rattle.ds2_names.specs.SourceUnit.{TableColumns, columns_stored, unit_of_data, unit_of_package, unit_of_thread};
@@ -21,7 +21,7 @@ use crate::programs::staged_program;
 use ds2_base::{List, Name, OutOfMemory, Refusal};
 use ds2_declared_types::names::name;
 use ds2_declared_types::variables::parameter_variables;
-use ds2_known_types::KnownTypes;
+use ds2_declared_types::KnownTypes;
 use ds2_meaning::{
     MentionedTable, Program, Shared, TypeKind, TypedData, TypedPackage, TypedThread, Variable,
 };

@@ -3,7 +3,7 @@ ghost use Rattle.std.specs.Prelude.{◌≡◌, ◌++◌, IfOk};
 ghost use Rattle.ds2_elaboration.specs.ProgramTypes.{scope_of_declarations};
 ghost use Rattle.ds2_elaboration.specs.UnitsBefore.{UnitsBefore};
 ghost use Rattle.ds2_instance_types.specs.TypedInstanceLists.{AreInstancesOf};
-ghost use Rattle.ds2_known_types.specs.TypesKnown.{TellsTypes};
+ghost use Rattle.ds2_declared_types.specs.TypesKnown.{TellsTypes};
 ghost use Rattle.ds2_program_types.specs.UnitRules.{column_refusals, declaration_refusals};
 ghost use Rattle.ds2_program_types.specs.UnitScopes.{AreUnitTables};
 ghost use Rattle.ds2_program_types.specs.UnitsAtHand.{IsAtHand, columns_at_hand, names_at_hand, source_at_hand};
@@ -15,7 +15,7 @@ use crate::methods::under_rule;
 use crate::unit_tables::UnitTables;
 use ds2_base::OutOfMemory;
 use ds2_instance_types::{InstancesOutcome, typed_instances};
-use ds2_known_types::KnownTypes;
+use ds2_declared_types::KnownTypes;
 use ds2_meaning::MentionedTable;
 use std::alloc::Global;
 

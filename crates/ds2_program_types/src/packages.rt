@@ -4,7 +4,7 @@ ghost use Rattle.ds2_elaboration.specs.ProgramTypes.{broken_type_rules, scope_of
 ghost use Rattle.ds2_elaboration.specs.SourceTypes.{unit_names};
 ghost use Rattle.ds2_elaboration.specs.UnitsBefore.{UnitsBefore};
 ghost use Rattle.ds2_instance_types.specs.TypedInstanceLists.{AreInstancesOf};
-ghost use Rattle.ds2_known_types.specs.TypesKnown.{TellsTypes};
+ghost use Rattle.ds2_declared_types.specs.TypesKnown.{TellsTypes};
 ghost use Rattle.ds2_names.specs.SourceUnit.{TableColumns, source_methods, unit_of_package};
 ghost use Rattle.ds2_program_types.specs.PackageMethods.{AreInstancesAndCalled, AreTyped};
 ghost use Rattle.ds2_program_types.specs.TypedPrograms.{IsTypedPackage};
@@ -20,7 +20,7 @@ use ds2_base::{List, OutOfMemory, Refusal};
 use ds2_declared_types::names::name;
 use ds2_declared_types::variables::program_variables;
 use ds2_instance_types::TypedInstances;
-use ds2_known_types::KnownTypes;
+use ds2_declared_types::KnownTypes;
 use ds2_meaning::{MentionedTable, Method as TypedMethod, TypeKind, TypedPackage};
 use ds2_simple_statement_types::parts::{Both, of_both};
 use ds2_tree::Package;

@@ -2,7 +2,7 @@
 ghost use Rattle.std.specs.Prelude.{◌≡◌, IfOk, not};
 ghost use Rattle.ds2_elaboration.specs.SourceTypes.{parameter_variables, unjoined_columns, vector_variables};
 ghost use Rattle.ds2_elaboration.specs.UnitsBefore.{UnitsBefore};
-ghost use Rattle.ds2_known_types.specs.TypesKnown.{TellsTypes};
+ghost use Rattle.ds2_declared_types.specs.TypesKnown.{TellsTypes};
 ghost use Rattle.ds2_names.specs.SourceUnit.{is_package, names_alone};
 ghost use Rattle.ds2_program_types.specs.UnitScopes.{AreUnitTables};
 ghost use Rattle.ds2_program_types.specs.UnitsAtHand.{IsAtHand, columns_at_hand, names_at_hand, source_at_hand};
@@ -16,7 +16,7 @@ use ds2_base::{List, OutOfMemory};
 use ds2_declared_types::columns::{columns_over, unjoined_over};
 use ds2_declared_types::names::names_alone;
 use ds2_declared_types::variables::{parameter_variables, program_variables};
-use ds2_known_types::KnownTypes;
+use ds2_declared_types::KnownTypes;
 use ds2_meaning::Variable;
 use ds2_reference_types::scopes::{KnownBys, KnownMethods, KnownNames, KnownObjects};
 use ds2_scope::{UnitKind, UnitNames};

@@ -4,7 +4,7 @@ ghost use Rattle.ds2_elaboration.specs.ExpressionTypes.{InstanceCalls, ObjectInS
 ghost use Rattle.ds2_elaboration.specs.ProgramTypes.{calls_of_sort, may_call_on, object_of_instance};
 ghost use Rattle.ds2_elaboration.specs.UnitsBefore.{UnitsBefore};
 ghost use Rattle.ds2_reference_types.specs.Scopes.{value_parameter, AreKnownCalls, IsKnownObject};
-ghost use Rattle.ds2_known_types.specs.TypesKnown.{parameters_named, sources_named, TellsTypes};
+ghost use Rattle.ds2_declared_types.specs.TypesKnown.{parameters_named, sources_named, TellsTypes};
 ghost use Rattle.ds2_names.specs.SourceUnit.{SourceInstance, spelled_name};
 ghost use Rattle.ds2_scope.specs.CodeUnits.{instance_sort, instances_in_source, source_instance};
 ghost use Rattle.ds2_type_tables.specs.Objects.{objects_called, HasObjects};
@@ -12,7 +12,7 @@ ghost use Rattle.ds2_type_tables.specs.Objects.{objects_called, HasObjects};
 use crate::methods::methods;
 use ds2_base::{List, OutOfMemory};
 use ds2_declared_types::names::name;
-use ds2_known_types::KnownTypes;
+use ds2_declared_types::KnownTypes;
 use ds2_meaning::{Parameter, Variable};
 use ds2_reference_types::scopes::{KnownCalls, KnownObject, KnownObjects};
 use ds2_scope::{Instance, InstanceSort, UnitKind, spelled_name};

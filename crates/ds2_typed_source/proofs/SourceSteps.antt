@@ -28,8 +28,8 @@ use Rattle.ds2_elaboration.specs.ProgramTypes.{typed_program}
 use Rattle.ds2_elaboration.specs.TextPrograms.{TokensStandInOrder}
 use Rattle.ds2_elaboration.specs.TypedPrograms.{EveryUnitIsTyped, HaveSchemas, StandInOrder, StandsInSource, UnitsStand}
 use Rattle.ds2_elaboration.specs.UnitsBefore.{UnitsBefore}
-use Rattle.ds2_known_types.specs.TypesKnown.{TellsTypes}
-use Rattle.ds2_known_types.specs.declared.known.KnownTypes.{KnownTypes}
+use Rattle.ds2_declared_types.specs.TypesKnown.{TellsTypes}
+use Rattle.ds2_declared_types.specs.declared.known.KnownTypes.{KnownTypes}
 use Rattle.ds2_resolve.specs.StandingBefore.{TellsOfUnits}
 use Rattle.ds2_resolve.specs.declared.before.UnitsBefore as kept
 use Rattle.ds2_source.specs.SourceTexts.{StandsInText}

@@ -9,7 +9,7 @@ use Rattle.ds2_names.specs.SourceUnit.{TableColumns, columns_stored}
 use Rattle.ds2_elaboration.specs.Elaboration.{ProgramRefusal, elaborated_parts, elaborated_source}
 use Rattle.ds2_elaboration.specs.TypedPrograms.{HaveSchemas, UnitsStand}
 use Rattle.ds2_elaboration.specs.UnitsBefore.{UnitsBefore}
-use Rattle.ds2_known_types.specs.TypesKnown.{TellsTypes}
+use Rattle.ds2_declared_types.specs.TypesKnown.{TellsTypes}
 use Rattle.ds2_resolve.specs.StandingBefore.{TellsOfUnits}
 use Rattle.ds2_source.specs.declared.kinds.SourceRefusal.{SourceRefusal}
 use Rattle.ds2_typed_source.specs.SourceOutcomes.{IsRefusedSource}

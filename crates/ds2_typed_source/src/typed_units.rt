@@ -6,14 +6,14 @@ ghost use Rattle.ds2_names.specs.SourceLimits.{BeforeUnit, behind_part};
 ghost use Rattle.ds2_names.specs.SourceUnit.{columns_stored, unit_of_data, unit_of_package, unit_of_thread};
 ghost use Rattle.ds2_elaboration.specs.Elaboration.{unit_refusal};
 ghost use Rattle.ds2_elaboration.specs.UnitsBefore.{UnitsBefore as UnitTypes};
-ghost use Rattle.ds2_known_types.specs.TypesKnown.{TellsTypes};
+ghost use Rattle.ds2_declared_types.specs.TypesKnown.{TellsTypes};
 ghost use Rattle.ds2_program_types.specs.TypedPrograms.{IsTypedData, IsTypedPackage, IsTypedThread};
 ghost use Rattle.ds2_resolve.specs.StandingBefore.{TellsOfUnits};
 ghost use Rattle.ds2_typed_source.specs.SourceOutcomes.{IsOutcomeOfUnit};
 
 use crate::refusals::{of_names, of_types};
 use ds2_base::Stop;
-use ds2_known_types::KnownTypes;
+use ds2_declared_types::KnownTypes;
 use ds2_meaning::{MentionedTable, TypedData, TypedPackage, TypedThread};
 use ds2_names::NamedSchema;
 use ds2_program_types::at_hand::unit_names;

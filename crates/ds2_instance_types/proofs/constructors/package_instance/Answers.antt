@@ -1,5 +1,5 @@
 use Rattle.ds2_elaboration.specs.ProgramTypes.{arguments_of_constructor, constructor_of}
-use Rattle.ds2_known_types.specs.TypesKnown.{kept_types}
+use Rattle.ds2_declared_types.specs.TypesKnown.{kept_types}
 use Rattle.ds2_instance_types.specs.PackageInstances.{IsInstanceOf}
 use Rattle.ds2_instance_types.proofs.PackageForms.{constants_broken, instance_made}
 use Rattle.ds2_instance_types.proofs.constructors.package_instance.Goals as goal

@@ -2,7 +2,7 @@ use Rattle.std.proofs.Common.{sym, ap, ◌∙◌}
 use Rattle.std.specs.Prelude.{option_copied}
 use Rattle.std.specs.Option.{option_map}
 use Rattle.ds2_elaboration.specs.UnitsBefore.{package_types}
-use Rattle.ds2_known_types.specs.TypesKnown.{kept_types}
+use Rattle.ds2_declared_types.specs.TypesKnown.{kept_types}
 use Rattle.ds2_instance_types.proofs.DeclarationForms.{known_package, unknown_package}
 use Rattle.ds2_instance_types.proofs.declarations.declared_package.Goals as goal
 

@@ -3,7 +3,7 @@ use Rattle.ds2_names.specs.SourceUnit.{columns_stored}
 use Rattle.ds2_scope.specs.CodeUnits.{instances_in_source}
 use Rattle.ds2_elaboration.specs.ExpressionTypes.{TypeScope}
 use Rattle.ds2_elaboration.specs.UnitsBefore.{UnitsBefore}
-use Rattle.ds2_known_types.specs.TypesKnown.{TellsTypes}
+use Rattle.ds2_declared_types.specs.TypesKnown.{TellsTypes}
 use Rattle.ds2_type_tables.specs.Globals.{HasGlobals}
 use Rattle.ds2_types.specs.Judgements.{IsOutcome}
 use Rattle.ds2_instance_types.specs.TypedInstanceLists.{instances_rules, AreDeclared}

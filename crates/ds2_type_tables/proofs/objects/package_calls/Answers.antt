@@ -1,7 +1,7 @@
 use Rattle.std.proofs.Common.{List, refl, ap, ◌∙◌, subst}
 use Rattle.ds2_tree.specs.Globals.{Method}
 use Rattle.ds2_names.specs.SourceUnit.{spelled_name}
-use Rattle.ds2_known_types.specs.TypesKnown.{sources_named}
+use Rattle.ds2_declared_types.specs.TypesKnown.{sources_named}
 use Rattle.ds2_type_tables.specs.Callables.{HasCallables}
 use Rattle.ds2_type_tables.proofs.CallableLemmas.{methods_of_table}
 use Rattle.ds2_type_tables.proofs.objects.package_calls.Goals as goal

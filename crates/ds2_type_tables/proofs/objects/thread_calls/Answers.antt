@@ -2,7 +2,7 @@ use Rattle.std.proofs.Common.{refl, ap, ◌∙◌}
 use Rattle.std.specs.Prelude.{map}
 use Rattle.ds2_names.specs.SourceUnit.{spelled_name}
 use Rattle.ds2_reference_types.specs.Scopes.{value_parameter}
-use Rattle.ds2_known_types.specs.TypesKnown.{parameters_named}
+use Rattle.ds2_declared_types.specs.TypesKnown.{parameters_named}
 use Rattle.ds2_type_tables.proofs.objects.thread_calls.Goals as goal
 
 pub returns : goal.returns

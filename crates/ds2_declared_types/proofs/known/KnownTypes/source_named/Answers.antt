@@ -4,8 +4,8 @@ use Rattle.std.specs.Option.{option_map, option_map_or}
 use Rattle.ds2_tree.specs.UnitViews.{global_tree}
 use Rattle.ds2_names.specs.SourceUnit.{source_methods}
 use Rattle.ds2_elaboration.specs.UnitsBefore.{PackageTypes}
-use Rattle.ds2_known_types.specs.TypesKnown.{kept_types}
-use Rattle.ds2_known_types.proofs.known.KnownTypes.source_named.Goals as goal
+use Rattle.ds2_declared_types.specs.TypesKnown.{kept_types}
+use Rattle.ds2_declared_types.proofs.known.KnownTypes.source_named.Goals as goal
 
 pub returns-in-None : goal.returns-in-None
 returns-in-None c = λ before h.

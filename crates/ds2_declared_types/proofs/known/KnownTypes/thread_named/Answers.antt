@@ -3,7 +3,7 @@ use Rattle.std.specs.Prelude.{map}
 use Rattle.ds2_elaboration.specs.UnitsBefore.{typed_thread_named}
 use Rattle.ds2_meaning.specs.ProgramTree.{ProgramTree}
 use Rattle.ds2_meaning.specs.View.{typed_thread_program}
-use Rattle.ds2_known_types.proofs.known.KnownTypes.thread_named.Goals as goal
+use Rattle.ds2_declared_types.proofs.known.KnownTypes.thread_named.Goals as goal
 
 pub returns : goal.returns
 returns c = λ before h.

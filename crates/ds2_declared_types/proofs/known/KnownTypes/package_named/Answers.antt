@@ -1,8 +1,8 @@
 use Rattle.std.proofs.Common.{List, ap, ◌∙◌}
 use Rattle.std.specs.Prelude.{map}
 use Rattle.ds2_elaboration.specs.UnitsBefore.{PackageTypes, package_types}
-use Rattle.ds2_known_types.specs.TypesKnown.{kept_types}
-use Rattle.ds2_known_types.proofs.known.KnownTypes.package_named.Goals as goal
+use Rattle.ds2_declared_types.specs.TypesKnown.{kept_types}
+use Rattle.ds2_declared_types.proofs.known.KnownTypes.package_named.Goals as goal
 
 pub returns : goal.returns
 returns c = λ before h.

@@ -12,8 +12,8 @@ use Rattle.ds2_meaning.specs.declared.globals.Variable.{Variable}
 use Rattle.ds2_meaning.specs.declared.units.TypedPackage.{TypedPackage}
 use Rattle.ds2_names.specs.SourceUnit.{source_methods}
 use Rattle.ds2_elaboration.specs.UnitsBefore.{PackageTypes, UnitsBefore, package_types, typed_thread_named}
-use Rattle.ds2_known_types.specs.declared.known.KnownPackage.{KnownPackage}
-use Rattle.ds2_known_types.specs.declared.known.KnownTypes.{KnownTypes}
+use Rattle.ds2_declared_types.specs.declared.known.KnownPackage.{KnownPackage}
+use Rattle.ds2_declared_types.specs.declared.known.KnownTypes.{KnownTypes}
 
 -- a package of a source with its types
 abbrev pub types_of_package : Package → TypedPackage → PackageTypes

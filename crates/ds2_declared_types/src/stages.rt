@@ -2,7 +2,7 @@
 ghost use Rattle.std.specs.Prelude.{◌≡◌, ◌++◌, Some, IfOk, map, option_copied};
 ghost use Rattle.std.specs.Option.{option_map};
 ghost use Rattle.ds2_elaboration.specs.UnitsBefore.{UnitsBefore, thread_of_sort, thread_behind_instance, typed_stage, columns_of_one, typed_stage_columns};
-ghost use Rattle.ds2_known_types.specs.TypesKnown.{TellsTypes, column_read};
+ghost use Rattle.ds2_declared_types.specs.TypesKnown.{TellsTypes, column_read};
 ghost use Rattle.ds2_meaning.specs.ProgramMeaning.{output_columns};
 ghost use Rattle.ds2_meaning.specs.View.{typed_thread_program};
 ghost use Rattle.ds2_scope.specs.CodeUnits.{instance_sort, instances_in_source};

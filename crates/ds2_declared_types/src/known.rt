@@ -2,7 +2,7 @@
 ghost use Rattle.std.specs.Prelude.{◌≡◌, ◌∷◌, [], IfOk, map, option_copied};
 ghost use Rattle.std.specs.Option.{option_map};
 ghost use Rattle.ds2_elaboration.specs.UnitsBefore.{UnitsBefore, package_types, typed_thread_named};
-ghost use Rattle.ds2_known_types.specs.TypesKnown.{kept_types, parameters_named, sources_named, types_of_package, TellsTypes};
+ghost use Rattle.ds2_declared_types.specs.TypesKnown.{kept_types, parameters_named, sources_named, types_of_package, TellsTypes};
 ghost use Rattle.ds2_meaning.specs.ProgramTree.{reader_of};
 ghost use Rattle.ds2_meaning.specs.View.{typed_thread_program};
 ghost use Rattle.ds2_names.specs.SourceUnit.{source_methods};

@@ -4,7 +4,7 @@ use Rattle.std.specs.Option.{option_map, option_map_or}
 use Rattle.ds2_meaning.specs.ProgramTree.{ProgramTree, reader_of}
 use Rattle.ds2_meaning.specs.View.{typed_thread_program}
 use Rattle.ds2_meaning.specs.declared.units.TypedThread.{TypedThread}
-use Rattle.ds2_known_types.proofs.known.KnownTypes.parameters_named.Goals as goal
+use Rattle.ds2_declared_types.proofs.known.KnownTypes.parameters_named.Goals as goal
 
 pub returns-in-None : goal.returns-in-None
 returns-in-None c = λ before h.

@@ -1,2 +1,0 @@
--- What the code keeps of the types of units.
-pub mod TypesKnown
