@@ -25,7 +25,7 @@ use Rattle.ds2_names.specs.Uses.{NameUse, Values, Members, HandsOver, CallsOn, S
 use Rattle.ds2_scope.specs.Earliest.{earlier_of, earliest}
 use Rattle.ds2_scope.proofs.EachLemmas.{each_is, each_of_each}
 use Rattle.ds2_scope.proofs.EarliestLemmas.{earlier_of_assoc, earlier_of_comm, earliest_append}
-use Rattle.ds2_use_walk.specs.UseParts.{InOutFlags}
+use Rattle.ds2_calls.specs.UseParts.{InOutFlags}
 use Rattle.ds2_mentions.specs.declared.mentions.Mention.{Mention}
 use Rattle.ds2_mentions.specs.declared.mentions.Mention.TheVariants as mention
 use Rattle.ds2_mentions.specs.MentionParts.{mentions_in_member, mentions_in_use, mentions_in_uses, variable_mentions}

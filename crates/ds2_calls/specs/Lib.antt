@@ -5,3 +5,5 @@ pub mod InstanceSorts
 pub mod KnownUnits
 pub mod SortCalls
 pub mod UnitsCalls
+-- What a rule on uses of names gives within one part of a method.
+pub mod UseParts

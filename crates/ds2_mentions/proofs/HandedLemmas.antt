@@ -3,7 +3,7 @@ use Rattle.std.proofs.Common.{◌≡◌, Bool, true, false, List, [], ◌∷◌,
 use Rattle.ds2_base.specs.declared.place.Place.{Place}
 use Rattle.ds2_tree.specs.Expressions.{Expression, Constant, Null, Variable, Member, Call, Parenthesis, Sign, Chain, Comparison, Not, Arguments, NoArgument, Argument}
 use Rattle.ds2_names.specs.NameRules.{handed_names}
-use Rattle.ds2_use_walk.specs.UseParts.{next_flag, further_flags, handed_name}
+use Rattle.ds2_calls.specs.UseParts.{next_flag, further_flags, handed_name}
 use Rattle.ds2_mentions.specs.MentionParts.{placed_if_any}
 
 pub none_is_in_out : (xs : Arguments) → handed_names [] xs ≡ []

@@ -29,8 +29,8 @@ use Rattle.ds2_tree.specs.StatementViews.{selector_tree, control_tree, if_else, 
 use Rattle.ds2_names.specs.NameRules.{from_each}
 use Rattle.ds2_names.specs.SourceUnit.{spelled_name}
 use Rattle.ds2_names.specs.Uses.{NameUse, Sets, WritesTo, uses, operand_uses, argument_uses, item_uses, selector_uses, control_uses, statement_uses, statements_uses, when_uses, otherwise_uses}
-use Rattle.ds2_use_walk.specs.UseParts.{InOutFlags, else_if_uses}
-use Rattle.ds2_use_walk.proofs.UseLemmas.{call_is, chain_is}
+use Rattle.ds2_calls.specs.UseParts.{InOutFlags, else_if_uses}
+use Rattle.ds2_calls.proofs.UseLemmas.{call_is, chain_is}
 use Rattle.ds2_scope.proofs.StatementRows.{if_tree_is, select_tree, do_tree}
 use Rattle.ds2_mentions.specs.declared.mentions.Mention.TheVariants as mention
 use Rattle.ds2_mentions.specs.MentionParts.{mentions_in_call, mentions_in_member, mentions_in_item, mentions_in_use, mentions_in_uses}

@@ -12,7 +12,7 @@ use Rattle.ds2_calls.specs.declared.unit_calls.Calls.{Calls}
 use Rattle.ds2_names.specs.NameRules.{from_each, is_flag_word, handed_names}
 use Rattle.ds2_names.specs.SourceUnit.{PlacedName, placed_name, spelled_name}
 use Rattle.ds2_names.specs.Uses.{NameUse, Values, Members, HandsOver, CallsOn, Sets, WritesTo}
-use Rattle.ds2_use_walk.specs.UseParts.{InOutFlags}
+use Rattle.ds2_calls.specs.UseParts.{InOutFlags}
 use Rattle.ds2_mentions.specs.declared.mentions.Mention.{Mention}
 use Rattle.ds2_mentions.specs.declared.mentions.Mention.TheVariants as mention
 

@@ -5,7 +5,7 @@ use Rattle.ds2_calls.specs.InstanceSorts.{SortsByName, variables_by_name}
 use Rattle.ds2_calls.specs.SortCalls.{CallsByName, flags_by_names}
 use Rattle.ds2_names.specs.SourceUnit.{PlacedName, spelled_name, local_names}
 use Rattle.ds2_names.specs.Uses.{statements_uses}
-use Rattle.ds2_use_walk.specs.UseParts.{InOutFlags}
+use Rattle.ds2_calls.specs.UseParts.{InOutFlags}
 use Rattle.ds2_mentions.specs.MentionParts.{mentions_in_uses, variable_mentions}
 use Rattle.ds2_mentions.specs.declared.parts.MethodParts.{MethodParts}
 use Rattle.ds2_mentions.specs.declared.parts.UnitParts.{UnitParts}

@@ -8,11 +8,10 @@ ghost use Rattle.ds2_mentions.specs.MentionParts.{flags_by_calls, mentions_in_ca
 use crate::handed::handed_names;
 use crate::mentions::Mention;
 use ds2_base::{List, OutOfMemory};
-use ds2_calls::Calls;
+use ds2_calls::{Calls, is_flag_word};
 use ds2_scope::spelled_name;
 use ds2_token::Token;
 use ds2_tree::{Argument, Callee, Expression, Operand};
-use ds2_use_walk::is_flag_word;
 use std::alloc::Global;
 
 /// Adds a plain name.

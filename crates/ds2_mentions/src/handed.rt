@@ -2,14 +2,14 @@
 ghost use Rattle.std.specs.Prelude.{◌≡◌, ◌++◌, IfOk, OnOk};
 ghost use Rattle.ds2_tree.specs.ExpressionViews.{expression_tree, arguments_of};
 ghost use Rattle.ds2_names.specs.NameRules.{handed_names};
-ghost use Rattle.ds2_use_walk.specs.UseParts.{handed_name};
+ghost use Rattle.ds2_calls.specs.UseParts.{handed_name};
 ghost use Rattle.ds2_mentions.specs.MentionParts.{placed_if_any};
 
 use ds2_base::{List, OutOfMemory};
 use ds2_names::PlacedName;
 use ds2_scope::placed_name;
 use ds2_tree::{Argument, Expression};
-use ds2_use_walk::{further_flags, handed_name, next_flag};
+use ds2_calls::{further_flags, handed_name, next_flag};
 use std::alloc::Global;
 
 // Adds the name in an argument, where one is handed over.

@@ -5,7 +5,7 @@ ghost use Rattle.ds2_tree.specs.ExpressionViews.{expression_tree, arguments_of};
 ghost use Rattle.ds2_tree.specs.StatementViews.{selector_tree, step_tree, counted_tree, control_tree, statement_tree, statements_of, whens_of, otherwise_tree};
 ghost use Rattle.ds2_names.specs.NameRules.{from_each};
 ghost use Rattle.ds2_names.specs.Uses.{Sets, uses, argument_uses, uses_if_any, step_uses, control_uses, selector_uses, statement_uses, statements_uses, when_uses, otherwise_uses};
-ghost use Rattle.ds2_use_walk.specs.UseParts.{else_if_uses};
+ghost use Rattle.ds2_calls.specs.UseParts.{else_if_uses};
 ghost use Rattle.ds2_mentions.specs.MentionParts.{flags_by_calls, mentions_in_item, mentions_in_uses};
 
 use crate::expressions::{push_arguments, push_call, push_expression, push_member, push_name};

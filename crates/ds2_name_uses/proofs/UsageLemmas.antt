@@ -32,10 +32,10 @@ use Rattle.ds2_name_uses.specs.declared.scope.UsageRule.TheVariants as usage
 use Rattle.ds2_scope.specs.Earliest.{earlier_of, earliest}
 use Rattle.ds2_scope.specs.NameSets.{HasNames}
 use Rattle.ds2_name_uses.specs.ScopeTables.{AreTablesOf, tests_by}
-use Rattle.ds2_use_walk.specs.UseParts.{earliest_use, next_flag, further_flags}
+use Rattle.ds2_calls.specs.UseParts.{earliest_use, next_flag, further_flags}
 use Rattle.ds2_name_uses.specs.UseRules.{settable_names, tests_of, flags_by, visible_sort, is_global_there, is_value_there, is_there, may_be_set, is_object_there, unknown_by, not_variable_by, unknown_call_on, is_hash_sort, unknown_member_by, unknown_method_by, wrong_count_by_sort, wrong_count_by, is_setting_by, misplaced_by, broken_by, broken_in_use, no_name_in, no_name_if}
 use Rattle.ds2_scope.proofs.EarliestLemmas.{earlier_of_assoc, earliest_append}
-use Rattle.ds2_use_walk.proofs.UseLemmas.{call_is, chain_is}
+use Rattle.ds2_calls.proofs.UseLemmas.{call_is, chain_is}
 
 -- ---- arguments for in_out parameters
 

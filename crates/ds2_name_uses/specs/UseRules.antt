@@ -18,7 +18,7 @@ use Rattle.ds2_names.specs.UnitRules.{is_system_method, misplaced_setting}
 use Rattle.ds2_names.specs.Uses.{NameUse, Values, Members, HandsOver, CallsOn, Sets, WritesTo, first_place}
 use Rattle.ds2_name_uses.specs.declared.scope.UsageRule.{UsageRule}
 use Rattle.ds2_name_uses.specs.declared.scope.UsageRule.TheVariants as usage
-use Rattle.ds2_use_walk.specs.UseParts.{InOutFlags}
+use Rattle.ds2_calls.specs.UseParts.{InOutFlags}
 
 -- tests on names: parameters and locals; what may be set, the variables and the parameters of a thread program; `in=` flags, BY variables, outputs;
 -- what calls may mean; and whether a name that is not there may be a column, the unit is a program, and the method is its `init`

@@ -12,10 +12,9 @@ ghost use Rattle.ds2_name_uses.specs.ScopeTables.{AreTablesOf};
 
 use crate::scope::{Scope, UnitTables, UsageRule};
 use ds2_base::{OutOfMemory, Place};
-use ds2_calls::Calls;
+use ds2_calls::{Calls, in_statements};
 use ds2_scope::{NameSet, earlier_of, local_names, name_set, spelled_name};
 use ds2_tree::{GlobalItem, Method};
-use ds2_use_walk::in_statements;
 use std::alloc::Global;
 
 // The parameters and locals of a method.

@@ -6,17 +6,16 @@ ghost use Rattle.ds2_names.specs.SourceUnit.{spelled_name};
 ghost use Rattle.ds2_names.specs.Uses.{Values, Members, HandsOver, CallsOn, Sets, WritesTo};
 ghost use Rattle.ds2_scope.specs.Earliest.{earliest};
 ghost use Rattle.ds2_name_uses.specs.ScopeTables.{tests_by};
-ghost use Rattle.ds2_use_walk.specs.UseParts.{earliest_use};
+ghost use Rattle.ds2_calls.specs.UseParts.{earliest_use};
 ghost use Rattle.ds2_name_uses.specs.UseRules.{is_instance_name, visible_sort, is_global_there, is_value_there, is_there, may_be_set, is_object_there, unknown_object, not_variable_by};
 
 use crate::arguments::no_names;
 use crate::scope::{Scope, UsageRule};
 use ds2_base::{Bytes, OutOfMemory, Place};
-use ds2_calls::Sort;
+use ds2_calls::{Sort, UseRule, is_flag_word};
 use ds2_scope::{place_unless, spelled_name};
 use ds2_token::Token;
 use ds2_tree::{Argument, Callee};
-use ds2_use_walk::{UseRule, is_flag_word};
 use std::alloc::Global;
 
 impl<'t, 'u, 'k> Scope<'t, 'u, 'k> {

@@ -5,7 +5,7 @@ use Rattle.ds2_tree.specs.ExpressionViews.{expression_tree, arguments_of}
 use Rattle.ds2_tree.specs.StatementViews.{statement_tree, statements_of, whens_of}
 use Rattle.ds2_names.specs.NameRules.{from_each}
 use Rattle.ds2_names.specs.Uses.{uses, argument_uses, statement_uses, statements_uses, when_uses}
-use Rattle.ds2_use_walk.specs.UseParts.{else_if_uses}
+use Rattle.ds2_calls.specs.UseParts.{else_if_uses}
 use Rattle.ds2_mentions.specs.MentionParts.{flags_by_calls, mentions_in_uses}
 use Rattle.ds2_mentions.proofs.MentionLemmas.{four_added, items_mention, both_mention, mentions_of_output, mentions_of_if, mentions_of_select, mentions_of_do}
 use Rattle.ds2_mentions.proofs.statements.+mention_statements.Goals as goal

@@ -2,7 +2,7 @@ use Rattle.std.proofs.Common.{◌≡◌, ◌++◌, drop}
 use Rattle.ds2_tree.specs.StatementViews.{statements_of, whens_of}
 use Rattle.ds2_names.specs.NameRules.{from_each}
 use Rattle.ds2_names.specs.Uses.{statements_uses, when_uses}
-use Rattle.ds2_use_walk.specs.UseParts.{else_if_uses}
+use Rattle.ds2_calls.specs.UseParts.{else_if_uses}
 use Rattle.ds2_mentions.specs.MentionParts.{flags_by_calls, mentions_in_uses}
 use Rattle.ds2_mentions.proofs.statements.+mention_statements.Given as goal
 

@@ -10,7 +10,7 @@ use Rattle.ds2_scope.specs.Earliest.{earliest}
 use Rattle.ds2_scope.specs.NameSets.{HasNames}
 use Rattle.ds2_name_uses.specs.BrokenUses.{broken_in_method}
 use Rattle.ds2_name_uses.specs.ScopeTables.{AreTablesOf, tests_by}
-use Rattle.ds2_use_walk.specs.UseParts.{earliest_use}
+use Rattle.ds2_calls.specs.UseParts.{earliest_use}
 use Rattle.ds2_name_uses.specs.UseRules.{flags_by, broken_by}
 use Rattle.ds2_name_uses.proofs.UsageLemmas.{method_is}
 use Rattle.ds2_name_uses.proofs.method_uses.in_method.Goals as goal

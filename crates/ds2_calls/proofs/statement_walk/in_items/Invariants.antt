@@ -1,8 +1,8 @@
 use Rattle.std.proofs.Common.{◌≡◌, drop}
 use Rattle.ds2_names.specs.Uses.{item_uses}
 use Rattle.ds2_scope.specs.Earliest.{earlier_of}
-use Rattle.ds2_use_walk.specs.UseParts.{earliest_use}
-use Rattle.ds2_use_walk.proofs.statement_walk.in_items.Given as goal
+use Rattle.ds2_calls.specs.UseParts.{earliest_use}
+use Rattle.ds2_calls.proofs.statement_walk.in_items.Given as goal
 
 abbrev pub invariant-items : goal.invariant-items
 invariant-items g l =

@@ -2,8 +2,8 @@ use Rattle.std.proofs.Common.{◌≡◌, drop}
 use Rattle.ds2_tree.specs.ExpressionViews.{operands_of, arguments_of}
 use Rattle.ds2_names.specs.Uses.{operand_uses, argument_uses}
 use Rattle.ds2_scope.specs.Earliest.{earlier_of}
-use Rattle.ds2_use_walk.specs.UseParts.{earliest_use}
-use Rattle.ds2_use_walk.proofs.use_walk.+walk_expressions.Given as goal
+use Rattle.ds2_calls.specs.UseParts.{earliest_use}
+use Rattle.ds2_calls.proofs.use_walk.+walk_expressions.Given as goal
 
 abbrev pub invariant-in_operands-operands : goal.invariant-in_operands-operands
 invariant-in_operands-operands g l =

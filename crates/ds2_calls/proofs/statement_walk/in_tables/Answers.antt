@@ -2,8 +2,8 @@ use Rattle.std.proofs.Common.{◌+◌, [], ◌∷◌, drop, arith}
 use Rattle.std.specs.Prelude.{map}
 use Rattle.std.proofs.lemmas.Grind.{common_steps}
 use Rattle.ds2_names.specs.Uses.{WritesTo}
-use Rattle.ds2_use_walk.proofs.UseLemmas.{one_more_use}
-use Rattle.ds2_use_walk.proofs.statement_walk.in_tables.Goals as goal
+use Rattle.ds2_calls.proofs.UseLemmas.{one_more_use}
+use Rattle.ds2_calls.proofs.statement_walk.in_tables.Goals as goal
 
 pub tables-preserved : goal.tables-preserved
 tables-preserved g c =

@@ -1,8 +1,8 @@
 use Rattle.std.proofs.Common.{◌+◌, [], ◌∷◌, drop, arith}
 use Rattle.std.proofs.lemmas.Grind.{common_steps}
 use Rattle.ds2_names.specs.Uses.{item_uses}
-use Rattle.ds2_use_walk.proofs.UseLemmas.{one_more_use, item_first}
-use Rattle.ds2_use_walk.proofs.statement_walk.in_items.Goals as goal
+use Rattle.ds2_calls.proofs.UseLemmas.{one_more_use, item_first}
+use Rattle.ds2_calls.proofs.statement_walk.in_items.Goals as goal
 
 pub items-preserved : goal.items-preserved
 items-preserved g c =

@@ -6,7 +6,7 @@ ghost use Rattle.ds2_tree.specs.StatementViews.{selector_tree, step_tree, counte
 ghost use Rattle.ds2_names.specs.NameRules.{from_each};
 ghost use Rattle.ds2_names.specs.Uses.{Sets, WritesTo, uses, argument_uses, item_uses, uses_if_any, step_uses, control_uses, selector_uses, statement_uses, statements_uses, when_uses, otherwise_uses};
 ghost use Rattle.ds2_scope.specs.Earliest.{earliest};
-ghost use Rattle.ds2_use_walk.specs.UseParts.{earliest_use, else_if_uses};
+ghost use Rattle.ds2_calls.specs.UseParts.{earliest_use, else_if_uses};
 
 use crate::use_walk::{UseRule, in_arguments, in_call, in_expression};
 use ds2_base::{OutOfMemory, Place};

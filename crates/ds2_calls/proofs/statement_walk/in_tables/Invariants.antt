@@ -2,8 +2,8 @@ use Rattle.std.proofs.Common.{◌≡◌, drop}
 use Rattle.std.specs.Prelude.{map}
 use Rattle.ds2_names.specs.Uses.{WritesTo}
 use Rattle.ds2_scope.specs.Earliest.{earlier_of}
-use Rattle.ds2_use_walk.specs.UseParts.{earliest_use}
-use Rattle.ds2_use_walk.proofs.statement_walk.in_tables.Given as goal
+use Rattle.ds2_calls.specs.UseParts.{earliest_use}
+use Rattle.ds2_calls.proofs.statement_walk.in_tables.Given as goal
 
 abbrev pub invariant-tables : goal.invariant-tables
 invariant-tables g l =

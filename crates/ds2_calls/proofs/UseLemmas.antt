@@ -29,7 +29,7 @@ use Rattle.ds2_tree.specs.StatementViews.{selector_tree, control_tree, if_else, 
 use Rattle.ds2_names.specs.NameRules.{from_each}
 use Rattle.ds2_names.specs.Uses.{NameUse, CallsOn, Sets, uses, operand_uses, argument_uses, item_uses, selector_uses, control_uses, statement_uses, statements_uses, when_uses, otherwise_uses}
 use Rattle.ds2_scope.specs.Earliest.{earlier_of, earliest}
-use Rattle.ds2_use_walk.specs.UseParts.{UsePlaces, InOutFlags, earliest_use, next_flag, further_flags, uses_of_argument, handed_name, else_if_uses}
+use Rattle.ds2_calls.specs.UseParts.{UsePlaces, InOutFlags, earliest_use, next_flag, further_flags, uses_of_argument, handed_name, else_if_uses}
 use Rattle.ds2_scope.proofs.EarliestLemmas.{none_right, earlier_of_assoc, earliest_append}
 use Rattle.ds2_scope.proofs.StatementRows.{if_tree_is, select_tree, do_tree}
 

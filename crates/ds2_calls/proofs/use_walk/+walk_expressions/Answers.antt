@@ -2,8 +2,8 @@ use Rattle.std.proofs.Common.{◌+◌, drop, arith}
 use Rattle.std.proofs.lemmas.Grind.{common_steps}
 use Rattle.ds2_tree.specs.ExpressionViews.{expression_tree, operands_of, arguments_of}
 use Rattle.ds2_names.specs.Uses.{uses, operand_uses}
-use Rattle.ds2_use_walk.proofs.UseLemmas.{one_more_use, one_more_argument}
-use Rattle.ds2_use_walk.proofs.use_walk.+walk_expressions.Goals as goal
+use Rattle.ds2_calls.proofs.UseLemmas.{one_more_use, one_more_argument}
+use Rattle.ds2_calls.proofs.use_walk.+walk_expressions.Goals as goal
 
 pub in_operands-operands-preserved : goal.in_operands-operands-preserved
 in_operands-operands-preserved g t c =

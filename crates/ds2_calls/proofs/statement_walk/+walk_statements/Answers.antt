@@ -4,11 +4,11 @@ use Rattle.ds2_tree.specs.ExpressionViews.{arguments_of}
 use Rattle.ds2_tree.specs.StatementViews.{statement_tree, statements_of, whens_of}
 use Rattle.ds2_names.specs.NameRules.{from_each}
 use Rattle.ds2_names.specs.Uses.{argument_uses, statement_uses, statements_uses, when_uses}
-use Rattle.ds2_use_walk.specs.UseParts.{earliest_use, else_if_uses}
+use Rattle.ds2_calls.specs.UseParts.{earliest_use, else_if_uses}
 use Rattle.ds2_scope.specs.Earliest.{earlier_of, earliest}
 use Rattle.ds2_scope.proofs.CollectedLemmas.{one_more_item}
-use Rattle.ds2_use_walk.proofs.UseLemmas.{one_more_use, uses_of_if}
-use Rattle.ds2_use_walk.proofs.statement_walk.+walk_statements.Goals as goal
+use Rattle.ds2_calls.proofs.UseLemmas.{one_more_use, uses_of_if}
+use Rattle.ds2_calls.proofs.statement_walk.+walk_statements.Goals as goal
 
 pub in_others-others-preserved : goal.in_others-others-preserved
 in_others-others-preserved g t c =

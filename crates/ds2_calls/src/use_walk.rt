@@ -3,7 +3,7 @@ ghost use Rattle.std.specs.Prelude.{◌≡◌, ◌∷◌, [], IfOk, option_copie
 ghost use Rattle.ds2_tree.specs.ExpressionViews.{expression_tree, operands_of, arguments_of};
 ghost use Rattle.ds2_names.specs.NameRules.{is_flag_word};
 ghost use Rattle.ds2_names.specs.Uses.{Values, Members, HandsOver, CallsOn, Sets, WritesTo, uses, operand_uses, argument_uses};
-ghost use Rattle.ds2_use_walk.specs.UseParts.{UsePlaces, InOutFlags, earliest_use, next_flag, further_flags, uses_of_argument, handed_name};
+ghost use Rattle.ds2_calls.specs.UseParts.{UsePlaces, InOutFlags, earliest_use, next_flag, further_flags, uses_of_argument, handed_name};
 
 use ds2_base::{OutOfMemory, Place};
 use ds2_scope::earlier_of;

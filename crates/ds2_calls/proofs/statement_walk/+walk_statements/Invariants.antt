@@ -3,8 +3,8 @@ use Rattle.ds2_tree.specs.StatementViews.{statements_of, whens_of}
 use Rattle.ds2_names.specs.NameRules.{from_each}
 use Rattle.ds2_names.specs.Uses.{statements_uses, when_uses}
 use Rattle.ds2_scope.specs.Earliest.{earlier_of, earliest}
-use Rattle.ds2_use_walk.specs.UseParts.{earliest_use, else_if_uses}
-use Rattle.ds2_use_walk.proofs.statement_walk.+walk_statements.Given as goal
+use Rattle.ds2_calls.specs.UseParts.{earliest_use, else_if_uses}
+use Rattle.ds2_calls.proofs.statement_walk.+walk_statements.Given as goal
 
 abbrev pub invariant-in_others-others : goal.invariant-in_others-others
 invariant-in_others-others g l =
