@@ -26,13 +26,13 @@ use Rattle.ds2_scope.specs.Earliest.{earlier_of, earliest}
 use Rattle.ds2_scope.proofs.EachLemmas.{each_is, each_of_each}
 use Rattle.ds2_scope.proofs.EarliestLemmas.{earlier_of_assoc, earlier_of_comm, earliest_append}
 use Rattle.ds2_calls.specs.UseParts.{InOutFlags}
-use Rattle.ds2_mentions.specs.declared.mentions.Mention.{Mention}
-use Rattle.ds2_mentions.specs.declared.mentions.Mention.TheVariants as mention
-use Rattle.ds2_mentions.specs.MentionParts.{mentions_in_member, mentions_in_use, mentions_in_uses, variable_mentions}
-use Rattle.ds2_mentions.specs.PartsOfMethods.{parts_of_method, part_of_instance, unit_parts}
-use Rattle.ds2_mentions.specs.declared.parts.MethodParts.{MethodParts}
-use Rattle.ds2_mentions.specs.declared.parts.UnitParts.{UnitParts}
-use Rattle.ds2_mentions.proofs.HandedLemmas.{none_is_in_out}
+use Rattle.ds2_aliases.specs.declared.mentions.Mention.{Mention}
+use Rattle.ds2_aliases.specs.declared.mentions.Mention.TheVariants as mention
+use Rattle.ds2_aliases.specs.MentionParts.{mentions_in_member, mentions_in_use, mentions_in_uses, variable_mentions}
+use Rattle.ds2_aliases.specs.PartsOfMethods.{parts_of_method, part_of_instance, unit_parts}
+use Rattle.ds2_aliases.specs.declared.parts.MethodParts.{MethodParts}
+use Rattle.ds2_aliases.specs.declared.parts.UnitParts.{UnitParts}
+use Rattle.ds2_aliases.proofs.HandedLemmas.{none_is_in_out}
 use Rattle.ds2_aliases.specs.HandedGlobals.{unhidden_handing, handings_in, handings_of_method, reached_place, repeated_in_mention, repeated_in_method, aliased_by_parts}
 use Rattle.ds2_aliases.specs.ReachingMethods.{part_named, unhidden_name, called_in, unhidden_object, names_called, has_variable_of, holds, mentions_itself, mentions_or_calls, reaches}
 use Rattle.ds2_aliases.proofs.TestLemmas.{or_false, listed_append, listed_each}

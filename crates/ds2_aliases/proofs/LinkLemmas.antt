@@ -4,7 +4,7 @@ use Rattle.std.specs.Prelude.{if◌then◌else◌, unwrap_or}
 use Rattle.std.proofs.lemmas.Slice.Eq.{bytes_eq-Decides}
 use Rattle.ds2_meaning.specs.ProgramTree.{is_listed}
 use Rattle.ds2_aliases.specs.declared.links.LinkKind.{LinkKind}
-use Rattle.ds2_mentions.specs.declared.parts.MethodParts.{MethodParts}
+use Rattle.ds2_aliases.specs.declared.parts.MethodParts.{MethodParts}
 use Rattle.ds2_aliases.specs.MethodLinks.{links_of_method, links_if_any}
 use Rattle.ds2_aliases.specs.ReachingMethods.{part_named}
 use Rattle.ds2_aliases.proofs.TestLemmas.{or_false, and_false, and_true}

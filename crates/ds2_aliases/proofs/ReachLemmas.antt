@@ -8,8 +8,8 @@ use Rattle.std.proofs.lemmas.Slice.Eq.{bytes_eq-Decides}
 use Rattle.ds2_meaning.specs.ProgramTree.{is_listed}
 use Rattle.ds2_names.specs.NameRules.{from_each}
 use Rattle.ds2_aliases.specs.declared.links.LinkKind.TheVariants as kind
-use Rattle.ds2_mentions.specs.declared.parts.MethodParts.{MethodParts}
-use Rattle.ds2_mentions.specs.declared.parts.UnitParts.{UnitParts}
+use Rattle.ds2_aliases.specs.declared.parts.MethodParts.{MethodParts}
+use Rattle.ds2_aliases.specs.declared.parts.UnitParts.{UnitParts}
 use Rattle.ds2_aliases.specs.declared.reach.Links.{Links}
 use Rattle.ds2_aliases.specs.MethodLinks.{linked, links_if_any}
 use Rattle.ds2_aliases.specs.ReachingMethods.{part_named, has_variable_of, holds, mentions_itself, mentions_or_calls, reaches}

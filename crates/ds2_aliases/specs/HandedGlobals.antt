@@ -4,11 +4,11 @@ use Rattle.ds2_base.specs.declared.place.Place.{Place}
 use Rattle.ds2_names.specs.NameRules.{from_each, later_places, place_unless}
 use Rattle.ds2_names.specs.SourceUnit.{PlacedName, is_named}
 use Rattle.ds2_scope.specs.Earliest.{earlier_of, earliest}
-use Rattle.ds2_mentions.specs.declared.mentions.Mention.{Mention}
-use Rattle.ds2_mentions.specs.declared.mentions.Mention.TheVariants as mention
+use Rattle.ds2_aliases.specs.declared.mentions.Mention.{Mention}
+use Rattle.ds2_aliases.specs.declared.mentions.Mention.TheVariants as mention
 use Rattle.ds2_aliases.specs.declared.handings.Handing.{Handing}
-use Rattle.ds2_mentions.specs.declared.parts.MethodParts.{MethodParts}
-use Rattle.ds2_mentions.specs.declared.parts.UnitParts.{UnitParts}
+use Rattle.ds2_aliases.specs.declared.parts.MethodParts.{MethodParts}
+use Rattle.ds2_aliases.specs.declared.parts.UnitParts.{UnitParts}
 use Rattle.ds2_aliases.specs.ReachingMethods.{reaches}
 
 -- a name that is handed to a method, where nothing hides it

@@ -3,3 +3,6 @@ pub mod ReachingMethods
 pub mod MethodLinks
 pub mod ReachedNames
 pub mod HandedGlobals
+-- What methods mention.
+pub mod MentionParts
+pub mod PartsOfMethods

@@ -5,7 +5,7 @@ use Rattle.std.specs.HashMap.{HashMap, get}
 use Rattle.ds2_meaning.specs.ProgramTree.{is_listed}
 use Rattle.ds2_aliases.specs.declared.links.LinkKind.{LinkKind}
 use Rattle.ds2_aliases.specs.declared.links.LinkKind.TheVariants as kind
-use Rattle.ds2_mentions.specs.declared.parts.MethodParts.{MethodParts}
+use Rattle.ds2_aliases.specs.declared.parts.MethodParts.{MethodParts}
 use Rattle.ds2_aliases.specs.ReachingMethods.{part_named, globals_mentioned, names_called, objects_used}
 
 -- the methods that a table links to a name

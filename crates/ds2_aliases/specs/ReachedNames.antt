@@ -4,7 +4,7 @@ use Rattle.std.specs.Cmp.Lexicographic.{pointwise}
 use Rattle.std.specs.HashMap.{HashMap, get}
 use Rattle.std.specs.HashSet.{HashSet, contains}
 use Rattle.ds2_aliases.specs.declared.links.LinkKind.TheVariants as kind
-use Rattle.ds2_mentions.specs.declared.parts.UnitParts.{UnitParts}
+use Rattle.ds2_aliases.specs.declared.parts.UnitParts.{UnitParts}
 use Rattle.ds2_aliases.specs.declared.reach.Links.{Links}
 use Rattle.ds2_aliases.specs.MethodLinks.{HasLinks}
 use Rattle.ds2_aliases.specs.ReachingMethods.{reaches}

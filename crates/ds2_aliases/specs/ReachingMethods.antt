@@ -4,10 +4,10 @@ use Rattle.std.specs.List.{find, list_any}
 use Rattle.ds2_meaning.specs.ProgramTree.{is_listed}
 use Rattle.ds2_names.specs.NameRules.{from_each}
 use Rattle.ds2_names.specs.SourceUnit.{is_named}
-use Rattle.ds2_mentions.specs.declared.mentions.Mention.{Mention}
-use Rattle.ds2_mentions.specs.declared.mentions.Mention.TheVariants as mention
-use Rattle.ds2_mentions.specs.declared.parts.MethodParts.{MethodParts}
-use Rattle.ds2_mentions.specs.declared.parts.UnitParts.{UnitParts}
+use Rattle.ds2_aliases.specs.declared.mentions.Mention.{Mention}
+use Rattle.ds2_aliases.specs.declared.mentions.Mention.TheVariants as mention
+use Rattle.ds2_aliases.specs.declared.parts.MethodParts.{MethodParts}
+use Rattle.ds2_aliases.specs.declared.parts.UnitParts.{UnitParts}
 
 -- the first method of a name
 abbrev pub part_named : List MethodParts → List ℕ → Option MethodParts

@@ -6,7 +6,7 @@ ghost use Rattle.ds2_names.specs.SourceUnit.{TableColumns, KnownUnit, names_of_u
 ghost use Rattle.ds2_scope.specs.CodeUnits.{unit_source};
 ghost use Rattle.ds2_scope.specs.Earliest.{earlier_of, earliest};
 ghost use Rattle.ds2_scope.specs.UnitNames.{NamesAre};
-ghost use Rattle.ds2_mentions.specs.declared.parts.UnitParts.{UnitParts};
+ghost use Rattle.ds2_aliases.specs.declared.parts.UnitParts.{UnitParts};
 ghost use Rattle.ds2_aliases.specs.HandedGlobals.{handings_of_method, reached_place, repeated_in_mention, repeated_in_method, aliased_by_parts};
 ghost use Rattle.ds2_aliases.specs.ReachedNames.{AreLinks, HasReached};
 
@@ -14,7 +14,7 @@ use crate::handings::{Handing, handings_of};
 use crate::reach::{Links, Reached, is_reached, links_of_unit};
 use ds2_base::{OutOfMemory, Place};
 use ds2_calls::Calls;
-use ds2_mentions::{Mention, MethodParts, UnitParts, parts_of_unit};
+use crate::{Mention, MethodParts, UnitParts, parts_of_unit};
 use ds2_scope::{NameTable, Unit, UnitNames, earlier_of, earliest_later, place_unless};
 use std::alloc::Global;
 

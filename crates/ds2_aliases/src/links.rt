@@ -8,7 +8,7 @@ ghost use Rattle.ds2_aliases.specs.ReachingMethods.{unhidden_name, called_in, un
 ghost use Rattle.ds2_aliases.specs.MethodLinks.{linked, links_of_method, HasLinks};
 
 use ds2_base::{Bytes, List, OutOfMemory};
-use ds2_mentions::{Mention, MethodParts};
+use crate::{Mention, MethodParts};
 use ds2_scope::{NameSet, NameTable, add_name, name_set};
 use std::alloc::Global;
 

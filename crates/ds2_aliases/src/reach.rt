@@ -4,14 +4,14 @@ ghost use Rattle.std.specs.Cmp.Lexicographic.{pointwise};
 ghost use Rattle.std.specs.HashSet.{contains};
 ghost use Rattle.ds2_meaning.specs.ProgramTree.{is_listed};
 ghost use Rattle.ds2_names.specs.NameRules.{from_each};
-ghost use Rattle.ds2_mentions.specs.declared.parts.UnitParts.{UnitParts};
+ghost use Rattle.ds2_aliases.specs.declared.parts.UnitParts.{UnitParts};
 ghost use Rattle.ds2_aliases.specs.ReachingMethods.{reaches};
 ghost use Rattle.ds2_aliases.specs.MethodLinks.{linked};
 ghost use Rattle.ds2_aliases.specs.ReachedNames.{AreLinks, HasReached};
 
 use crate::links::{LinkKind, LinkTable, links_of};
 use ds2_base::{Bytes, List, OutOfMemory};
-use ds2_mentions::UnitParts;
+use crate::UnitParts;
 use ds2_scope::{NameSet, NameTable, add_name};
 use std::alloc::Global;
 

@@ -3,7 +3,7 @@ use Rattle.std.proofs.lemmas.Result.{IfOk-weaker}
 use Rattle.ds2_calls.specs.UnitsCalls.{calls_by_tables}
 use Rattle.ds2_names.specs.SourceUnit.{source_methods, names_of_unit}
 use Rattle.ds2_scope.specs.CodeUnits.{unit_source}
-use Rattle.ds2_mentions.specs.PartsOfMethods.{unit_parts}
+use Rattle.ds2_aliases.specs.PartsOfMethods.{unit_parts}
 use Rattle.ds2_aliases.specs.HandedGlobals.{aliased_by_parts}
 use Rattle.ds2_aliases.proofs.AliasLemmas.{unit_aliased}
 use Rattle.ds2_aliases.proofs.aliases.aliased_argument.Goals as goal

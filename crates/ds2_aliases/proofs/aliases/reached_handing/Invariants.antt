@@ -1,7 +1,7 @@
 use Rattle.std.proofs.Common.{◌≡◌, drop}
 use Rattle.ds2_names.specs.NameRules.{from_each}
 use Rattle.ds2_scope.specs.Earliest.{earlier_of, earliest}
-use Rattle.ds2_mentions.specs.declared.parts.UnitParts.{UnitParts}
+use Rattle.ds2_aliases.specs.declared.parts.UnitParts.{UnitParts}
 use Rattle.ds2_aliases.specs.HandedGlobals.{reached_place}
 use Rattle.ds2_aliases.specs.ReachedNames.{AreLinks, HasReached}
 use Rattle.ds2_aliases.proofs.aliases.reached_handing.Given as goal

@@ -1,4 +1,4 @@
-use Rattle.ds2_mentions.specs.declared.parts.UnitParts.{UnitParts}
+use Rattle.ds2_aliases.specs.declared.parts.UnitParts.{UnitParts}
 use Rattle.ds2_aliases.specs.ReachedNames.{AreLinks}
 use Rattle.ds2_aliases.proofs.ReachLemmas.{IsLayer}
 use Rattle.ds2_aliases.proofs.reach.reaching.Given as goal

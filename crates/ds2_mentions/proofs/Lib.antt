@@ -1,2 +1,0 @@
-pub mod HandedLemmas
-pub mod MentionLemmas

@@ -1,3 +1,0 @@
--- What methods mention.
-pub mod MentionParts
-pub mod PartsOfMethods
