@@ -1,2 +1,4 @@
 pub mod MisplacedLemmas
 pub mod MisplacedRows
+pub mod InstanceLemmas
+pub mod TestForms

@@ -3,7 +3,7 @@ use Rattle.std.proofs.Common.{◌≡◌, ◌++◌, sym, ap, ◌∙◌}
 use Rattle.ds2_token.specs.declared.token.Token.{Token}
 use Rattle.ds2_names.specs.NameRules.{from_each, from_uses, place_unless, may_be_global, all_listed_tokens, is_in_all_tables, unknown_stage, unknown_in_use, unknown_names, wrong_count_in_use, wrong_counts, not_variable_in_use, not_variables}
 use Rattle.ds2_names.specs.SourceUnit.{TableColumns, PlacedName, SourceNames, spelled_name, tables_of_reading, stage_token}
-use Rattle.ds2_instance_names.specs.InstanceRules.{unknown_in_instances, wrong_constructors, not_variable_in_instances}
+use Rattle.ds2_misplaced.specs.InstanceRules.{unknown_in_instances, wrong_constructors, not_variable_in_instances}
 use Rattle.ds2_name_uses.specs.BrokenUses.{unknown_names_used}
 use Rattle.ds2_scope.specs.Earliest.{earlier_of, earliest}
 use Rattle.ds2_scope.proofs.EarliestLemmas.{earliest_append, swap_last}
