@@ -1,1 +1,2 @@
 pub mod PileLemmas
+pub mod LineLemmas

@@ -1,2 +1,3 @@
 pub mod PileView
 pub mod Results
+pub mod OperationKinds

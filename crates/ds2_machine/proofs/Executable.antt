@@ -16,7 +16,7 @@ use Rattle.ds2_code.specs.OperandTypes.{OperandTypes, CodeRole, OfUnit, when_in_
 use Rattle.ds2_code.specs.ValidCode.{CodePoint, point, behind_instruction, AlongList, IsValidChain, IsValidProgram, stage_parameters, lists_short, own_lists_short, is_short, constant_allowed}
 use Rattle.ds2_slots.specs.LoadedHashes.{AreSlotTypesInBounds}
 use Rattle.ds2_machine.specs.AtRest.{IsProgramOfValid}
-use Rattle.ds2_operations.specs.OperationKinds.{has_type_in_bounds}
+use Rattle.ds2_frames.specs.OperationKinds.{has_type_in_bounds}
 use Rattle.ds2_machine.specs.Executable.{IsExecutable}
 
 -- each program of a chain is valid beside some thread program or none

@@ -19,7 +19,7 @@ use Rattle.ds2_code.specs.Desk.{ProgramData, with_slots, Taken, take_off, SlotSe
 use Rattle.ds2_code.specs.InstructionTable.{kind_of}
 use Rattle.ds2_code.specs.ValidCode.{unit_entries}
 use Rattle.ds2_code.specs.Scales.{AreScaled, AreGivenScaled, AreSettingsScaled, types_of_slots, IsDataScaled, IsScaled, UnitsBeginScaled, InstructionsKeepScales, ProductsHaveScales, UnitsEndScaled, SettingsKeepScales, ClearingKeepsScales, LoadedHashesAreScaled}
-use Rattle.ds2_operations.specs.OperationKinds.{operation_operands, has_scales_for}
+use Rattle.ds2_frames.specs.OperationKinds.{operation_operands, has_scales_for}
 use Rattle.ds2_machine.specs.AtRest.{MachineAtRest, staged_program, IsProgramOfValid, IsEndingAt, is_early}
 use Rattle.ds2_machine.specs.MachineView.{UnitTold, nothing_told, machine_of_state, data_of_state, progress_of_state, next_of_state, way_of_next, IsStateScaled, IsSunkStep}
 use Rattle.ds2_machine.specs.Executable.{HasScalesFor}

@@ -17,7 +17,7 @@ use Rattle.ds2_code.specs.declared.parts.OutputPart.{OutputPart}
 use Rattle.ds2_machine.specs.Sink.{SinkTakes}
 use Rattle.ds2_machine.proofs.Runs.{nothing_taken}
 use Rattle.ds2_frames.specs.PileView.{PileView}
-use Rattle.ds2_operations.specs.OperationKinds.{operation_operands, operation_result}
+use Rattle.ds2_frames.specs.OperationKinds.{operation_operands, operation_result}
 use Rattle.ds2_machine.specs.declared.state.Halt.{Halt}
 use Rattle.ds2_machine.specs.declared.state.Halt.TheVariants as halt
 use Rattle.ds2_machine.specs.declared.state.State.{State}

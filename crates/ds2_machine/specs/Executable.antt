@@ -7,7 +7,7 @@ use Rattle.ds2_code.specs.declared.parts.ProgramParts.{ProgramParts}
 use Rattle.ds2_code.specs.CodeBound.{HasBoundedJumps}
 use Rattle.ds2_code.specs.Desk.{Taken, take_off}
 use Rattle.ds2_code.specs.InstructionTable.{kind_of}
-use Rattle.ds2_operations.specs.OperationKinds.{operation_operands, has_scales_for, has_type_in_bounds}
+use Rattle.ds2_frames.specs.OperationKinds.{operation_operands, has_scales_for, has_type_in_bounds}
 
 -- an instruction that writes a row or a line
 abbrev pub is_writing : Instr → Bool

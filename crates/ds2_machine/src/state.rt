@@ -11,7 +11,7 @@ ghost use Rattle.ds2_code.specs.CodeRun.{perform, goes_to, on_desk, on_texts, on
 ghost use Rattle.ds2_code.specs.Desk.{OfConstant, OfSlot, OfLocal, IntoSlot, IntoLocal, IntoParameter, constant_value, top_into, without_top, take_off};
 ghost use Rattle.ds2_code.specs.HashCalls.{hash_called, iterator_moved};
 ghost use Rattle.ds2_code.specs.InstructionTable.{kind_of, Loads, Writes, Enters, GoesBack, CallsHash, CallsIterator};
-ghost use Rattle.ds2_operations.specs.OperationKinds.{goes_by_list, has_type_in_bounds, operation_operands};
+ghost use Rattle.ds2_frames.specs.OperationKinds.{goes_by_list, has_type_in_bounds, operation_operands};
 ghost use Rattle.ds2_machine.specs.MachineView.{UnitTold, nothing_told, machine_of_state, desk_of_state, data_of_state, progress_of_state, IsStateScaled, HasRunTo, IsQuietStep, IsSunkStep, AreTaken, with_operands};
 ghost use Rattle.ds2_frames.specs.Results.{as_list};
 ghost use Rattle.ds2_machine.specs.Executable.{IsExecutable, HasScalesFor, is_writing};
@@ -20,8 +20,7 @@ use crate::UnitSink;
 use ds2_base::{List, OutOfMemory, Place, Stop};
 use ds2_code::laws::instructions_leave_less;
 use ds2_code::{Constant, HashPart, Instr, MethodPart, ParameterPart, ProgramParts};
-use ds2_frames::{Arguments, Frames, Pile, Waiting};
-use ds2_operations::{computed, computed_from_pair, operands_of, write_line};
+use ds2_frames::{Arguments, Frames, Pile, Waiting, computed, computed_from_pair, operands_of, write_line};
 use ds2_code::scale_laws::{instructions_keep_scales, products_have_scales, units_end_scaled};
 use ds2_slots::{HashObjects, set};
 use ds2_value::{CALL_DEPTH, Fault, HashFunction, IteratorFunction, Truth, Value};

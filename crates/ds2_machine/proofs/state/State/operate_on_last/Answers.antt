@@ -2,7 +2,7 @@ use Rattle.std.proofs.Common.{drop, Ok, Err}
 use Rattle.ds2_base.specs.Says.{Says}
 use Rattle.ds2_base.specs.declared.stop.Stop.TheVariants.{Refused}
 use Rattle.ds2_code.specs.InstructionTable.{kind_of}
-use Rattle.ds2_operations.specs.OperationKinds.{operation_result}
+use Rattle.ds2_frames.specs.OperationKinds.{operation_result}
 use Rattle.ds2_machine.proofs.Steps.{stuck_operation, faulted_operation, operated}
 use Rattle.ds2_machine.proofs.state.State.operate_on_last.Goals as goal
 

@@ -1,6 +1,6 @@
 use Rattle.std.proofs.Common.{◌∙◌, sym, drop}
 use Rattle.ds2_code.specs.InstructionTable.{kind_of}
-use Rattle.ds2_operations.specs.OperationKinds.{operation_result}
+use Rattle.ds2_frames.specs.OperationKinds.{operation_result}
 use Rattle.ds2_machine.proofs.Steps.{stuck_operation, faulted_operation, operated}
 use Rattle.ds2_machine.proofs.CallLemmas.{two_there}
 use Rattle.ds2_machine.proofs.state.State.operate_on_pair.Goals as goal

@@ -6,7 +6,7 @@ ghost use Rattle.ds2_value.specs.Operations.{truth_value, or_null_at_fault};
 ghost use Rattle.ds2_value.specs.Types.{in_bounds, assign_of};
 ghost use Rattle.ds2_value.specs.declared.ty.Ty.TheVariants.{Char, Varchar};
 ghost use Rattle.ds2_code.specs.InstructionTable.{kind_of};
-ghost use Rattle.ds2_operations.specs.OperationKinds.{goes_by_list, has_scales_for, has_type_in_bounds, operation_operands, operation_result};
+ghost use Rattle.ds2_frames.specs.OperationKinds.{goes_by_list, has_scales_for, has_type_in_bounds, operation_operands, operation_result};
 
 use crate::choices::{first, greatest, least};
 use crate::decimals::{

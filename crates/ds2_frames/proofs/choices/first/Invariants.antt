@@ -2,7 +2,7 @@ use Rattle.std.proofs.Common.{◌≡◌, drop}
 use Rattle.std.specs.Prelude.{fold}
 use Rattle.ds2_value.specs.Functions.{first_of}
 use Rattle.ds2_value.specs.declared.value.Value.TheVariants.{Null}
-use Rattle.ds2_operations.proofs.choices.first.Given as goal
+use Rattle.ds2_frames.proofs.choices.first.Given as goal
 
 abbrev pub invariant-values : goal.invariant-values
 invariant-values l = fold first_of Null l.operands ≡ fold first_of l.best (drop l.v-index l.operands)
