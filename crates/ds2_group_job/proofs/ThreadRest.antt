@@ -10,7 +10,7 @@ use Rattle.ds2_code_answer.specs.StageTold.{told_by_answer}
 use Rattle.ds2_machine.specs.AtRest.{IsUnitEnd}
 use Rattle.ds2_machine.specs.declared.record.UnitRecord.{UnitRecord}
 use Rattle.ds2_machine.specs.declared.unit_end.UnitEnd.{UnitEnd}
-use Rattle.ds2_stage_loads.specs.GroupedLoads.{loads_of_groups}
+use Rattle.ds2_staged.specs.GroupedLoads.{loads_of_groups}
 use Rattle.ds2_staged.specs.declared.turns_end.TurnsEnd.{TurnsEnd}
 use Rattle.ds2_group_job.specs.GroupRuns.{run_of_group, end_of_group}
 use Rattle.ds2_group_job.specs.KeptAnswers.{HasKeptTold}

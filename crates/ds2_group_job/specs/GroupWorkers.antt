@@ -2,7 +2,7 @@
 use Rattle.std.specs.Prelude.{◌≡◌, ℕ, false, List}
 use Rattle.ds2_machine.specs.AtRest.{staged_program}
 use Rattle.ds2_code.specs.Scales.{IsDataScaled}
-use Rattle.ds2_stage_loads.specs.StageCursors.{cursor_groups}
+use Rattle.ds2_staged.specs.StageCursors.{cursor_groups}
 use Rattle.ds2_group_job.specs.StageJobs.{StageJob}
 use Rattle.ds2_group_job.specs.WhateverRan.{IsBehindGroups}
 use Rattle.ds2_group_job.specs.declared.group_worker.GroupWorker.{GroupWorker}

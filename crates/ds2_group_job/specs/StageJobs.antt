@@ -10,7 +10,7 @@ use Rattle.ds2_machine.specs.AtRest.{staged_program}
 use Rattle.ds2_machine.specs.declared.machine.TheConstants.{MOST_BUDGET}
 use Rattle.ds2_machine.specs.declared.record.UnitRecord.{UnitRecord}
 use Rattle.ds2_code.specs.Scales.{AreSettingsScaled, IsDataScaled}
-use Rattle.ds2_stage_loads.specs.GroupedLoads.{loads_of_groups}
+use Rattle.ds2_staged.specs.GroupedLoads.{loads_of_groups}
 use Rattle.ds2_staged.specs.Threads.{rows_kept}
 use Rattle.ds2_staged.specs.declared.turns_end.TurnsEnd.{TurnsEnd}
 use Rattle.ds2_group_job.specs.GroupRuns.{run_of_group, end_of_group, group_at_number}

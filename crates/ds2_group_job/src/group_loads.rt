@@ -1,11 +1,11 @@
 //! The loads of one group.
 ghost use Rattle.std.specs.Prelude.{◌≡◌, ◌<◌, length, take};
-ghost use Rattle.ds2_stage_loads.specs.StageCursors.{cursor_left, cursor_groups};
+ghost use Rattle.ds2_staged.specs.StageCursors.{cursor_left, cursor_groups};
 ghost use Rattle.ds2_group_job.specs.GroupRuns.{group_at_number};
 
 use ds2_base::{List, OutOfMemory};
 use ds2_machine::UnitLoad;
-use ds2_stage_loads::{LoadSource, StageLoads};
+use ds2_staged::{LoadSource, StageLoads};
 use ds2_value::Value;
 use std::alloc::Global;
 
@@ -39,7 +39,7 @@ impl UnitLoad for GroupLoads<'_> {
 
 impl LoadSource for GroupLoads<'_> {
     ghost use Rattle.std.specs.Prelude.{take};
-    ghost use Rattle.ds2_stage_loads.specs.StageCursors.{cursor_left, cursor_groups};
+    ghost use Rattle.ds2_staged.specs.StageCursors.{cursor_left, cursor_groups};
 
     ghost left = { λ group. take group.most (cursor_left group.loads.at group.loads.cursor) };
 

@@ -3,7 +3,7 @@ ghost use Rattle.std.specs.Prelude.{◌≡◌, ◌≤◌, false, IfOk};
 ghost use Rattle.ds2_machine.specs.AtRest.{staged_program};
 ghost use Rattle.ds2_machine.specs.declared.machine.TheConstants.{MOST_BUDGET};
 ghost use Rattle.ds2_code.specs.Scales.{IsDataScaled};
-ghost use Rattle.ds2_stage_loads.specs.StageCursors.{cursor_groups};
+ghost use Rattle.ds2_staged.specs.StageCursors.{cursor_groups};
 ghost use Rattle.ds2_staged.specs.Threads.{rows_kept};
 ghost use Rattle.ds2_group_job.specs.WhateverRan.{GivesWhateverRan};
 ghost use Rattle.ds2_group_job.specs.StageJobs.{AreGroupsScaled, IsReadyJob, StageJob};
@@ -13,8 +13,7 @@ use crate::group_worker::GroupWorker;
 use ds2_bags::{Answers, GroupEnd, Job};
 use ds2_base::{List, OutOfMemory};
 use ds2_machine::{Machine, OutRow, UnitRecord};
-use ds2_stage_loads::StageLoads;
-use ds2_staged::run_loads;
+use ds2_staged::{StageLoads, run_loads};
 use ds2_valid_code::ProgramCode;
 use ds2_value::Row;
 use std::alloc::Global;
@@ -31,7 +30,7 @@ pub struct GroupJob<'m, 'a> {
 }
 
 impl<'m, 'a> Model for GroupJob<'m, 'a> {
-    ghost use Rattle.ds2_stage_loads.specs.StageCursors.{cursor_groups};
+    ghost use Rattle.ds2_staged.specs.StageCursors.{cursor_groups};
     ghost use Rattle.ds2_group_job.specs.StageJobs.{StageJob, IsReadyJob};
 
     ghost Value = { StageJob };

@@ -5,3 +5,7 @@ pub mod StagedCode
 pub mod ReaderAnswers
 pub mod ThreadEnds
 pub mod StagedRuns
+pub mod CursorSteps
+pub mod OpenCursors
+pub mod GroupLaws
+pub mod EveryGroup

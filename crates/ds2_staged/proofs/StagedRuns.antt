@@ -21,7 +21,7 @@ use Rattle.ds2_machine.specs.Sink.{SinkTakes}
 use Rattle.ds2_machine.specs.declared.record.OutRow.{OutRow}
 use Rattle.ds2_machine.specs.declared.unit_end.UnitEnd.{UnitEnd}
 use Rattle.ds2_unit.specs.ProgramRun.{IsRunEnd, note_of_stage}
-use Rattle.ds2_stage_loads.proofs.CursorSteps.{first_at}
+use Rattle.ds2_staged.proofs.CursorSteps.{first_at}
 use Rattle.ds2_staged.specs.Threads.{IsThreadEnd, rows_as_loads, rows_kept}
 use Rattle.ds2_staged.specs.Turns.{HasRunThrough}
 use Rattle.ds2_unit.specs.declared.program_end.RunEnd.{RunEnd}

@@ -20,7 +20,7 @@ use Rattle.ds2_code_answer.specs.CodeAnswer.{code_units, code_opening, code_prog
 use Rattle.ds2_code_answer.specs.CodeLoads.{code_reading, slots_of_stage}
 use Rattle.ds2_code_answer.specs.CodeTables.{rows_of_each}
 use Rattle.ds2_unit.specs.UnitsRun.{ReadsNoThread}
-use Rattle.ds2_stage_loads.specs.Grains.{IsGrainOfReading}
+use Rattle.ds2_staged.specs.Grains.{IsGrainOfReading}
 use Rattle.ds2_staged.specs.declared.thread.ThreadEnd.{ThreadEnd}
 
 -- ---- grains

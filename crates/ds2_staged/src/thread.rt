@@ -21,7 +21,7 @@ use ds2_code_answer::laws::loads_are_scaled;
 use ds2_loads::TableRows;
 use ds2_machine::{Machine, UnitRecord, UnitSink};
 use ds2_reading::{Reading, Tables};
-use ds2_stage_loads::{LoadSource, StageLoads, statement_of};
+use crate::{LoadSource, StageLoads, statement_of};
 use ds2_table::Table;
 use ds2_unit::StageNote;
 use ds2_valid_code::ProgramCode;

@@ -5,7 +5,7 @@ use ds2_base::{List, OutOfMemory};
 use ds2_code::Slot;
 use ds2_loads::set_columns;
 use ds2_machine::{OutRow, UnitLoad};
-use ds2_stage_loads::LoadSource;
+use crate::LoadSource;
 use ds2_value::Value;
 use std::alloc::Global;
 

@@ -12,7 +12,7 @@ ghost use Rattle.ds2_staged.specs.Turns.{HasRunTurns, HasRunThrough};
 use crate::turns_end::TurnsEnd;
 use ds2_base::OutOfMemory;
 use ds2_machine::{Machine, UnitSink};
-use ds2_stage_loads::LoadSource;
+use crate::LoadSource;
 use ds2_valid_code::ProgramCode;
 use ds2_value::Ending;
 use std::alloc::Global;

@@ -1,6 +1,6 @@
 use Rattle.std.proofs.Common.{refl, sym, ◌∙◌, arith}
 use Rattle.ds2_machine.specs.AtRest.{staged_program}
-use Rattle.ds2_stage_loads.specs.StageCursors.{cursor_groups}
+use Rattle.ds2_staged.specs.StageCursors.{cursor_groups}
 use Rattle.ds2_staged.specs.declared.turns_end.TurnsEnd.{TurnsEnd}
 use Rattle.ds2_group_job.proofs.NoneStrays.{none_strays}
 use Rattle.ds2_group_job.proofs.ThreadRest.{rest_faulted, rest_ended}

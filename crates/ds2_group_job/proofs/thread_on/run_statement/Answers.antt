@@ -5,8 +5,8 @@ use Rattle.ds2_code.specs.Desk.{SlotSettings}
 use Rattle.ds2_code_answer.specs.CodeAnswer.{code_units}
 use Rattle.ds2_code_answer.specs.CodeLoads.{code_loads}
 use Rattle.ds2_code_answer.specs.StageTold.{told_by_answer}
-use Rattle.ds2_stage_loads.specs.GroupedLoads.{loads_of_groups}
-use Rattle.ds2_stage_loads.specs.StageCursors.{cursor_groups}
+use Rattle.ds2_staged.specs.GroupedLoads.{loads_of_groups}
+use Rattle.ds2_staged.specs.StageCursors.{cursor_groups}
 use Rattle.ds2_group_job.specs.KeptAnswers.{HasKeptTold}
 use Rattle.ds2_group_job.specs.StageJobs.{AreGroupsScaled}
 use Rattle.ds2_group_job.specs.WhateverRan.{GivesWhateverRan}

@@ -10,7 +10,7 @@ use Rattle.ds2_code.specs.Scales.{AreSettingsScaled}
 use Rattle.ds2_machine.specs.AtRest.{staged_program}
 use Rattle.ds2_code_answer.specs.CodeAnswer.{code_units}
 use Rattle.ds2_code_answer.specs.CodeLoads.{code_keyed_loads, code_loads}
-use Rattle.ds2_stage_loads.specs.GroupedLoads.{settings_of_code}
+use Rattle.ds2_staged.specs.GroupedLoads.{settings_of_code}
 use Rattle.ds2_staged.specs.Turns.{HasRunThrough}
 use Rattle.ds2_staged.specs.declared.thread.GroupedEnd.{GroupedEnd}
 use Rattle.ds2_staged.proofs.thread.run_statement.Goals as goal

@@ -6,7 +6,7 @@ use Rattle.ds2_code.specs.Desk.{SlotSettings}
 use Rattle.ds2_machine.specs.AtRest.{staged_program}
 use Rattle.ds2_machine.specs.declared.record.UnitRecord.{UnitRecord}
 use Rattle.ds2_code.specs.Scales.{AreSettingsScaled, IsDataScaled}
-use Rattle.ds2_stage_loads.specs.StageCursors.{cursor_left}
+use Rattle.ds2_staged.specs.StageCursors.{cursor_left}
 use Rattle.ds2_group_job.specs.GroupRuns.{run_of_group, group_at_number}
 use Rattle.ds2_group_job.specs.StageJobs.{StageJob, IsReadyJob}
 use Rattle.ds2_group_job.proofs.GroupSteps.{told_is, not_spent, answer_is, ran_on}

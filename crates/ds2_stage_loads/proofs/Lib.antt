@@ -1,4 +1,0 @@
-pub mod CursorSteps
-pub mod OpenCursors
-pub mod GroupLaws
-pub mod EveryGroup

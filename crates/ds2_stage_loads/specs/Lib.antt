@@ -1,4 +1,0 @@
-pub mod Grains
-pub mod StageCursors
-pub mod GroupedLoads
-pub mod EveryGroup
