@@ -2,3 +2,10 @@ pub mod TextLemmas
 pub mod FirstMentions
 pub mod StoreTables
 pub mod SourceAnswers
+pub mod GlobalLaws
+pub mod UnitLaws
+pub mod SteadyUnitLaws
+pub mod SourceLaws
+pub mod SymbolPromises
+pub mod MethodSteps
+pub mod PackageSteps

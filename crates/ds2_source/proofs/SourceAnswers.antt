@@ -12,7 +12,7 @@ use Rattle.ds2_tree.specs.Acceptance.{Answers}
 use Rattle.ds2_tree.specs.Parsers.{ParserOutcome, Read, Unexpected, TooDeep, Spent}
 use Rattle.ds2_tree.specs.Promise.{place_of}
 use Rattle.ds2_tree.specs.Units.{SourcePart}
-use Rattle.ds2_parse.specs.ParseAnswer.{source_symbol, most_levels, SourcesAreReadExactly}
+use Rattle.ds2_source.specs.ParseAnswer.{source_symbol, most_levels, SourcesAreReadExactly}
 use Rattle.ds2_parse_rules.specs.UnitGrammar.{parse_source}
 use Rattle.ds2_source.specs.declared.kinds.SourceKind.{SourceKind}
 use Rattle.ds2_source.specs.declared.kinds.SourceKind.TheVariants.{Lex, Parse, Scope, Types}

@@ -16,3 +16,7 @@ pub use Rattle.ds2_names.specs.SourceLimits
 pub use Rattle.ds2_names.specs.SourceUnit
 pub use Rattle.ds2_token.specs.declared.kinds.LexKind
 pub use Rattle.ds2_tree.specs.Units
+pub mod ParseAnswer
+pub mod ParseExamples
+pub mod UnitBodies
+pub mod MethodBodies

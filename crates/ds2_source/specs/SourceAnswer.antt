@@ -14,7 +14,7 @@ use Rattle.ds2_tree.specs.Promise.{Said}
 use Rattle.ds2_tree.specs.declared.source.Source.{Source}
 use Rattle.ds2_tree.specs.Units.{SourcePart}
 use Rattle.ds2_tree.specs.UnitViews.{source_tree}
-use Rattle.ds2_parse.specs.ParseAnswer.{source_symbol, most_levels}
+use Rattle.ds2_source.specs.ParseAnswer.{source_symbol, most_levels}
 use Rattle.ds2_source.specs.declared.kinds.SourceKind.{SourceKind}
 use Rattle.ds2_source.specs.declared.kinds.SourceKind.TheVariants.{Lex, Parse, Scope, Types}
 use Rattle.ds2_source.specs.declared.kinds.SourceRefusal.{SourceRefusal}

@@ -1,7 +1,7 @@
 //! Laws over all texts, each the contract of a function that does nothing.
 ghost use Rattle.ds2_source.specs.AnswersOfTexts.{OneSourceAnswer, SourcesRead};
 
-use ds2_parse::grammar_reads_sources;
+use crate::grammar_reads_sources;
 use ds2_token::laws::{
     every_text_is_read, no_refusal_beside_tokens, one_list_stands, one_refusal_is_first,
 };

@@ -4,9 +4,8 @@ ghost use Rattle.ds2_tree.specs.UnitViews.{source_tree};
 ghost use Rattle.ds2_source.specs.SourceAnswer.{GivesAnswerForTokens, GivesSourceAnswer};
 ghost use Rattle.ds2_source.specs.SourceTexts.{StandsInText};
 
-use crate::{SourceKind, SourceRefusal};
+use crate::{SourceKind, SourceRefusal, parse};
 use ds2_base::{List, Place, Refusal, Stop, Text};
-use ds2_parse::parse;
 use ds2_token::{Token, end_place, tokens};
 use ds2_tree::Source;
 use std::alloc::Global;

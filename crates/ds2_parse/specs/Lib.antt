@@ -1,4 +1,0 @@
-pub mod ParseAnswer
-pub mod ParseExamples
-pub mod UnitBodies
-pub mod MethodBodies
