@@ -22,7 +22,7 @@ use Rattle.ds2_same_meaning.specs.SameMeaning.{OutputsHaveSlots, TypedProgramsMe
 use Rattle.ds2_source.specs.InputTables.{source_inputs}
 use Rattle.ds2_source.specs.SourceTexts.{StandsInText}
 use Rattle.ds2_source.specs.declared.kinds.SourceRefusal.{SourceRefusal}
-use Rattle.ds2_typed_source.specs.SourceOutcomes.{AreProgramsOf, IsRefusedSource, programs_or_refusal}
+use Rattle.ds2_compile.specs.SourceOutcomes.{AreProgramsOf, IsRefusedSource, programs_or_refusal}
 use Rattle.ds2_verdicts.specs.SourceVerdicts.{source_verdicts}
 use Rattle.ds2_verdicts.specs.declared.verdicts.ThreadVerdict.{ThreadVerdict}
 use Rattle.ds2_compile.specs.LocalStages.{StagesAreIndependent, LocalStagesAreIndependent}

@@ -14,7 +14,7 @@ use Rattle.ds2_names.specs.SourceLimits.{mentioned_table}
 use Rattle.ds2_names.specs.SourceUnit.{TableColumns}
 use Rattle.ds2_elaboration.specs.Elaboration.{made_columns}
 use Rattle.ds2_elaboration.specs.ElaborationLaws.{StandsAmong}
-use Rattle.ds2_typed_source.specs.TablesBehind.{mention_of_output}
+use Rattle.ds2_compile.specs.TablesBehind.{mention_of_output}
 
 -- among earlier programs the maker of a table has an output of its name with these columns
 pub record IsMade (earlier : List UnitTree) (table : MentionedTable) (columns : Columns) : Type 0 where

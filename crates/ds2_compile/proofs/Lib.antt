@@ -7,3 +7,7 @@ pub mod LinkedCodes
 pub mod CompiledOutcomes
 pub mod SourceThreads
 pub mod JudgedStages
+pub mod UnitOutcomes
+pub mod UnitsBehind
+pub mod TablesMade
+pub mod SourceSteps

@@ -33,8 +33,8 @@ use Rattle.ds2_code.specs.declared.parts.TableReference.{TableReference}
 use Rattle.ds2_same_meaning.specs.CodeParts.{input_part, reading_part, table_part}
 use Rattle.ds2_same_meaning.specs.CodeTables.{reading_references}
 use Rattle.ds2_source.specs.InputTables.{source_inputs}
-use Rattle.ds2_typed_source.proofs.TablesMade.{outputs_made}
-use Rattle.ds2_typed_source.proofs.UnitOutcomes.{reader_made}
+use Rattle.ds2_compile.proofs.TablesMade.{outputs_made}
+use Rattle.ds2_compile.proofs.UnitOutcomes.{reader_made}
 use Rattle.ds2_compile.specs.CompiledSources.{HasStoreTable}
 use Rattle.ds2_compile.proofs.KnownTables.{IsKnownTable, KnowsTables, behind_program, known_later, store_alone}
 use Rattle.ds2_compile.proofs.Mentions.{AreAmong, InstancesAmong, IsTableAmong, LoadsAmong, ReadsAmong, instances_load, listed_before, listed_behind, listed_first, method_reads, or_left, or_right, tables_named}

@@ -19,10 +19,10 @@ use Rattle.ds2_elaboration.specs.Elaboration.{ProgramRefusal, before_source, ela
 use Rattle.ds2_elaboration.specs.TypedPrograms.{EveryThreadIsTyped, HaveSchemas, StandsInSource}
 use Rattle.ds2_elaboration.specs.ProgramTypes.{typed_program}
 use Rattle.ds2_elaboration.specs.UnitsBefore.{UnitsBefore}
-use Rattle.ds2_typed_source.specs.TypedPrograms.{IsTypedThread}
-use Rattle.ds2_typed_source.specs.SourceOutcomes.{AreProgramsOf}
-use Rattle.ds2_typed_source.specs.SourceThreads.{AreThreadsBehind, AreThreadsIn, AreThreadsOfSource}
-use Rattle.ds2_typed_source.proofs.UnitOutcomes.{reader_made}
+use Rattle.ds2_compile.specs.TypedPrograms.{IsTypedThread}
+use Rattle.ds2_compile.specs.SourceOutcomes.{AreProgramsOf}
+use Rattle.ds2_compile.specs.SourceThreads.{AreThreadsBehind, AreThreadsIn, AreThreadsOfSource}
+use Rattle.ds2_compile.proofs.UnitOutcomes.{reader_made}
 use Rattle.ds2_verdicts.specs.SourceVerdicts.{IsThreadOf, TypedThreadsAreJudged, source_verdicts, verdicts_in, verdicts_of_parts}
 use Rattle.ds2_verdicts.specs.ThreadVerdicts.{IsTyped, verdicts_on}
 use Rattle.ds2_verdicts.specs.declared.verdicts.ThreadVerdict.{ThreadVerdict}

@@ -29,3 +29,9 @@ pub use Rattle.ds2_tree.specs.UnitViews
 pub use Rattle.ds2_tree.specs.Units
 pub use Rattle.ds2_value.specs.Row
 pub mod LocalStages
+-- What a source becomes, as the code holds it.
+pub mod SourceOutcomes
+pub mod SourceThreads
+pub mod TablesBehind
+pub mod TypedSoFar
+pub use Rattle.ds2_program_types.specs.TypedPrograms

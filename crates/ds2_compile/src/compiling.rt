@@ -23,7 +23,7 @@ use ds2_same_meaning::instances::read_instances;
 use ds2_same_meaning::laws::{outputs_have_slots, typed_programs_mean_same};
 use ds2_source::SourceRefusal;
 use ds2_tree::Source;
-use ds2_typed_source::typed_source;
+use crate::typed_source;
 use ds2_valid_code::ProgramCode;
 use ds2_verdicts::laws::typed_threads_are_judged;
 use ds2_verdicts::{ThreadVerdict, judge_threads};

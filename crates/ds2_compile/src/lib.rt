@@ -11,11 +11,26 @@
 //! The code of the thread program that a program of a source reads from is independent at the grain at which its verdict calls it local.
 //!
 //! `specs/LocalStages.antt` says it; the law is in [`local_laws`].
+//!
+//! The typed programs of a source.
+//!
+//! [`typed_source`] gives what a source becomes: its data programs and its thread programs with their types, or the first refusal. A unit's
+//! names come before its types, and an earlier unit before a later one, which may declare instances of earlier packages and thread programs
+//! and read the tables that earlier programs make. What that is stands in `ds2_elaboration`.
+//!
+//! ```text
+//! let typed = typed_source(alloc, &source, &schemas)?;
+//! ```
 #![tactic(auto)]
 
 mod compiling;
 pub mod local_laws;
+mod outputs;
+mod programs;
+mod refusals;
 mod schemas;
+mod typed_so_far;
+mod typed_units;
 
 pub use compiling::{Compiled, compile};
 pub use ds2_code::{HashPart, HashTable, ReadPart, ReadingPart, TableReference};
@@ -25,3 +40,4 @@ pub use ds2_source::{SourceRefusal, input_names, read_source};
 pub use ds2_tree::Source;
 pub use ds2_valid_code::ProgramCode;
 pub use ds2_value::Schema;
+pub use programs::{TypedSource, typed_source};

@@ -12,10 +12,10 @@ use Rattle.ds2_code.specs.ValidCode.{IsValidStaged}
 use Rattle.ds2_code.specs.declared.parts.StagedParts.{StagedParts}
 use Rattle.ds2_same_meaning.specs.SameAnswer.{HasNamedInstances}
 use Rattle.ds2_source.specs.declared.kinds.SourceRefusal.{SourceRefusal}
-use Rattle.ds2_typed_source.specs.SourceOutcomes.{IsOutcomeOfSource}
-use Rattle.ds2_typed_source.specs.declared.programs.TypedSource.{TypedSource}
-use Rattle.ds2_typed_source.specs.SourceThreads.{AreThreadsOfSource}
-use Rattle.ds2_typed_source.proofs.SourceSteps.{text_stands}
+use Rattle.ds2_compile.specs.SourceOutcomes.{IsOutcomeOfSource}
+use Rattle.ds2_compile.specs.declared.programs.TypedSource.{TypedSource}
+use Rattle.ds2_compile.specs.SourceThreads.{AreThreadsOfSource}
+use Rattle.ds2_compile.proofs.SourceSteps.{text_stands}
 use Rattle.ds2_verdicts.specs.ThreadVerdicts.{IsTyped, verdicts_on}
 use Rattle.ds2_compile.specs.CodesOfPrograms.{AreCodesOf}
 use Rattle.ds2_compile.specs.declared.compiling.Compiled.{Compiled}

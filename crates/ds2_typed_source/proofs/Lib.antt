@@ -1,4 +1,0 @@
-pub mod UnitOutcomes
-pub mod UnitsBehind
-pub mod TablesMade
-pub mod SourceSteps

@@ -1,5 +1,0 @@
-use Rattle.std.proofs.Common.{◌≡◌, take}
-use Rattle.ds2_typed_source.proofs.typed_so_far.copied.Given as goal
-
-abbrev pub invariant-tables : goal.invariant-tables
-invariant-tables l = l.copy ≡ take l.table-index l.tables
