@@ -2,7 +2,7 @@
 use Rattle.std.specs.Prelude.{ℕ, ◌&&◌, ◌≤◌, IfSome, List, [], ◌∷◌, codes, bytes_eq, if◌then◌else◌, is_none, nat_eq, unwrap_or, Bool, Option, Some, None}
 use Rattle.std.specs.List.{ends_with}
 use Rattle.std.specs.Option.{option_map}
-use Rattle.ds2_sales.specs.declared.sales_table.TheConstants.{MOST_SALES}
+use Rattle.ds2_answer.specs.declared.sales_table.TheConstants.{MOST_SALES}
 use Rattle.ds2_answer.specs.declared.command_line.CommandLine.{CommandLine}
 use Rattle.ds2_answer.specs.declared.command_line.CommandLine.TheVariants.{Run, Compile, Exec, Check, Demo}
 use Rattle.ds2_answer.specs.declared.command_line.GivenOptions.{GivenOptions}

@@ -5,7 +5,7 @@ use Rattle.ds2_decimal.specs.Text.{decimal_text}
 use Rattle.ds2_csv.specs.Text as csv
 use Rattle.ds2_outside.specs.Files.{Files, with_file}
 use Rattle.ds2_code.specs.declared.parts.StagedParts.{StagedParts}
-use Rattle.ds2_sales.specs.Sales.{sales_table, sales_total}
+use Rattle.ds2_answer.specs.Sales.{sales_table, sales_total}
 use Rattle.ds2_source.specs.AnswersOfTexts.{SourcesRead}
 use Rattle.ds2_answer.specs.declared.status.Status.{Status}
 use Rattle.ds2_answer.specs.declared.status.Status.TheVariants as ended

@@ -20,3 +20,6 @@ pub mod StoredCodes
 pub mod ProgramEndings
 pub use Rattle.ds2_csv.specs.Reads
 pub use Rattle.ds2_csv.specs.declared.refusal.CsvRefusal
+-- A table of sales, made from one number.
+pub mod Drawn
+pub mod Sales

@@ -5,7 +5,7 @@ ghost use Rattle.ds2_answer.specs.CommandLines.{HasRowsWithin, IsBudgetWithin, b
 
 use crate::words::{DEFAULT_BUDGET, MOST_BUDGET, is_file_name, is_source, number_within};
 use ds2_base::{OutOfMemory, Text};
-use ds2_sales::MOST_SALES;
+use crate::MOST_SALES;
 use std::alloc::Global;
 
 /// The most workers that a line may ask for.

@@ -1,12 +1,12 @@
 //! The job of `demo`, and the files in which it is run.
 ghost use Rattle.std.specs.Prelude.{◌≡◌, ◌≤◌, IfOk};
 ghost use Rattle.ds2_answer.specs.DemoPlans.{demo_files, demo_job, demo_source};
-ghost use Rattle.ds2_sales.specs.declared.sales_table.TheConstants.{MOST_SALES};
+ghost use Rattle.ds2_answer.specs.declared.sales_table.TheConstants.{MOST_SALES};
 
 use ds2_base::{Bytes, List, OutOfMemory, Text};
 use ds2_csv::write_table;
 use ds2_outside::MemFiles;
-use ds2_sales::sales;
+use crate::sales;
 use std::alloc::Global;
 
 /// The name of the job's source.

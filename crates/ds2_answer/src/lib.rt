@@ -11,22 +11,36 @@
 //!     None => lines::say_usage(log)?,
 //! }
 //! ```
+//!
+//! A table of sales, made from one number: what `demo` runs over.
+//!
+//! Numbers are drawn one out of the other, the first out of the number of rows, so that a number of rows has one table.
+//!
+//! ```text
+//! let table = sales(alloc, 2)?;
+//! let total = sales_total(2);
+//! ```
 #![tactic(auto)]
 
 mod command_line;
 mod counts;
 mod demo;
+mod drawn;
 mod kinds;
 pub mod laws;
 pub mod lines;
+mod sales_table;
+mod schema;
 mod status;
 mod words;
 
 pub use command_line::{CommandLine, GivenOptions, MOST_THREADS, read_command_line};
 pub use counts::say_without_counts;
+pub use crate::{MOST_SALES, sales_total};
 pub use demo::{demo_files, demo_job};
+pub use drawn::{AMOUNTS, REGIONS};
 pub use ds2_csv::{CsvRefusal, read_table};
-pub use ds2_sales::{MOST_SALES, sales_total};
 pub use kinds::{FileKind, OBJECT_LIMIT, SOURCE_LIMIT, TABLE_LIMIT};
+pub use sales_table::{MOST_SALES, sales, sales_total};
 pub use status::Status;
 pub use words::{DEFAULT_BUDGET, MOST_BUDGET};

@@ -1,4 +1,4 @@
-use Rattle.ds2_sales.specs.declared.sales_table.TheConstants.{MOST_SALES}
+use Rattle.ds2_answer.specs.declared.sales_table.TheConstants.{MOST_SALES}
 use Rattle.ds2_answer.proofs.Numbers.{some_written}
 use Rattle.ds2_answer.proofs.command_line.demo_command.Goals as goal
 

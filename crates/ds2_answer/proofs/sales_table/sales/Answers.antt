@@ -1,6 +1,6 @@
 use Rattle.std.proofs.Common.{arith}
-use Rattle.ds2_sales.proofs.Draws.{all_sold, one_sold, sold_fits}
-use Rattle.ds2_sales.proofs.sales_table.sales.Goals as goal
+use Rattle.ds2_answer.proofs.Draws.{all_sold, one_sold, sold_fits}
+use Rattle.ds2_answer.proofs.sales_table.sales.Goals as goal
 
 pub push-requires : goal.push-requires
 push-requires c = sold_fits c.args.n c.sales.row c.next_drawn-first.result c.next_drawn-second.result c.sales.table c.in_ok-sale_of.field-0 c.in_ok-sale_of.ensures c.sales.invariant.table_is

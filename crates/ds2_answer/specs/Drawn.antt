@@ -3,7 +3,7 @@ use Rattle.std.specs.Prelude.{ℕ, zero, suc, ◌+◌, ◌*◌, ◌/◌, ◌%◌
 use Rattle.std.specs.Fmt.{decimal}
 use Rattle.ds2_base.specs.Bytes.{Bytes}
 use Rattle.ds2_decimal.specs.Decimal.{Decimal}
-use Rattle.ds2_sales.specs.declared.drawn.TheConstants.{AMOUNTS, REGIONS}
+use Rattle.ds2_answer.specs.declared.drawn.TheConstants.{AMOUNTS, REGIONS}
 
 -- the number that is drawn behind this one
 unfoldable pub next_drawn : ℕ → ℕ

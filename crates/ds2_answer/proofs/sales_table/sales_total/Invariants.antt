@@ -1,5 +1,5 @@
-use Rattle.ds2_sales.proofs.Amounts.{HaveAdded}
-use Rattle.ds2_sales.proofs.sales_table.sales_total.Given as goal
+use Rattle.ds2_answer.proofs.Amounts.{HaveAdded}
+use Rattle.ds2_answer.proofs.sales_table.sales_total.Given as goal
 
 abbrev pub invariant-sales : goal.invariant-sales
 invariant-sales l = HaveAdded l.fn.n l.row l.number l.hundredths

@@ -3,9 +3,9 @@ use Rattle.std.proofs.Common.{◌≡◌, ℕ, suc, ◌+◌, ◌-◌, ◌*◌, �
 use Rattle.ds2_value.specs.Row.{Row}
 use Rattle.ds2_value.specs.Schema.{row_fits}
 use Rattle.ds2_table.specs.Table.{Contents, with_row}
-use Rattle.ds2_sales.specs.Drawn.{drawn, next_drawn}
-use Rattle.ds2_sales.specs.Sales.{first_sales, sale_of, sales_columns, sales_table}
-use Rattle.ds2_sales.proofs.Fitting.{sale_fits}
+use Rattle.ds2_answer.specs.Drawn.{drawn, next_drawn}
+use Rattle.ds2_answer.specs.Sales.{first_sales, sale_of, sales_columns, sales_table}
+use Rattle.ds2_answer.proofs.Fitting.{sale_fits}
 
 -- the first of n rows
 abbrev pub first_table : (n rows : ℕ) → Contents

@@ -1,9 +1,9 @@
 -- Amounts that are added up one after the other.
 use Rattle.std.proofs.Common.{◌≡◌, ℕ, suc, ◌+◌, ◌*◌, ◌<◌, ◌≤◌, ◌^◌, ap, subst, ◌∙◌, arith}
 use Rattle.ds2_decimal.specs.Decimal.{Decimal}
-use Rattle.ds2_sales.specs.Drawn.{drawn, hundredths_of, in_hundredths, next_drawn}
-use Rattle.ds2_sales.specs.Sales.{first_amounts, sales_total}
-use Rattle.ds2_sales.proofs.Draws.{second_draw}
+use Rattle.ds2_answer.specs.Drawn.{drawn, hundredths_of, in_hundredths, next_drawn}
+use Rattle.ds2_answer.specs.Sales.{first_amounts, sales_total}
+use Rattle.ds2_answer.proofs.Draws.{second_draw}
 
 -- the amounts of so many of n rows are together this, and this number was drawn last
 pub record HaveAdded (n rows number hundredths : ℕ) : Type 0 where

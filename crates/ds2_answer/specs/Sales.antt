@@ -5,7 +5,7 @@ use Rattle.ds2_value.specs.Row.{Columns, Row}
 use Rattle.ds2_value.specs.declared.ty.Ty.TheVariants.{Decimal as DecimalOf, Char}
 use Rattle.ds2_value.specs.declared.value.Value.TheVariants.{Dec, Txt}
 use Rattle.ds2_table.specs.Table.{Contents}
-use Rattle.ds2_sales.specs.Drawn.{drawn, hundredths_of, in_hundredths, region_of}
+use Rattle.ds2_answer.specs.Drawn.{drawn, hundredths_of, in_hundredths, region_of}
 
 -- the columns of the table: a region, and an amount
 abbrev pub sales_columns : Columns

@@ -7,8 +7,8 @@ use Rattle.ds2_value.specs.Schema.{row_fits}
 use Rattle.ds2_value.specs.Types.{fits}
 use Rattle.ds2_value.specs.declared.ty.Ty.TheVariants.{Decimal as DecimalOf, Char}
 use Rattle.ds2_value.specs.declared.value.Value.TheVariants.{Dec, Txt}
-use Rattle.ds2_sales.specs.Drawn.{hundredths_of, in_hundredths, region_of, region_text}
-use Rattle.ds2_sales.specs.Sales.{sale_of, sales_columns}
+use Rattle.ds2_answer.specs.Drawn.{hundredths_of, in_hundredths, region_of, region_text}
+use Rattle.ds2_answer.specs.Sales.{sale_of, sales_columns}
 
 -- every number below a bound passes a test
 all_below : (ℕ → Bool) → ℕ → Bool

@@ -1,6 +1,6 @@
 //! Drawn numbers.
 ghost use Rattle.std.specs.Prelude.{◌≡◌, ◌^◌, ◌<◌, IfOk};
-ghost use Rattle.ds2_sales.specs.Drawn.{hundredths_of, in_hundredths, next_drawn, region_of};
+ghost use Rattle.ds2_answer.specs.Drawn.{hundredths_of, in_hundredths, next_drawn, region_of};
 
 use ds2_base::{OutOfMemory, Text};
 use ds2_decimal::Dec;

@@ -1,6 +1,6 @@
 use Rattle.std.proofs.Common.{arith}
-use Rattle.ds2_sales.proofs.Amounts.{all_added, one_added}
-use Rattle.ds2_sales.proofs.sales_table.sales_total.Goals as goal
+use Rattle.ds2_answer.proofs.Amounts.{all_added, one_added}
+use Rattle.ds2_answer.proofs.sales_table.sales_total.Goals as goal
 
 pub sales-preserved : goal.sales-preserved
 sales-preserved c =

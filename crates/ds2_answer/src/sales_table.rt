@@ -1,7 +1,7 @@
 //! The table of sales, and its total.
 ghost use Rattle.std.specs.Prelude.{◌≡◌, ◌≤◌, IfOk};
-ghost use Rattle.ds2_sales.specs.Sales.{sale_of, sales_table, sales_total};
-ghost use Rattle.ds2_sales.specs.declared.sales_table.TheConstants.{MOST_SALES};
+ghost use Rattle.ds2_answer.specs.Sales.{sale_of, sales_table, sales_total};
+ghost use Rattle.ds2_answer.specs.declared.sales_table.TheConstants.{MOST_SALES};
 
 use crate::drawn::{hundredths_of, in_hundredths, next_drawn, region_of};
 use crate::schema::sales_schema;

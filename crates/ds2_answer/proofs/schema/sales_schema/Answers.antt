@@ -1,6 +1,6 @@
 use Rattle.std.proofs.Common.{refl}
 use Rattle.std.specs.Str.{chars}
-use Rattle.ds2_sales.proofs.schema.sales_schema.Goals as goal
+use Rattle.ds2_answer.proofs.schema.sales_schema.Goals as goal
 
 pub column-requires : goal.column-requires
 unfolding chars

@@ -1,7 +1,7 @@
 //! The columns of the table.
 ghost use Rattle.std.specs.Prelude.{◌≡◌, IfOk, Ok};
 ghost use Rattle.ds2_base.specs.Name.{name_of};
-ghost use Rattle.ds2_sales.specs.Sales.{sales_columns};
+ghost use Rattle.ds2_answer.specs.Sales.{sales_columns};
 
 use ds2_base::{List, Name, OutOfMemory, Stop};
 use ds2_value::{Column, Schema, Ty};
