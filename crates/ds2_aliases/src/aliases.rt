@@ -12,9 +12,9 @@ ghost use Rattle.ds2_aliases.specs.ReachedNames.{AreLinks, HasReached};
 
 use crate::handings::{Handing, handings_of};
 use crate::reach::{Links, Reached, is_reached, links_of_unit};
+use crate::{Mention, MethodParts, UnitParts, parts_of_unit};
 use ds2_base::{OutOfMemory, Place};
 use ds2_calls::Calls;
-use crate::{Mention, MethodParts, UnitParts, parts_of_unit};
 use ds2_scope::{NameTable, Unit, UnitNames, earlier_of, earliest_later, place_unless};
 use std::alloc::Global;
 

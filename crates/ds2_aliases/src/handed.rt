@@ -6,10 +6,10 @@ ghost use Rattle.ds2_calls.specs.UseParts.{handed_name};
 ghost use Rattle.ds2_aliases.specs.MentionParts.{placed_if_any};
 
 use ds2_base::{List, OutOfMemory};
+use ds2_calls::{further_flags, handed_name, next_flag};
 use ds2_names::PlacedName;
 use ds2_scope::placed_name;
 use ds2_tree::{Argument, Expression};
-use ds2_calls::{further_flags, handed_name, next_flag};
 use std::alloc::Global;
 
 // Adds the name in an argument, where one is handed over.

@@ -5,8 +5,8 @@ ghost use Rattle.std.specs.HashSet.{contains};
 ghost use Rattle.ds2_names.specs.NameRules.{from_each};
 ghost use Rattle.ds2_aliases.specs.HandedGlobals.{unhidden_handing, handings_in, handings_of_method};
 
-use ds2_base::{Bytes, List, OutOfMemory, Place};
 use crate::{Mention, MethodParts};
+use ds2_base::{Bytes, List, OutOfMemory, Place};
 use ds2_names::PlacedName;
 use ds2_scope::{NameSet, name_set};
 use std::alloc::Global;

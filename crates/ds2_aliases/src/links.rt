@@ -7,8 +7,8 @@ ghost use Rattle.ds2_names.specs.NameRules.{from_each};
 ghost use Rattle.ds2_aliases.specs.ReachingMethods.{unhidden_name, called_in, unhidden_object, globals_mentioned, objects_used};
 ghost use Rattle.ds2_aliases.specs.MethodLinks.{linked, links_of_method, HasLinks};
 
-use ds2_base::{Bytes, List, OutOfMemory};
 use crate::{Mention, MethodParts};
+use ds2_base::{Bytes, List, OutOfMemory};
 use ds2_scope::{NameSet, NameTable, add_name, name_set};
 use std::alloc::Global;
 

@@ -9,9 +9,9 @@ ghost use Rattle.ds2_aliases.specs.ReachingMethods.{reaches};
 ghost use Rattle.ds2_aliases.specs.MethodLinks.{linked};
 ghost use Rattle.ds2_aliases.specs.ReachedNames.{AreLinks, HasReached};
 
+use crate::UnitParts;
 use crate::links::{LinkKind, LinkTable, links_of};
 use ds2_base::{Bytes, List, OutOfMemory};
-use crate::UnitParts;
 use ds2_scope::{NameSet, NameTable, add_name};
 use std::alloc::Global;
 

@@ -3,9 +3,9 @@ ghost use Rattle.std.specs.Prelude.{◌≡◌, ◌≤◌, IfOk, IfSome, unwrap_o
 ghost use Rattle.ds2_answer.specs.declared.words.TheConstants.{DEFAULT_BUDGET, MOST_BUDGET};
 ghost use Rattle.ds2_answer.specs.CommandLines.{HasRowsWithin, IsBudgetWithin, budget_on_line, command_line_of, demo_command, file_command, exec_with_options, is_object_name, no_options, object_command, options_behind, run_with_options, source_command, with_option};
 
+use crate::MOST_SALES;
 use crate::words::{DEFAULT_BUDGET, MOST_BUDGET, is_file_name, is_source, number_within};
 use ds2_base::{OutOfMemory, Text};
-use crate::MOST_SALES;
 use std::alloc::Global;
 
 /// The most workers that a line may ask for.

@@ -3,10 +3,10 @@ ghost use Rattle.std.specs.Prelude.{◌≡◌, ◌≤◌, IfOk};
 ghost use Rattle.ds2_answer.specs.DemoPlans.{demo_files, demo_job, demo_source};
 ghost use Rattle.ds2_answer.specs.declared.sales_table.TheConstants.{MOST_SALES};
 
+use crate::sales;
 use ds2_base::{Bytes, List, OutOfMemory, Text};
 use ds2_csv::write_table;
 use ds2_outside::MemFiles;
-use crate::sales;
 use std::alloc::Global;
 
 /// The name of the job's source.

@@ -34,9 +34,9 @@ mod schema;
 mod status;
 mod words;
 
+pub use crate::{MOST_SALES, sales_total};
 pub use command_line::{CommandLine, GivenOptions, MOST_THREADS, read_command_line};
 pub use counts::say_without_counts;
-pub use crate::{MOST_SALES, sales_total};
 pub use demo::{demo_files, demo_job};
 pub use drawn::{AMOUNTS, REGIONS};
 pub use ds2_csv::{CsvRefusal, read_table};

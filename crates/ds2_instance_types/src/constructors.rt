@@ -15,9 +15,9 @@ ghost use Rattle.ds2_types.specs.Judgements.{IsOutcome};
 
 use crate::constants::passed_constants;
 use ds2_base::{List, OutOfMemory, Place, Refusal};
+use ds2_declared_types::KnownPackage;
 use ds2_declared_types::names::name;
 use ds2_declared_types::variables::parameters;
-use ds2_declared_types::KnownPackage;
 use ds2_meaning::{Argument, Instance as TypedInstance, Method as TypedMethod, TypeKind};
 use ds2_reference_types::passing::PassedArguments;
 use ds2_scope::{Instance, one_more, spelled_name};

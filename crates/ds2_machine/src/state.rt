@@ -19,9 +19,11 @@ ghost use Rattle.ds2_machine.specs.Executable.{IsExecutable, HasScalesFor, is_wr
 use crate::UnitSink;
 use ds2_base::{List, OutOfMemory, Place, Stop};
 use ds2_code::laws::instructions_leave_less;
-use ds2_code::{Constant, HashPart, Instr, MethodPart, ParameterPart, ProgramParts};
-use ds2_frames::{Arguments, Frames, Pile, Waiting, computed, computed_from_pair, operands_of, write_line};
 use ds2_code::scale_laws::{instructions_keep_scales, products_have_scales, units_end_scaled};
+use ds2_code::{Constant, HashPart, Instr, MethodPart, ParameterPart, ProgramParts};
+use ds2_frames::{
+    Arguments, Frames, Pile, Waiting, computed, computed_from_pair, operands_of, write_line,
+};
 use ds2_slots::{HashObjects, set};
 use ds2_value::{CALL_DEPTH, Fault, HashFunction, IteratorFunction, Truth, Value};
 use std::alloc::Global;

@@ -7,9 +7,9 @@ ghost use Rattle.ds2_scope.specs.Earliest.{earliest};
 ghost use Rattle.ds2_name_uses.specs.UseRules.{no_name_in, no_name_if};
 
 use ds2_base::Place;
+use ds2_calls::{further_flags, next_flag};
 use ds2_scope::earlier_of;
 use ds2_tree::{Argument, Callee, Expression};
-use ds2_calls::{further_flags, next_flag};
 
 // The place of the first token of what is called.
 fn callee_place(callee: &Callee) -> Place

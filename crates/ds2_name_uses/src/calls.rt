@@ -12,7 +12,9 @@ ghost use Rattle.ds2_name_uses.specs.UseRules.{visible_sort, unknown_call_on, is
 
 use crate::scope::Scope;
 use ds2_base::{OutOfMemory, Place};
-use ds2_calls::{Sort, counts_of, counts_on_sort, is_flag_word, is_known_sort, is_known_stage, takes_count};
+use ds2_calls::{
+    Sort, counts_of, counts_on_sort, is_flag_word, is_known_sort, is_known_stage, takes_count,
+};
 use ds2_scope::{is_system_name, place_unless, spelled_name};
 use ds2_token::Token;
 use ds2_tree::{Argument, Callee};

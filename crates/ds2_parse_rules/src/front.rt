@@ -11,8 +11,8 @@ ghost use Rattle.ds2_parse_rules.specs.ExpressionGrammar as expressions;
 ghost use Rattle.ds2_parse_rules.specs.StatementGrammar as statement_grammar;
 
 use ds2_base::{Place, Refusal, Stop};
-use ds2_tree::{ChainKind, ParseKind};
 use ds2_token::Token;
+use ds2_tree::{ChainKind, ParseKind};
 use std::alloc::Global;
 
 /// Why nothing was read.

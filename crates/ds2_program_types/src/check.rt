@@ -19,9 +19,9 @@ use crate::at_hand::{at_hand, unit_reading};
 use crate::packages::typed_package;
 use crate::programs::staged_program;
 use ds2_base::{List, Name, OutOfMemory, Refusal};
+use ds2_declared_types::KnownTypes;
 use ds2_declared_types::names::name;
 use ds2_declared_types::variables::parameter_variables;
-use ds2_declared_types::KnownTypes;
 use ds2_meaning::{
     MentionedTable, Program, Shared, TypeKind, TypedData, TypedPackage, TypedThread, Variable,
 };

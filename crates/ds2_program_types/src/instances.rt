@@ -14,8 +14,8 @@ use crate::column_clashes::of_columns;
 use crate::methods::under_rule;
 use crate::unit_tables::UnitTables;
 use ds2_base::OutOfMemory;
-use ds2_instance_types::{InstancesOutcome, typed_instances};
 use ds2_declared_types::KnownTypes;
+use ds2_instance_types::{InstancesOutcome, typed_instances};
 use ds2_meaning::MentionedTable;
 use std::alloc::Global;
 

@@ -2,8 +2,8 @@
 ghost use Rattle.std.specs.Prelude.{◌≡◌, IfOk};
 ghost use Rattle.ds2_reading.specs.ReadingKeys.{column_of_slot, columns_of_bys, directions_of};
 
-use ds2_base::{List, OutOfMemory};
 use crate::ByKey;
+use ds2_base::{List, OutOfMemory};
 use std::alloc::Global;
 
 // The number of the first column of a slot, or the number of columns.

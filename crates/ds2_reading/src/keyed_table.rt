@@ -8,8 +8,8 @@ ghost use Rattle.ds2_reading.specs.ReadingFits.{read_table_fits};
 
 use crate::columns::columns_of_bys;
 use crate::heads::heads_of;
-use ds2_base::{List, OutOfMemory};
 use crate::{ByKey, ReadTable, Tables};
+use ds2_base::{List, OutOfMemory};
 use ds2_table::Table;
 use ds2_value::Value;
 use std::alloc::Global;

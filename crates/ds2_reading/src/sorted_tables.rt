@@ -9,11 +9,11 @@ ghost use Rattle.ds2_reading.specs.KeyOrder.{row_in, numbered_row, key_of_row, p
 ghost use Rattle.ds2_reading.specs.ReadingKeys.{keys_of_table, directions_of, keys_of_reading};
 ghost use Rattle.ds2_reading.specs.RowsLeft.{ordered_rows, IsFirstLeft};
 
-use crate::{ByKey, ReadTable, Reading, TableRow, Tables};
 use crate::columns::directions_of;
 use crate::keyed_table::KeyedTable;
 use crate::order::{compare_rows, parts_in_common};
 use crate::sorting::orders_of_rows;
+use crate::{ByKey, ReadTable, Reading, TableRow, Tables};
 use ds2_base::{List, OutOfMemory};
 use std::alloc::Global;
 use std::cmp::Ordering;

@@ -1,8 +1,8 @@
 //! Why a source is refused.
 use ds2_base::Place;
-use ds2_tree::ParseKind;
 use ds2_meaning::{ScopeKind, TypeKind};
 use ds2_token::LexKind;
+use ds2_tree::ParseKind;
 
 /// Why a source is refused, by the step that refuses it. A new one touches the files that docs/ARCHITECTURE.md lists under 'To add a refusal'.
 #[derive(Clone, Copy, PartialEq, Eq)]

@@ -3,9 +3,9 @@ ghost use Rattle.ds2_source.specs.ParseAnswer.{SaysOfSource};
 
 use crate::units::parts;
 use ds2_base::{List, Place, Refusal, Stop};
-use ds2_tree::{ParseKind, Source};
 use ds2_parse_rules::front::unexpected;
 use ds2_token::Token;
+use ds2_tree::{ParseKind, Source};
 use std::alloc::Global;
 
 /// The levels that a source may open: a statement within a statement, a parenthesis, an argument list and a prefix operator each

@@ -18,9 +18,9 @@ use crate::pass::Pass;
 use crate::shared::Shared;
 use ds2_bags::{Answers, Done, Finished, GroupEnd, Job, StageEnd, finish, place};
 use ds2_base::{List, OutOfMemory};
+use ds2_outside::Gate;
 use ds2_schedule::TicketSeat;
 use ds2_schedule::dealing_laws::runs_are_least;
-use ds2_outside::Gate;
 use ds2_schedule::laws::{
     ended_is_carried, ended_is_complete, every_schedule, whole_bags_have_all,
 };

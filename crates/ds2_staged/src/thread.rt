@@ -15,13 +15,13 @@ ghost use Rattle.ds2_staged.specs.Threads.{IsReadyThread, IsThreadEnd, thread_an
 use crate::given::are_given_scaled;
 use crate::turns_end::TurnsEnd;
 use crate::units::run_units;
+use crate::{LoadSource, StageLoads, statement_of};
 use ds2_base::OutOfMemory;
 use ds2_code::ProgramParts;
 use ds2_code_answer::laws::loads_are_scaled;
 use ds2_loads::TableRows;
 use ds2_machine::{Machine, UnitRecord, UnitSink};
 use ds2_reading::{Reading, Tables};
-use crate::{LoadSource, StageLoads, statement_of};
 use ds2_table::Table;
 use ds2_unit::StageNote;
 use ds2_valid_code::ProgramCode;

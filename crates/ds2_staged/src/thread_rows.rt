@@ -1,11 +1,11 @@
 //! The rows of a thread program as the loads of the program that reads from it.
 ghost use Rattle.ds2_slots.specs.LoadedHashes.{AreSlotTypesInBounds};
 
+use crate::LoadSource;
 use ds2_base::{List, OutOfMemory};
 use ds2_code::Slot;
 use ds2_loads::set_columns;
 use ds2_machine::{OutRow, UnitLoad};
-use crate::LoadSource;
 use ds2_value::Value;
 use std::alloc::Global;
 

@@ -9,10 +9,10 @@ ghost use Rattle.ds2_machine.specs.declared.machine.TheConstants.{MOST_BUDGET};
 ghost use Rattle.ds2_code_answer.specs.CodeAnswer.{code_units};
 ghost use Rattle.ds2_staged.specs.Turns.{HasRunTurns, HasRunThrough};
 
+use crate::LoadSource;
 use crate::turns_end::TurnsEnd;
 use ds2_base::OutOfMemory;
 use ds2_machine::{Machine, UnitSink};
-use crate::LoadSource;
 use ds2_valid_code::ProgramCode;
 use ds2_value::Ending;
 use std::alloc::Global;

@@ -11,8 +11,8 @@ ghost use Rattle.ds2_type_tables.specs.Objects.{objects_called, HasObjects};
 
 use crate::methods::methods;
 use ds2_base::{List, OutOfMemory};
-use ds2_declared_types::names::name;
 use ds2_declared_types::KnownTypes;
+use ds2_declared_types::names::name;
 use ds2_meaning::{Parameter, Variable};
 use ds2_reference_types::scopes::{KnownCalls, KnownObject, KnownObjects};
 use ds2_scope::{Instance, InstanceSort, UnitKind, spelled_name};

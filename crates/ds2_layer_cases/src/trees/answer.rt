@@ -2,10 +2,10 @@
 use crate::texts::want_of_memory;
 use crate::trees::units::say_source;
 use ds2_base::{List, OutOfMemory, Place, Refusal, Stop, Text};
-use ds2_tree::{ParseKind, Source};
 use ds2_source::parse;
 use ds2_spelling::source_spelling;
 use ds2_token::{LexKind, Token, end_place, tokens};
+use ds2_tree::{ParseKind, Source};
 use std::alloc::{AllocError, Global};
 
 fn said_of_lexing(alloc: Global, refusal: Refusal<LexKind>) -> Result<String, AllocError> {
