@@ -2,8 +2,7 @@
 """Runs commands once for each of their allocations, and lets that allocation fail: bench/little_memory.py [PROGRAM [JOB]]
 
 Each run has to end with status 11, a first part of the files that the command writes whole and the others absent, and a log that is empty or
-has the one line on it; with status 7 and no file, where a look for an output finds no memory for the name that it has to remember; or, where a
-worker left its groups to others, with all that the command leaves with its memory. PROGRAM is the built program, that of this repository where not given; JOB is the name of one of the jobs, all where not given. Needs
+has the one line on it; or, where a worker left its groups to others, with all that the command leaves with its memory. PROGRAM is the built program, that of this repository where not given; JOB is the name of one of the jobs, all where not given. Needs
 a C compiler (cc). Of each job the first 5,000 allocations are refused, or all: until three runs in turn had all their memory. Prints for each
 job how its runs have ended, and `N passed, M failed` for the jobs.
 """
@@ -81,8 +80,6 @@ class Job:
         if status == 0:
             is_right = log == self.log and written == self.written
             return ("helped" if is_refused else "whole"), None if is_right else "another log or other files at status 0"
-        if status == 7 and not written and log in [f"ERROR: Read fault on {it}.\n".encode() for it in self.order]:
-            return "unseen", None
         if status != 11:
             return "other", f"status {status}"
         first = {name: self.written[name] for name in self.order[: len(written)]}
@@ -96,7 +93,7 @@ def try_job(program, library, folder, name, files, words, is_compiled):
     if is_compiled:
         files["job.dso"] = Job(program, library, folder, files, ["compile", "job.ds2"]).written["job.dso"]
     job = Job(program, library, folder, files, words)
-    count, wrong, number, whole = dict.fromkeys(("said", "refused", "unseen", "helped", "whole", "other"), 0), [], 0, 0
+    count, wrong, number, whole = dict.fromkeys(("said", "refused", "helped", "whole", "other"), 0), [], 0, 0
     with concurrent.futures.ThreadPoolExecutor(os.cpu_count()) as pool:
         while number < MOST and whole < 3:
             for at, (way, why) in enumerate(pool.map(job.way, range(number + 1, number + 65)), number + 1):
@@ -107,7 +104,7 @@ def try_job(program, library, folder, name, files, words, is_compiled):
             number += 64
     if not count["said"]:
         wrong.append("no log told the want of memory")
-    print(f"{name}: {count['said'] + count['refused']} runs ended with status 11, {count['said']} of them with the line on it, {count['unseen']} with status 7, and {count['helped']} with status 0 without one of their allocations")
+    print(f"{name}: {count['said'] + count['refused']} runs ended with status 11, {count['said']} of them with the line on it, and {count['helped']} with status 0 without one of their allocations")
     for line in wrong[:SHOWN]:
         print(f"    {line}")
     return not wrong

@@ -11,12 +11,15 @@ use std::rt::Files;
 use std::{fs, io};
 
 /// The files of the current folder. A file is written beside the one of its name and then takes its place; where the store was
-/// asked for the name and nothing had it, only if nothing has it still.
+/// asked for the name and nothing had it, only if nothing has it still. Where there was no memory to remember such a name, the
+/// writes of names that are not remembered find none either.
 #[derive(Drop)]
 pub struct FolderStore<'r, R: Files> {
     rt: &'r R,
     // The names that nothing had when they were asked for, but for those written since.
     absent: Vec<Text>,
+    // Whether there was no memory for one more of them.
+    has_forgotten: bool,
     read_faults: u64,
     write_faults: u64,
 }
@@ -30,17 +33,20 @@ impl<'r, R: Files + AllocGlobal> FolderStore<'r, R> {
         FolderStore {
             rt,
             absent: Vec::new(rt.alloc()),
+            has_forgotten: false,
             read_faults: 0,
             write_faults: 0,
         }
     }
 
-    // How a file of this name is put in its place.
-    fn placing(&self, name: &Text) -> Placing {
+    // How a file of this name is put in its place; none where it may be of those that were forgotten.
+    fn placing(&self, name: &Text) -> Option<Placing> {
         if self.absent.iter().any(|other| *other == *name) {
-            Placing::IfAbsent
+            Some(Placing::IfAbsent)
+        } else if self.has_forgotten {
+            None
         } else {
-            Placing::Replacing
+            Some(Placing::Replacing)
         }
     }
 }
@@ -119,20 +125,23 @@ impl<'r, R: Files + AllocGlobal> Store for FolderStore<'r, R> {
 
     fn has(&mut self, name: &Text) -> Result<bool, Failed> {
         match is_there(self.rt, name.as_str()) {
-            Ok(true) => return Ok(true),
-            Ok(false) => {
-                if note_absent(self.rt.alloc(), &mut self.absent, name).is_ok() {
-                    return Ok(false);
+            Ok(there) => {
+                if !there && note_absent(self.rt.alloc(), &mut self.absent, name).is_err() {
+                    self.has_forgotten = true;
                 }
+                Ok(there)
             }
-            Err(_) => {}
+            Err(_) => {
+                self.read_faults = self.read_faults.saturating_add(1);
+                Err(Failed)
+            }
         }
-        self.read_faults = self.read_faults.saturating_add(1);
-        Err(Failed)
     }
 
     fn write(&mut self, alloc: Global, name: &Text, bytes: &Bytes) -> Result<(), WriteStop> {
-        let placing = self.placing(name);
+        let Some(placing) = self.placing(name) else {
+            return Err(WriteStop::OutOfMemory);
+        };
         match replace_file(self.rt, alloc, name.as_str(), bytes.as_slice(), placing) {
             Ok(()) => {
                 self.absent.retain(|other| *other != *name);
