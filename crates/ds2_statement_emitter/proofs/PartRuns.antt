@@ -1,5 +1,5 @@
 -- How the code of parts of statements is put together.
-use Rattle.std.proofs.Common.{◌≡◌, ◌≤◌, ◌<◌, ◌-◌, ℕ, suc, length, map, take, drop, get_or, ap, List, [], ◌∷◌, Some, None, refl, sym, ◌∙◌, append_assoc, append-nil, arith}
+use Rattle.std.proofs.Common.{◌≡◌, ◌≤◌, ◌<◌, ◌-◌, ℕ, suc, length, map, take, drop, get_or, ap, List, [], ◌∷◌, ◌++◌, Some, None, refl, sym, ◌∙◌, append_assoc, append-nil, arith}
 use Rattle.std.proofs.Math.Seq.{take-length}
 use Rattle.ds2_value.specs.declared.comparison.Comparison.TheVariants.{Equal}
 use Rattle.ds2_value.specs.declared.ty.Ty.{Ty}
@@ -16,7 +16,12 @@ use Rattle.ds2_code.specs.declared.instr.Instr.TheVariants as instr
 use Rattle.ds2_gen.specs.ExpressionCode.{CodeNumbers, constant_instr, store_instr, truth_code, comparison_instr, expression_code}
 use Rattle.ds2_gen.specs.StatementCode.{Subject, Conditions, EqualTo, text_type, label_of, drop_code, parameter_cell, load_kept}
 use Rattle.ds2_emitter.specs.Emit.{with_instruction, with_run, with_expression, with_arguments, with_back, with_method_call}
-use Rattle.ds2_statement_emitter.specs.Appending.{with_condition, with_items, with_outputs, with_parameter_values, with_invoked, with_loop_step, with_when_test, with_further_tests, with_open_tests}
+use Rattle.ds2_statement_emitter.specs.Appending.{with_all, with_condition, with_items, with_outputs, with_parameter_values, with_invoked, with_loop_step, with_when_test, with_further_tests, with_open_tests}
+
+pub all_added : (is c : List Instr) → with_all is c ≡ c ++ is
+unfolding with_instruction
+all_added [] c = sym (append-nil c)
+all_added (i ∷ is) c = all_added is (with_instruction i c) ∙ append_assoc c (i ∷ []) is
 
 pub no_output_added : (c : List Instr) → with_outputs [] c ≡ c
 unfolding with_outputs

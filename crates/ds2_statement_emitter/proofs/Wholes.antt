@@ -19,7 +19,7 @@ use Rattle.ds2_gen.specs.StatementCode.{Conditions, EqualTo, values_kept, store_
 use Rattle.ds2_emitter.specs.Emit.{with_instruction, with_expression}
 use Rattle.ds2_emitter.specs.declared.returning.Returning.{Returning}
 use Rattle.ds2_statement_emitter.specs.Appending.{with_statement, with_statements, with_whens, with_condition, with_loop_step, with_open_test, open_test_jump, with_off, IfPart, with_rest}
-use Rattle.ds2_statement_emitter.specs.Arms.{arm_tree, when_tree, arm_of_chain}
+use Rattle.ds2_statement_emitter.specs.Arms.{statement_place, arm_tree, when_tree, arm_of_chain}
 use Rattle.ds2_statement_emitter.specs.Counting.{end_kept, with_begun, begun_jump, with_round}
 use Rattle.ds2_statement_emitter.specs.Marks.{body_mark, end_mark, marked_exits, redirected, end_aims, loop_aims}
 use Rattle.ds2_statement_emitter.proofs.Chains.{if_ended}
@@ -29,6 +29,14 @@ use Rattle.ds2_statement_emitter.proofs.SelectEnds.{select_ended, select_value_e
 pub mapped_some : (step : Option code_expression.Expression) → is_some step ≡ is_some (option_map typed_expression step)
 mapped_some None = refl
 mapped_some (Some e) = refl
+
+-- the step of a statement stands at its place
+pub ticked : (s t : TypedStatement) (at : Place) (c c1 : List Instr) → s ≡ t → at ≡ statement_place s → c1 ≡ with_instruction (instr.Tick at) c → c1 ≡ with_instruction (instr.Tick (statement_place t)) c
+ticked s t at c c1 is same e = e ∙ ap (λ p. with_instruction (instr.Tick p) c) (same ∙ ap statement_place is)
+
+pub if_place : (p : Place) (e : TypedExpression) (on : TypedStatement) (o : Option TypedStatement) → statement_place (if_tree p e on o) ≡ p
+if_place p e on None = refl
+if_place p e on (Some off) = refl
 
 module _ (n : CodeNumbers) (way : Returning) (kept : ℕ) where
   pub if_whole : (p : IfPart) (others : List code_arm.Arm) (o : Option TypedStatement) (c c1 c2 c3 c4 c5 : List Instr) (start hole next kept2 hole2 : ℕ)

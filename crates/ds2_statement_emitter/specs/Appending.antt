@@ -36,6 +36,11 @@ with_whens n kept end exits subject whens code = code ++ whens_code n (length co
 
 -- ---- parts of statements
 
+-- instructions one behind the other
+abbrev pub with_all : List Instr → List Instr → List Instr
+with_all [] code = code
+with_all (i ∷ is) code = with_all is (with_instruction i code)
+
 -- the code of a condition
 unfoldable pub with_condition : CodeNumbers → TypedExpression → List Instr → List Instr
 with_condition n e code = code ++ condition_code n e
@@ -60,13 +65,21 @@ with_invoked n call code = code ++ invoke_code n (callee_home n.home call.instan
 unfoldable pub with_loop_step : CodeNumbers → Option TypedExpression → List Instr → List Instr
 with_loop_step n step code = code ++ step_code n step
 
--- the instructions of a test at a place: its step, a condition, and a jump where it does not hold, which is left open
+-- a condition, and a jump where it does not hold, which is left open
+abbrev pub with_open_jump : CodeNumbers → TypedExpression → List Instr → List Instr
+with_open_jump n condition code = with_instruction (instr.JFalse 0) (with_condition n condition code)
+
+-- the number of this jump
+abbrev pub open_jump : CodeNumbers → TypedExpression → List Instr → ℕ
+open_jump n condition code = length (with_condition n condition code)
+
+-- the instructions of a test at a place: its step, and its condition with the jump
 abbrev pub with_open_test : CodeNumbers → Place → TypedExpression → List Instr → List Instr
-with_open_test n place condition code = with_instruction (instr.JFalse 0) (with_condition n condition (with_instruction (instr.Tick place) code))
+with_open_test n place condition code = with_open_jump n condition (with_instruction (instr.Tick place) code)
 
 -- the number of the jump of an open test
 abbrev pub open_test_jump : CodeNumbers → Place → TypedExpression → List Instr → ℕ
-open_test_jump n place condition code = length (with_condition n condition (with_instruction (instr.Tick place) code))
+open_test_jump n place condition code = open_jump n condition (with_instruction (instr.Tick place) code)
 
 -- a jump where a condition does not hold, or, where there is none, in any case
 abbrev pub off_instr : (always : Bool) → ℕ → Instr

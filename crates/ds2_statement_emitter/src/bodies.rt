@@ -10,7 +10,7 @@ ghost use Rattle.ds2_statement_emitter.specs.BodyWords.{method_returning, with_l
 ghost use Rattle.ds2_statement_emitter.specs.Marks.{body_mark, body_aims, marked_exits, redirected};
 
 use crate::aims::{Aims, BODY, END};
-use crate::parts::{emit_dropped, emit_outputs};
+use crate::parts::{emit_all, emit_dropped, emit_outputs};
 use crate::redirect::{position, redirect};
 use crate::statements::emit_statements;
 use ds2_base::{List, OutOfMemory};
@@ -28,8 +28,8 @@ fn emit_locals<N: Numbering>(
     ensures { OnOk result (code.new ≡ with_locals (N.numbers names.now) locals.now code.old) }
 {
     'locals: for local in locals {
-        emit(code, Instr::Null(local.ty))?;
-        emit(code, names.store_local(&local.name)?)?;
+        let store = names.store_local(&local.name)?;
+        emit_all(code, &[Instr::Null(local.ty), store])?;
     }
     Ok(())
 }
@@ -58,10 +58,7 @@ fn emit_method_end(code: &mut List<Instr>, returns: Option<Ty>) -> Result<(), Ou
 {
     match returns {
         None => emit(code, Instr::Ret),
-        Some(ty) => {
-            emit(code, Instr::Null(ty))?;
-            emit(code, Instr::RetV)
-        }
+        Some(ty) => emit_all(code, &[Instr::Null(ty), Instr::RetV]),
     }
 }
 

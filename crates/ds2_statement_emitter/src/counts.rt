@@ -7,7 +7,7 @@ ghost use Rattle.ds2_statement_emitter.specs.Appending.{with_loop_step};
 ghost use Rattle.ds2_statement_emitter.specs.Counting.{with_begun, begun_jump, with_advanced, with_bound, with_sign, with_step_test, with_tested, with_round, end_kept, step_pushed, step_kept};
 ghost use Rattle.ds2_statement_emitter.specs.Marks.{body_mark, redirected, loop_aims};
 
-use crate::parts::emit_step;
+use crate::parts::{emit_all, emit_step};
 use crate::redirect::{end_loop, lead_here, plus, position};
 use ds2_base::{List, OutOfMemory, Place};
 use ds2_code::Instr;
@@ -73,9 +73,9 @@ pub fn open_count<N: Numbering>(
     ensures first { IfOk result (λ started. started.first ≡ length code.new) }
 {
     let end = keep_step(names, code, kept, has_step)?;
-    emit(code, names.store_kept(end)?)?;
-    emit(code, names.store(variable)?)?;
-    emit(code, Instr::Tick(place))?;
+    let keep = names.store_kept(end)?;
+    let set = names.store(variable)?;
+    emit_all(code, &[keep, set, Instr::Tick(place)])?;
     let hole = code.len();
     emit(code, Instr::Jump(0))?;
     Ok(OpenCount {
@@ -106,11 +106,9 @@ fn emit_advance<N: Numbering>(
 ) -> Result<(), OutOfMemory>
     ensures { OnOk result (code.new ≡ with_advanced (N.numbers names.now) round counter.now step code.old) }
 {
-    emit(code, Instr::Tick(round))?;
-    emit(code, names.load(counter, Ty::BigInt)?)?;
-    emit(code, step)?;
-    emit(code, Instr::IAdd)?;
-    emit(code, names.store(counter)?)
+    let load = names.load(counter, Ty::BigInt)?;
+    let store = names.store(counter)?;
+    emit_all(code, &[Instr::Tick(round), load, step, Instr::IAdd, store])
 }
 
 // Compares the variable of a counted loop with its kept end, and goes back to its body where the comparison holds.
@@ -124,10 +122,12 @@ fn emit_bound<N: Numbering>(
 ) -> Result<(), OutOfMemory>
     ensures { OnOk result (code.new ≡ with_bound (N.numbers names.now) variable.now end comparison first code.old) }
 {
-    emit(code, names.load(variable, Ty::BigInt)?)?;
-    emit(code, names.load_kept(end, Ty::BigInt)?)?;
-    emit(code, Instr::ICmp(comparison))?;
-    emit(code, Instr::JTrue(first))
+    let value = names.load(variable, Ty::BigInt)?;
+    let bound = names.load_kept(end, Ty::BigInt)?;
+    emit_all(
+        code,
+        &[value, bound, Instr::ICmp(comparison), Instr::JTrue(first)],
+    )
 }
 
 // Compares the kept step of a counted loop with 0, and goes elsewhere where the comparison does not hold.
@@ -140,10 +140,12 @@ fn emit_sign<N: Numbering>(
 ) -> Result<(), OutOfMemory>
     ensures { OnOk result (code.new ≡ with_sign (N.numbers names.now) kept comparison to code.old) }
 {
-    emit(code, names.load_kept(kept, Ty::BigInt)?)?;
-    emit(code, names.constant(&Value::Int(0), Ty::BigInt)?)?;
-    emit(code, Instr::ICmp(comparison))?;
-    emit(code, Instr::JFalse(to))
+    let step = names.load_kept(kept, Ty::BigInt)?;
+    let zero = names.constant(&Value::Int(0), Ty::BigInt)?;
+    emit_all(
+        code,
+        &[step, zero, Instr::ICmp(comparison), Instr::JFalse(to)],
+    )
 }
 
 // Adds the test of a counted loop with a step.

@@ -20,19 +20,18 @@ pub struct OpenWhile {
     pub first: usize,
 }
 
-/// Adds the code before the body of a `do while`.
+/// Adds the code before the body of a `do while`, behind its own step.
 pub fn open_while<N: Numbering>(
     names: &N,
     code: &mut List<Instr>,
     place: Place,
     condition: &Expression,
 ) -> Result<OpenWhile, OutOfMemory>
-    ensures code { OnOk result (code.new ≡ with_open_test (N.numbers names.now) place (typed_expression condition.now) (with_instruction (Instr.Tick place) code.old)) }
-    ensures test { IfOk result (λ started. started.test ≡ length (with_instruction (Instr.Tick place) code.old)) }
-    ensures hole { IfOk result (λ started. started.hole ≡ open_test_jump (N.numbers names.now) place (typed_expression condition.now) (with_instruction (Instr.Tick place) code.old)) }
+    ensures code { OnOk result (code.new ≡ with_open_test (N.numbers names.now) place (typed_expression condition.now) code.old) }
+    ensures test { IfOk result (λ started. started.test ≡ length code.old) }
+    ensures hole { IfOk result (λ started. started.hole ≡ open_test_jump (N.numbers names.now) place (typed_expression condition.now) code.old) }
     ensures first { IfOk result (λ started. started.first ≡ length code.new) }
 {
-    emit(code, Instr::Tick(place))?;
     let test = position(code)?;
     let hole = emit_open_test(names, code, place, condition)?;
     Ok(OpenWhile {

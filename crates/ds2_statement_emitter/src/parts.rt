@@ -2,18 +2,45 @@
 ghost use Rattle.std.specs.Prelude.{◌≡◌, ◌∷◌, List as Items, length, map, OnOk, IfOk};
 ghost use Rattle.std.specs.Option.{option_map};
 ghost use Rattle.ds2_meaning.specs.TypedStatement.{Item};
-ghost use Rattle.ds2_meaning.specs.View.{typed_expression, call_tree, item_tree, parameter_tree};
+ghost use Rattle.ds2_meaning.specs.View.{typed_expression, typed_statement, call_tree, item_tree, parameter_tree};
 ghost use Rattle.ds2_gen.specs.StatementCode.{return_instr as return_of};
 ghost use Rattle.ds2_emitter.specs.Dropped.{dropped_result};
 ghost use Rattle.ds2_emitter.specs.Emit.{with_instruction, with_run};
+ghost use Rattle.ds2_statement_emitter.specs.Arms.{statement_place};
 ghost use Rattle.ds2_statement_emitter.specs.Marks.{marked_way};
-ghost use Rattle.ds2_statement_emitter.specs.Appending.{with_condition, with_items, with_outputs, with_parameter_values, with_invoked, with_loop_step, with_open_test, open_test_jump};
+ghost use Rattle.ds2_statement_emitter.specs.Appending.{with_all, with_condition, with_items, with_outputs, with_parameter_values, with_invoked, with_loop_step, with_open_jump, open_jump, with_open_test, open_test_jump};
 
 use crate::aims::RETURN;
 use ds2_base::{List, Name, OutOfMemory, Place};
 use ds2_code::Instr;
 use ds2_emitter::{Numbering, Returning, emit, emit_call, emit_expression, emit_truth};
-use ds2_meaning::{Call, Expression, ParameterSetting, PutItem};
+use ds2_meaning::{Call, Expression, ParameterSetting, PutItem, Statement};
+
+/// The place of a statement.
+pub fn place_of(s: &Statement) -> Place
+    ensures { result ≡ statement_place (typed_statement s.now) }
+{
+    match s {
+        Statement::Empty { place } => *place,
+        Statement::Assign { place, .. } => *place,
+        Statement::Invoke { place, .. } => *place,
+        Statement::Evaluate { place, .. } => *place,
+        Statement::SetParameters { place, .. } => *place,
+        Statement::Leave { place } => *place,
+        Statement::Continue { place } => *place,
+        Statement::Return { place } => *place,
+        Statement::ReturnValue { place, .. } => *place,
+        Statement::Output { place, .. } => *place,
+        Statement::Put { place, .. } => *place,
+        Statement::If { place, .. } => *place,
+        Statement::Select { place, .. } => *place,
+        Statement::SelectValue { place, .. } => *place,
+        Statement::Block { place, .. } => *place,
+        Statement::Count { place, .. } => *place,
+        Statement::While { place, .. } => *place,
+        Statement::Until { place, .. } => *place,
+    }
+}
 
 /// The instruction of a `return` without a value.
 pub fn return_instr(way: Returning) -> Instr
@@ -24,6 +51,14 @@ pub fn return_instr(way: Returning) -> Instr
         Returning::WithResult => Instr::RetV,
         Returning::WithoutResult => Instr::Ret,
     }
+}
+
+/// Adds instructions one behind the other.
+#[tactic(auto, using(crate::proofs::PartRuns::all_added))]
+pub fn emit_all(code: &mut List<Instr>, instrs: &[Instr]) -> Result<(), OutOfMemory>
+    ensures { OnOk result (code.new ≡ with_all instrs.now code.old) }
+{
+    code.append(instrs)
 }
 
 /// Adds the code of a condition.
@@ -39,7 +74,22 @@ pub fn emit_condition<N: Numbering>(
     emit_truth(code, ty)
 }
 
-/// Adds the step and the condition of a test, and the jump where it does not hold, which it leaves open. Tells the jump's number.
+/// Adds the condition of a test, and the jump where it does not hold, which it leaves open. Tells the jump's number.
+pub fn emit_open_jump<N: Numbering>(
+    names: &N,
+    code: &mut List<Instr>,
+    condition: &Expression,
+) -> Result<usize, OutOfMemory>
+    ensures code { OnOk result (code.new ≡ with_open_jump (N.numbers names.now) (typed_expression condition.now) code.old) }
+    ensures jump { IfOk result (λ hole. hole ≡ open_jump (N.numbers names.now) (typed_expression condition.now) code.old) }
+{
+    emit_condition(names, code, condition)?;
+    let hole = code.len();
+    emit(code, Instr::JFalse(0))?;
+    Ok(hole)
+}
+
+/// Adds the step of a test before its condition and the jump, which it leaves open. Tells the jump's number.
 pub fn emit_open_test<N: Numbering>(
     names: &N,
     code: &mut List<Instr>,
@@ -50,9 +100,7 @@ pub fn emit_open_test<N: Numbering>(
     ensures jump { IfOk result (λ hole. hole ≡ open_test_jump (N.numbers names.now) place (typed_expression condition.now) code.old) }
 {
     emit(code, Instr::Tick(place))?;
-    emit_condition(names, code, condition)?;
-    let hole = code.len();
-    emit(code, Instr::JFalse(0))?;
+    let hole = emit_open_jump(names, code, condition)?;
     Ok(hole)
 }
 
@@ -85,8 +133,7 @@ fn emit_item<N: Numbering>(
         PutItem::Named { name, value } => {
             emit(code, names.label(name)?)?;
             emit_expression(names, code, value)?;
-            emit(code, Instr::Show)?;
-            emit(code, Instr::Cat)
+            emit_all(code, &[Instr::Show, Instr::Cat])
         }
     }
 }

@@ -11,7 +11,8 @@ use crate::aims::{CONTINUE, END, LEAVE};
 use crate::counts::{close_count, emit_count_values, open_count};
 use crate::loops::{close_until, close_while, open_while};
 use crate::parts::{
-    emit_invoked, emit_line, emit_open_test, emit_outputs, emit_parameters, return_instr,
+    emit_invoked, emit_line, emit_open_jump, emit_open_test, emit_outputs, emit_parameters,
+    place_of, return_instr,
 };
 use crate::redirect::{end_chain, lead_here, plus, position};
 use crate::subject::Tested;
@@ -177,119 +178,102 @@ pub fn emit_statement<N: Numbering>(
     ensures code { OnOk result (code.new ≡ with_statement (N.numbers names.now) kept (marked_exits (N.way names.now)) (typed_statement s.now) code.old) }
     ensures values { IfOk result (λ next. next ≡ kept + values_kept (typed_statement s.now)) }
 {
+    let at = code.len();
+    emit(code, Instr::Tick(place_of(s)))?;
     match s {
-        Statement::Empty { place } => {
-            emit(code, Instr::Tick(*place))?;
-            Ok(kept)
-        }
+        Statement::Empty { .. } => Ok(kept),
         Statement::Assign {
-            place,
             variable,
             value,
+            ..
         } => {
-            emit(code, Instr::Tick(*place))?;
             emit_expression(names, code, value)?;
             emit(code, names.store(variable)?)?;
             Ok(kept)
         }
-        Statement::Invoke { place, call } => {
-            emit(code, Instr::Tick(*place))?;
+        Statement::Invoke { call, .. } => {
             emit_invoked(names, code, call)?;
             Ok(kept)
         }
-        Statement::Evaluate { place, value } => {
-            emit(code, Instr::Tick(*place))?;
+        Statement::Evaluate { value, .. } => {
             emit_expression(names, code, value)?;
             emit(code, Instr::DropTop)?;
             Ok(kept)
         }
         Statement::SetParameters {
-            place,
             instance,
             values,
+            ..
         } => {
-            emit(code, Instr::Tick(*place))?;
             emit_parameters(names, code, instance, values.as_slice())?;
             Ok(kept)
         }
-        Statement::Leave { place } => {
-            emit(code, Instr::Tick(*place))?;
+        Statement::Leave { .. } => {
             emit(code, Instr::Jump(LEAVE))?;
             Ok(kept)
         }
-        Statement::Continue { place } => {
-            emit(code, Instr::Tick(*place))?;
+        Statement::Continue { .. } => {
             emit(code, Instr::Jump(CONTINUE))?;
             Ok(kept)
         }
-        Statement::Return { place } => {
-            emit(code, Instr::Tick(*place))?;
+        Statement::Return { .. } => {
             emit(code, return_instr(names.returning()))?;
             Ok(kept)
         }
-        Statement::ReturnValue { place, value } => {
-            emit(code, Instr::Tick(*place))?;
+        Statement::ReturnValue { value, .. } => {
             emit_expression(names, code, value)?;
             emit(code, Instr::RetV)?;
             Ok(kept)
         }
-        Statement::Output { place, outputs } => {
-            emit(code, Instr::Tick(*place))?;
+        Statement::Output { outputs, .. } => {
             emit_outputs(code, outputs.as_slice())?;
             Ok(kept)
         }
-        Statement::Put { place, items } => {
-            emit(code, Instr::Tick(*place))?;
+        Statement::Put { items, .. } => {
             emit_line(names, code, items.as_slice())?;
             Ok(kept)
         }
         Statement::If {
-            place,
             condition,
             then,
             others,
             otherwise,
+            ..
         } => {
-            let start = code.len();
-            let hole = emit_open_test(names, code, *place, condition)?;
+            let hole = emit_open_jump(names, code, condition)?;
             let next = emit_statement(names, code, kept, then)?;
             let first = OpenPart { hole, kept: next };
             let started = emit_arms(names, code, first, others.as_slice())?;
             let last = emit_else(names, code, started, otherwise)?;
-            end_chain(code, start)?;
+            end_chain(code, at)?;
             Ok(last)
         }
         Statement::Select {
-            place,
             whens,
             otherwise,
+            ..
         } => {
-            let start = code.len();
-            emit(code, Instr::Tick(*place))?;
             let next = emit_whens(names, code, kept, Tested::Conditions, whens.as_slice())?;
             let last = emit_otherwise(names, code, next, otherwise)?;
-            end_chain(code, start)?;
+            end_chain(code, at)?;
             Ok(last)
         }
         Statement::SelectValue {
-            place,
             value,
             whens,
             otherwise,
+            ..
         } => {
-            let start = code.len();
-            emit(code, Instr::Tick(*place))?;
             let ty = emit_expression(names, code, value)?;
             emit(code, names.store_kept(kept)?)?;
             let first = plus(kept, 1)?;
             let tested = Tested::EqualTo { kept, ty };
             let next = emit_whens(names, code, first, tested, whens.as_slice())?;
             let last = emit_otherwise(names, code, next, otherwise)?;
-            end_chain(code, start)?;
+            end_chain(code, at)?;
             Ok(last)
         }
-        Statement::Block { place, body } => {
-            emit(code, Instr::Tick(*place))?;
+        Statement::Block { body, .. } => {
             let next = emit_statements(names, code, kept, body.as_slice())?;
             Ok(next)
         }
@@ -301,7 +285,6 @@ pub fn emit_statement<N: Numbering>(
             step,
             body,
         } => {
-            emit(code, Instr::Tick(*place))?;
             emit_count_values(names, code, start, end, step)?;
             let has_step = step.is_some();
             let started = open_count(names, code, kept, *place, variable, has_step)?;
@@ -325,7 +308,6 @@ pub fn emit_statement<N: Numbering>(
             condition,
             body,
         } => {
-            emit(code, Instr::Tick(*place))?;
             let first = position(code)?;
             let next = emit_statements(names, code, kept, body.as_slice())?;
             close_until(names, code, *place, condition, first)?;

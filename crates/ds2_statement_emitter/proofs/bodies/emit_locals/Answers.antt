@@ -6,7 +6,7 @@ use Rattle.ds2_statement_emitter.proofs.bodies.emit_locals.Goals as goal
 pub locals-preserved : goal.locals-preserved
 locals-preserved g c =
     let k = local_added (g.N.Numbering.numbers c.args.names.now) c.local-item.result (drop (c.locals.local-index + 1) c.args.locals.now) c.locals.code in
-    grind (arith, common_steps, k, c.in_ok-emit.ensures, c.in_ok-emit-2.ensures, c.in_ok-store_local.ensures, c.locals.invariant)
+    grind (arith, common_steps, k, c.in_ok-emit_all.ensures, c.in_ok-store.ensures, c.locals.invariant)
 
 pub returns : goal.returns
 returns g c = grind (arith, common_steps, no_local_added (g.N.Numbering.numbers c.args.names.now) c.locals.code, c.locals.invariant)
