@@ -6,6 +6,7 @@ use Rattle.ds2_base.specs.declared.place.Refusal.{Refusal}
 use Rattle.ds2_base.specs.declared.stop.OutOfMemory.{OutOfMemory}
 use Rattle.ds2_value.specs.declared.ty.Ty.{Ty}
 use Rattle.ds2_value.specs.declared.ty.Ty.TheVariants.{BigInt}
+use Rattle.ds2_meaning.specs.IsTyped.{expression_type}
 use Rattle.ds2_meaning.specs.TypedExpression as tree
 use Rattle.ds2_meaning.specs.declared.refusals.TypeKind.{TypeKind}
 use Rattle.ds2_token.specs.declared.token.Token.{Token}

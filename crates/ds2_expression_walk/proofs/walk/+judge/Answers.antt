@@ -65,7 +65,7 @@ truth_chain-operands-preserved t c = λ types e start s k g.
 pub truth_chain-returns : goal.truth_chain-returns
 truth_chain-returns t c = λ types e start s k g.
     let rest = c.args.rest.now in
-    grown_whole_truth types c.args.kind start e (operands_of rest) (operands_of (drop c.operands.operand-index rest)) c.operands.grown c.finished_truth.result k
+    grown_whole_truth types c.args.kind start e (operands_of rest) (operands_of (drop c.operands.operand-index rest)) c.operands.grown c.finished_truth.result
     (c.operands.invariant types e start s k g) (last_operand rest c.operands.operand-index (omega arith)) (λ links before h. c.finished_truth.ensures e.node links before h)
 
 pub chain-returns-in-And : goal.chain-returns-in-And
