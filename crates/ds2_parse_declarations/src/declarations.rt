@@ -47,6 +47,7 @@ fn constant(
 }
 
 /// A constant behind its comma.
+#[derive(Clone, Copy)]
 pub struct FurtherConstantRule;
 
 impl Rule for FurtherConstantRule {
@@ -75,6 +76,7 @@ fn constant_list(alloc: Global, tokens: &[Token], end: Place) -> Parsed<'_, List
 }
 
 /// "(" [ const { "," const } ] ")"
+#[derive(Clone, Copy)]
 pub struct ConstantsRule;
 
 impl Rule for ConstantsRule {
@@ -98,6 +100,7 @@ impl Rule for ConstantsRule {
 // ---- names in brackets
 
 /// [","] name
+#[derive(Clone, Copy)]
 pub struct BracketedNameRule;
 
 impl Rule for BracketedNameRule {
@@ -119,6 +122,7 @@ impl Rule for BracketedNameRule {
 }
 
 /// name { [","] name }
+#[derive(Clone, Copy)]
 pub struct BracketedNamesRule;
 
 impl Rule for BracketedNamesRule {
@@ -141,6 +145,7 @@ impl Rule for BracketedNamesRule {
 }
 
 /// "[" name { [","] name } "]"
+#[derive(Clone, Copy)]
 pub struct BracketedRule;
 
 impl Rule for BracketedRule {
@@ -164,6 +169,7 @@ impl Rule for BracketedRule {
 // ---- hashes, iterators and instances
 
 /// "," text
+#[derive(Clone, Copy)]
 pub struct HashTableRule;
 
 impl Rule for HashTableRule {
@@ -180,6 +186,7 @@ impl Rule for HashTableRule {
 }
 
 /// "," integer [ "," text ]
+#[derive(Clone, Copy)]
 pub struct HashSizeRule;
 
 impl Rule for HashSizeRule {

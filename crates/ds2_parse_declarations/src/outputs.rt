@@ -15,6 +15,7 @@ use ds2_tree::{OutputOption, OutputOptions, OutputTable, Renaming};
 use std::alloc::Global;
 
 /// name "=" name
+#[derive(Clone, Copy)]
 pub struct RenamingRule;
 
 impl Rule for RenamingRule {
@@ -88,6 +89,7 @@ fn rename(alloc: Global, tokens: &[Token], end: Place) -> Parsed<'_, OutputOptio
 }
 
 /// An option of an output table, by its word.
+#[derive(Clone, Copy)]
 pub struct OptionRule;
 
 impl Rule for OptionRule {
@@ -107,6 +109,7 @@ impl Rule for OptionRule {
 }
 
 /// "(" { option } ")"
+#[derive(Clone, Copy)]
 pub struct OptionsRule;
 
 impl Rule for OptionsRule {
@@ -134,6 +137,7 @@ impl Rule for OptionsRule {
 }
 
 /// table [ "(" { option } ")" ]
+#[derive(Clone, Copy)]
 pub struct OutputRule;
 
 impl Rule for OutputRule {

@@ -42,6 +42,7 @@ fn parameter(
 }
 
 /// A parameter behind its comma.
+#[derive(Clone, Copy)]
 pub struct FurtherParameterRule;
 
 impl Rule for FurtherParameterRule {
@@ -86,6 +87,7 @@ pub fn parameters(alloc: Global, tokens: &[Token], end: Place) -> Parsed<'_, Par
 }
 
 /// Parameters between parentheses.
+#[derive(Clone, Copy)]
 pub struct ParametersRule;
 
 impl Rule for ParametersRule {
@@ -111,6 +113,7 @@ pub fn optional_parameters(
 }
 
 /// "returns" type
+#[derive(Clone, Copy)]
 pub struct ReturnsRule;
 
 impl Rule for ReturnsRule {

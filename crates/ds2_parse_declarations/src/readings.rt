@@ -15,6 +15,7 @@ use ds2_tree::{By, ByVariable, Input, InputFlag, MergeRetain, Reading, Threads};
 use std::alloc::Global;
 
 /// "(" "in" "=" name ")"
+#[derive(Clone, Copy)]
 pub struct InputFlagRule;
 
 impl Rule for InputFlagRule {
@@ -44,6 +45,7 @@ impl Rule for InputFlagRule {
 }
 
 /// table [ "(" "in" "=" name ")" ]
+#[derive(Clone, Copy)]
 pub struct InputRule;
 
 impl Rule for InputRule {
@@ -60,6 +62,7 @@ impl Rule for InputRule {
 }
 
 /// ["descending"] name
+#[derive(Clone, Copy)]
 pub struct ByVariableRule;
 
 impl Rule for ByVariableRule {
@@ -76,6 +79,7 @@ impl Rule for ByVariableRule {
 }
 
 /// "by" ["descending"] name { ["descending"] name } ";"
+#[derive(Clone, Copy)]
 pub struct ByRule;
 
 impl Rule for ByRule {
@@ -98,6 +102,7 @@ impl Rule for ByRule {
 }
 
 /// "threads" "=" integer
+#[derive(Clone, Copy)]
 pub struct ThreadsRule;
 
 impl Rule for ThreadsRule {
@@ -119,6 +124,7 @@ impl Rule for ThreadsRule {
 }
 
 /// "/" "retain"
+#[derive(Clone, Copy)]
 pub struct MergeRetainRule;
 
 impl Rule for MergeRetainRule {
@@ -206,6 +212,7 @@ fn merge(alloc: Global, tokens: &[Token], end: Place) -> Parsed<'_, Reading>
 }
 
 /// A reading statement.
+#[derive(Clone, Copy)]
 pub struct ReadingRule;
 
 impl Rule for ReadingRule {

@@ -14,6 +14,7 @@ use ds2_tree::{Scale, TypeName, VariableDeclaration};
 use std::alloc::Global;
 
 /// "," integer
+#[derive(Clone, Copy)]
 pub struct ScaleRule;
 
 impl Rule for ScaleRule {
@@ -72,6 +73,7 @@ fn text_type(alloc: Global, tokens: &[Token], end: Place) -> Parsed<'_, TypeName
 }
 
 /// A type.
+#[derive(Clone, Copy)]
 pub struct TypeRule;
 
 impl Rule for TypeRule {
@@ -125,6 +127,7 @@ pub fn declared_variables(
 }
 
 /// dcl type name { name } ";"
+#[derive(Clone, Copy)]
 pub struct VariablesRule;
 
 impl Rule for VariablesRule {

@@ -41,6 +41,7 @@ pub trait Rule {
 // ---- one token
 
 /// A mark of one spelling, read as its place.
+#[derive(Clone, Copy)]
 pub struct Mark<'s>(pub &'s str);
 
 impl Front for Mark<'_> {
@@ -62,6 +63,7 @@ impl Rule for Mark<'_> {
 }
 
 /// A word, which is in lower case here.
+#[derive(Clone, Copy)]
 pub struct Word<'s>(pub &'s str);
 
 impl Front for Word<'_> {
@@ -158,6 +160,7 @@ pub fn items_of<'t, F: Front, R: Rule>(
 }
 
 /// item { item }, where each further one begins with such a token.
+#[derive(Clone, Copy)]
 pub struct SomeOf<F, R>(pub F, pub R);
 
 impl<F: Front, R: Rule> Rule for SomeOf<F, R> {
@@ -181,6 +184,7 @@ impl<F: Front, R: Rule> Rule for SomeOf<F, R> {
 // ---- one behind the other
 
 /// One rule, and another one behind it.
+#[derive(Clone, Copy)]
 pub struct Then<A, B>(pub A, pub B);
 
 impl<A: Rule, B: Rule> Rule for Then<A, B> {
@@ -196,6 +200,7 @@ impl<A: Rule, B: Rule> Rule for Then<A, B> {
 }
 
 /// What a rule reads, where a token with which it begins is at the front, and another rule behind it.
+#[derive(Clone, Copy)]
 pub struct OptionalThen<F, R, N>(pub F, pub R, pub N);
 
 impl<F: Front, R: Rule, N: Rule> Rule for OptionalThen<F, R, N> {
@@ -211,6 +216,7 @@ impl<F: Front, R: Rule, N: Rule> Rule for OptionalThen<F, R, N> {
 }
 
 /// A rule, and behind it what another one reads, where a token with which that begins is there.
+#[derive(Clone, Copy)]
 pub struct ThenOptional<A, F, R>(pub A, pub F, pub R);
 
 impl<A: Rule, F: Front, R: Rule> Rule for ThenOptional<A, F, R> {
@@ -226,6 +232,7 @@ impl<A: Rule, F: Front, R: Rule> Rule for ThenOptional<A, F, R> {
 }
 
 /// { item }, each beginning with such a token, and another rule behind them.
+#[derive(Clone, Copy)]
 pub struct ItemsThen<F, R, N>(pub F, pub R, pub N);
 
 impl<F: Front, R: Rule, N: Rule> Rule for ItemsThen<F, R, N> {
