@@ -1,4 +1,4 @@
-use Rattle.std.proofs.Common.{◌≡◌, ◌+◌, ◌++◌, [], List, drop, refl, sym, ap, ◌∙◌, arith}
+use Rattle.std.proofs.Common.{◌+◌, ◌++◌, List, drop, sym, ap, ◌∙◌, arith}
 use Rattle.std.specs.Prelude.{map}
 use Rattle.std.proofs.lemmas.List.{append-nil, at_drop_all}
 use Rattle.ds2_names.specs.SourceUnit.{columns_stored}
@@ -9,7 +9,8 @@ use Rattle.ds2_declared_types.proofs.InputForms.{one_more_found}
 use Rattle.ds2_declared_types.proofs.input_types.types_of_inputs.Goals as goal
 
 pub inputs-init : goal.inputs-init
-inputs-init c = λ name. refl
+inputs-init c = λ name.
+    ap (λ (l : List InputTypes). map (column_found name) l ++ map (column_at (columns_stored c.args.tables.now) name) c.args.inputs.now) c.new-found.ensures
 
 pub inputs-preserved : goal.inputs-preserved
 inputs-preserved c = λ name.
