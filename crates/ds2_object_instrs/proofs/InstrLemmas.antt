@@ -1,5 +1,6 @@
 -- Instructions are parts: what is written of one is what is read, and no other instruction is written so.
-use Rattle.std.proofs.Common.{◌≡◌, ℕ, Bool, true, false, cond, IsTrue, List, length, Option, Some, None, slice_get, nat_lt, refl, sym, ap, ◌∙◌, option_map, arith}
+use Rattle.std.proofs.Common.{◌≡◌, ℕ, zero, suc, ◌+◌, Bool, true, false, cond, IsTrue, List, [], ◌∷◌, length, Option, Some, None, slice_get, nat_lt, refl, sym, ap, subst, ◌∙◌, option_map, lt-ltb, arith}
+use Rattle.std.proofs.lemmas.Option.{slice_get_within}
 use Rattle.std.specs.Option.{option_map_or, option_and_then}
 use Rattle.ds2_base.specs.declared.place.Place.{Place}
 use Rattle.ds2_value.specs.declared.comparison.Comparison.{Comparison}
@@ -20,8 +21,8 @@ use Rattle.ds2_object_instrs.specs.declared.instrs.WrittenInstr.{WrittenInstr}
 use Rattle.ds2_object_words.specs.Parts.{byte_part, number16_part, number32_part, then_part, ◌⨾◌}
 use Rattle.ds2_object_words.specs.PartLaws.{IsLawfulPart}
 use Rattle.ds2_object_words.specs.Words.{type_part}
-use Rattle.ds2_object_instrs.specs.InstrSpelling.{comparison_values, comparison_number, hash_function_values, hash_function_number, iterator_function_values, iterator_function_number, field_number, field_type, field_digits, field_length, field_test, field_place, field_call, is_no_field, shape_part, shape_of_fields, InstrRow, bare_row, number_row, type_row, digits_row, length_row, test_row, written_place, place_row, function_call, instr_row_of, row_instrs, fields_of, operation_part, fields_part, written_instr_part, written_instr_of, instr_of}
-use Rattle.ds2_object_words.proofs.PartLemmas.{empty_law, then_law, seen_as_law, variant_law, checked_law, AreNumbered, number_at_place, some_is}
+use Rattle.ds2_object_instrs.specs.InstrSpelling.{comparison_values, comparison_number, hash_function_values, hash_function_number, iterator_function_values, iterator_function_number, field_number, field_type, field_digits, field_length, field_test, field_place, field_call, is_no_field, shape_part, shape_of_fields, InstrRow, bare_row, number_row, type_row, digits_row, length_row, test_row, written_place, place_row, function_call, call_row, instr_rows, row_of_code, fields_of, operation_part, fields_part, written_instr_part, written_instr_of, instr_of}
+use Rattle.ds2_object_words.proofs.PartLemmas.{empty_law, then_law, seen_as_law, variant_law, checked_law, number_at_place, some_is}
 use Rattle.ds2_object_words.proofs.NumberLemmas.{byte_law, number16_law, number32_law}
 use Rattle.ds2_object_words.proofs.WordLemmas.{pair_law, type_law}
 
@@ -119,13 +120,13 @@ shape_law shape.CallFields = variant_law (λ (x : ℕ × ℕ). CallFields x.0 x.
 
 operation_law : IsLawfulPart operation_part
 unfolding operation_part
-operation_law = checked_law (λ (code : ℕ). nat_lt code (length row_instrs)) byte_part byte_law
+operation_law = checked_law (λ (code : ℕ). nat_lt code (length instr_rows)) byte_part byte_law
 
 pub written_instr_law : IsLawfulPart written_instr_part
 unfolding written_instr_part
 written_instr_law =
     seen_as_law (λ (x : ℕ × Fields). record { code = x.0; fields = x.1 }) (λ (i : WrittenInstr). (i.code, i.fields)) (then_part operation_part fields_part)
-    (then_law operation_part fields_part operation_law (λ code. shape_law (option_map_or (λ (i : Instr). (instr_row_of i).shape) (slice_get row_instrs code) shape.NoField)))
+    (then_law operation_part fields_part operation_law (λ code. shape_law (option_map_or (λ (row : InstrRow). row.shape) (row_of_code code) shape.NoField)))
     (λ a h. refl) (λ b h. refl)
 
 -- ---- instructions and what is written of them
@@ -152,67 +153,6 @@ iterator_function_found First = refl
 iterator_function_found Next = refl
 iterator_function_found Prev = refl
 iterator_function_found Last = refl
-
--- an instruction is what is written of it
-pub instr_written : (i : Instr) → instr_of (written_instr_of i) ≡ Some i
-instr_written (instr.Const n) = refl
-instr_written (instr.Null ty) = refl
-instr_written (instr.GLoad n) = refl
-instr_written (instr.GStore n) = refl
-instr_written (instr.LLoad n) = refl
-instr_written (instr.LStore n) = refl
-instr_written instr.DropTop = refl
-instr_written instr.IToD = refl
-instr_written (instr.Rescale p s) = refl
-instr_written (instr.Pad n) = refl
-instr_written (instr.Cut n) = refl
-instr_written instr.IAdd = refl
-instr_written instr.ISub = refl
-instr_written instr.IMul = refl
-instr_written instr.INeg = refl
-instr_written instr.IAbs = refl
-instr_written instr.IMod = refl
-instr_written instr.DAdd = refl
-instr_written instr.DSub = refl
-instr_written instr.DMul = refl
-instr_written instr.DDiv = refl
-instr_written instr.DNeg = refl
-instr_written instr.DAbs = refl
-instr_written instr.DMod = refl
-instr_written instr.DFloor = refl
-instr_written instr.DCeil = refl
-instr_written (instr.ICmp comparison) = rw (comparison_found comparison) refl
-instr_written (instr.DCmp comparison) = rw (comparison_found comparison) refl
-instr_written (instr.TCmp comparison) = rw (comparison_found comparison) refl
-instr_written instr.And = refl
-instr_written instr.Or = refl
-instr_written instr.Not = refl
-instr_written instr.ITruth = refl
-instr_written instr.DTruth = refl
-instr_written instr.IsNull = refl
-instr_written (instr.Choose n) = refl
-instr_written (instr.Least n) = refl
-instr_written (instr.Greatest n) = refl
-instr_written instr.Cat = refl
-instr_written instr.Len = refl
-instr_written instr.Substr = refl
-instr_written instr.SubFrom = refl
-instr_written instr.Trim = refl
-instr_written (instr.Tick place) = refl
-instr_written (instr.Jump n) = refl
-instr_written (instr.JFalse n) = refl
-instr_written (instr.JTrue n) = refl
-instr_written (instr.Call n) = refl
-instr_written instr.Ret = refl
-instr_written instr.RetV = refl
-instr_written instr.NoWhen = refl
-instr_written (instr.Output n) = refl
-instr_written instr.Show = refl
-instr_written (instr.Put n) = refl
-instr_written (instr.HCall hash f) = rw (hash_function_found f) refl
-instr_written (instr.ICall iterator f) = rw (iterator_function_found f) refl
-instr_written (instr.SetParm n) = refl
-instr_written instr.End = refl
 
 -- what comes of the fields of a row is an instruction of the row with these fields
 record KeepsFields (code : ℕ) (row : InstrRow) : Type 0 where
@@ -307,69 +247,125 @@ call_keeps {F} code functions number f numbered is_code is_field fields j e =
           ∙ ap (CallFields m.0.0) (numbered m.0.1 q.0 q.1) ∙ call_back fields m.0 m.1,
     )
 
--- each row keeps its fields, and has the operation code of its instruction
-row_keeps : (t : Instr) → KeepsFields (operation_code t) (instr_row_of t)
-row_keeps (instr.Const n) = number_keeps 0 instr.Const (λ n. refl) (λ n. refl)
-row_keeps (instr.Null ty) = type_keeps 1 instr.Null (λ ty. refl) (λ ty. refl)
-row_keeps (instr.GLoad n) = number_keeps 2 instr.GLoad (λ n. refl) (λ n. refl)
-row_keeps (instr.GStore n) = number_keeps 3 instr.GStore (λ n. refl) (λ n. refl)
-row_keeps (instr.LLoad n) = number_keeps 4 instr.LLoad (λ n. refl) (λ n. refl)
-row_keeps (instr.LStore n) = number_keeps 5 instr.LStore (λ n. refl) (λ n. refl)
-row_keeps instr.DropTop = bare_keeps 6 instr.DropTop refl refl
-row_keeps instr.IToD = bare_keeps 7 instr.IToD refl refl
-row_keeps (instr.Rescale p s) = digits_keep 8 instr.Rescale (λ p s. refl) (λ p s. refl)
-row_keeps (instr.Pad n) = length_keeps 9 instr.Pad (λ n. refl) (λ n. refl)
-row_keeps (instr.Cut n) = length_keeps 10 instr.Cut (λ n. refl) (λ n. refl)
-row_keeps instr.IAdd = bare_keeps 11 instr.IAdd refl refl
-row_keeps instr.ISub = bare_keeps 12 instr.ISub refl refl
-row_keeps instr.IMul = bare_keeps 13 instr.IMul refl refl
-row_keeps instr.INeg = bare_keeps 14 instr.INeg refl refl
-row_keeps instr.IAbs = bare_keeps 15 instr.IAbs refl refl
-row_keeps instr.IMod = bare_keeps 16 instr.IMod refl refl
-row_keeps instr.DAdd = bare_keeps 17 instr.DAdd refl refl
-row_keeps instr.DSub = bare_keeps 18 instr.DSub refl refl
-row_keeps instr.DMul = bare_keeps 19 instr.DMul refl refl
-row_keeps instr.DDiv = bare_keeps 20 instr.DDiv refl refl
-row_keeps instr.DNeg = bare_keeps 21 instr.DNeg refl refl
-row_keeps instr.DAbs = bare_keeps 22 instr.DAbs refl refl
-row_keeps instr.DMod = bare_keeps 23 instr.DMod refl refl
-row_keeps instr.DFloor = bare_keeps 24 instr.DFloor refl refl
-row_keeps instr.DCeil = bare_keeps 25 instr.DCeil refl refl
-row_keeps (instr.ICmp comparison) = test_keeps 26 instr.ICmp (λ c. refl) (λ c. refl)
-row_keeps (instr.DCmp comparison) = test_keeps 27 instr.DCmp (λ c. refl) (λ c. refl)
-row_keeps (instr.TCmp comparison) = test_keeps 28 instr.TCmp (λ c. refl) (λ c. refl)
-row_keeps instr.And = bare_keeps 29 instr.And refl refl
-row_keeps instr.Or = bare_keeps 30 instr.Or refl refl
-row_keeps instr.Not = bare_keeps 31 instr.Not refl refl
-row_keeps instr.ITruth = bare_keeps 32 instr.ITruth refl refl
-row_keeps instr.DTruth = bare_keeps 33 instr.DTruth refl refl
-row_keeps instr.IsNull = bare_keeps 34 instr.IsNull refl refl
-row_keeps (instr.Choose n) = number_keeps 35 instr.Choose (λ n. refl) (λ n. refl)
-row_keeps (instr.Least n) = number_keeps 36 instr.Least (λ n. refl) (λ n. refl)
-row_keeps (instr.Greatest n) = number_keeps 37 instr.Greatest (λ n. refl) (λ n. refl)
-row_keeps instr.Cat = bare_keeps 38 instr.Cat refl refl
-row_keeps instr.Len = bare_keeps 39 instr.Len refl refl
-row_keeps instr.Substr = bare_keeps 40 instr.Substr refl refl
-row_keeps instr.SubFrom = bare_keeps 41 instr.SubFrom refl refl
-row_keeps instr.Trim = bare_keeps 42 instr.Trim refl refl
-row_keeps (instr.Tick place) = place_keeps 43 instr.Tick (λ p. refl) (λ p. refl)
-row_keeps (instr.Jump n) = number_keeps 44 instr.Jump (λ n. refl) (λ n. refl)
-row_keeps (instr.JFalse n) = number_keeps 45 instr.JFalse (λ n. refl) (λ n. refl)
-row_keeps (instr.JTrue n) = number_keeps 46 instr.JTrue (λ n. refl) (λ n. refl)
-row_keeps (instr.Call n) = number_keeps 47 instr.Call (λ n. refl) (λ n. refl)
-row_keeps instr.Ret = bare_keeps 48 instr.Ret refl refl
-row_keeps instr.RetV = bare_keeps 49 instr.RetV refl refl
-row_keeps instr.NoWhen = bare_keeps 50 instr.NoWhen refl refl
-row_keeps (instr.Output n) = number_keeps 51 instr.Output (λ n. refl) (λ n. refl)
-row_keeps instr.Show = bare_keeps 52 instr.Show refl refl
-row_keeps (instr.Put n) = number_keeps 53 instr.Put (λ n. refl) (λ n. refl)
-row_keeps (instr.HCall hash f) = record { keeps = call_keeps 54 hash_function_values hash_function_number instr.HCall hash_functions_numbered (λ n g. refl) (λ n g. refl) }
-row_keeps (instr.ICall iterator f) = record { keeps = call_keeps 55 iterator_function_values iterator_function_number instr.ICall iterator_functions_numbered (λ n g. refl) (λ n g. refl) }
-row_keeps (instr.SetParm n) = number_keeps 56 instr.SetParm (λ n. refl) (λ n. refl)
-row_keeps instr.End = bare_keeps 57 instr.End refl refl
+call_row_keeps : {F : Type 0} (code : ℕ) (functions : List F) (number : F → ℕ) (f : ℕ → F → Instr) → ((n : ℕ) (g : F) → slice_get functions n ≡ Some g → number g ≡ n)
+    → ((n : ℕ) (g : F) → operation_code (f n g) ≡ code) → ((n : ℕ) (g : F) → fields_of (f n g) ≡ CallFields n (number g)) → KeepsFields code (call_row functions f)
+call_row_keeps code functions number f numbered is_code is_field = record { keeps = call_keeps code functions number f numbered is_code is_field }
 
-rows_numbered : AreNumbered operation_code 0 row_instrs
-rows_numbered = (refl, (refl, (refl, (refl, (refl, (refl, (refl, (refl, (refl, (refl, (refl, (refl, (refl, (refl, (refl, (refl, (refl, (refl, (refl, (refl, (refl, (refl, (refl, (refl, (refl, (refl, (refl, (refl, (refl, (refl, (refl, (refl, (refl, (refl, (refl, (refl, (refl, (refl, (refl, (refl, (refl, (refl, (refl, (refl, (refl, (refl, (refl, (refl, (refl, (refl, (refl, (refl, (refl, (refl, (refl, (refl, (refl, (refl, tt))))))))))))))))))))))))))))))))))))))))))))))))))))))))))
+-- rows keep their fields, the first one with this operation code, those behind it with the codes that follow
+record KeepFields (code : ℕ) (rows : List InstrRow) : Type 0 where
+  kept : (n : ℕ) (row : InstrRow) → slice_get rows n ≡ Some row → KeepsFields (code + n) row
+
+kept_at : (code : ℕ) (r : InstrRow) (rows : List InstrRow) → KeepsFields code r → KeepFields (suc code) rows
+    → (n : ℕ) (row : InstrRow) → slice_get (r ∷ rows) n ≡ Some row → KeepsFields (code + n) row
+kept_at code r rows first others zero row e =
+    let same : code ≡ code + zero = omega arith in
+    subst (λ k. KeepsFields k row) same (subst (KeepsFields code) (some_is r row e) first)
+kept_at code r rows first others (suc n) row e =
+    let same : suc code + n ≡ code + suc n = omega arith in
+    subst (λ k. KeepsFields k row) same (others.kept n row e)
+
+no_row : {code : ℕ} → KeepFields code []
+no_row = record { kept = λ n row e. absurd cc }
+
+infixr 20 ◌&◌
+◌&◌ : {code : ℕ} {row : InstrRow} {rows : List InstrRow} → KeepsFields code row → KeepFields (suc code) rows → KeepFields code (row ∷ rows)
+first & others = record { kept = kept_at _ _ _ first others }
+
+-- each row keeps its fields
+rows_keep : KeepFields 0 instr_rows
+rows_keep =
+    number_keeps 0 instr.Const (λ n. refl) (λ n. refl) & type_keeps 1 instr.Null (λ ty. refl) (λ ty. refl) &
+    number_keeps 2 instr.GLoad (λ n. refl) (λ n. refl) & number_keeps 3 instr.GStore (λ n. refl) (λ n. refl) &
+    number_keeps 4 instr.LLoad (λ n. refl) (λ n. refl) & number_keeps 5 instr.LStore (λ n. refl) (λ n. refl) &
+    bare_keeps 6 instr.DropTop refl refl & bare_keeps 7 instr.IToD refl refl &
+    digits_keep 8 instr.Rescale (λ p s. refl) (λ p s. refl) & length_keeps 9 instr.Pad (λ n. refl) (λ n. refl) &
+    length_keeps 10 instr.Cut (λ n. refl) (λ n. refl) & bare_keeps 11 instr.IAdd refl refl &
+    bare_keeps 12 instr.ISub refl refl & bare_keeps 13 instr.IMul refl refl & bare_keeps 14 instr.INeg refl refl &
+    bare_keeps 15 instr.IAbs refl refl & bare_keeps 16 instr.IMod refl refl & bare_keeps 17 instr.DAdd refl refl &
+    bare_keeps 18 instr.DSub refl refl & bare_keeps 19 instr.DMul refl refl & bare_keeps 20 instr.DDiv refl refl &
+    bare_keeps 21 instr.DNeg refl refl & bare_keeps 22 instr.DAbs refl refl & bare_keeps 23 instr.DMod refl refl &
+    bare_keeps 24 instr.DFloor refl refl & bare_keeps 25 instr.DCeil refl refl &
+    test_keeps 26 instr.ICmp (λ c. refl) (λ c. refl) & test_keeps 27 instr.DCmp (λ c. refl) (λ c. refl) &
+    test_keeps 28 instr.TCmp (λ c. refl) (λ c. refl) & bare_keeps 29 instr.And refl refl &
+    bare_keeps 30 instr.Or refl refl & bare_keeps 31 instr.Not refl refl & bare_keeps 32 instr.ITruth refl refl &
+    bare_keeps 33 instr.DTruth refl refl & bare_keeps 34 instr.IsNull refl refl &
+    number_keeps 35 instr.Choose (λ n. refl) (λ n. refl) & number_keeps 36 instr.Least (λ n. refl) (λ n. refl) &
+    number_keeps 37 instr.Greatest (λ n. refl) (λ n. refl) & bare_keeps 38 instr.Cat refl refl &
+    bare_keeps 39 instr.Len refl refl & bare_keeps 40 instr.Substr refl refl & bare_keeps 41 instr.SubFrom refl refl &
+    bare_keeps 42 instr.Trim refl refl & place_keeps 43 instr.Tick (λ p. refl) (λ p. refl) &
+    number_keeps 44 instr.Jump (λ n. refl) (λ n. refl) & number_keeps 45 instr.JFalse (λ n. refl) (λ n. refl) &
+    number_keeps 46 instr.JTrue (λ n. refl) (λ n. refl) & number_keeps 47 instr.Call (λ n. refl) (λ n. refl) &
+    bare_keeps 48 instr.Ret refl refl & bare_keeps 49 instr.RetV refl refl & bare_keeps 50 instr.NoWhen refl refl &
+    number_keeps 51 instr.Output (λ n. refl) (λ n. refl) & bare_keeps 52 instr.Show refl refl &
+    number_keeps 53 instr.Put (λ n. refl) (λ n. refl) &
+    call_row_keeps 54 hash_function_values hash_function_number instr.HCall hash_functions_numbered (λ n g. refl) (λ n g. refl) &
+    call_row_keeps 55 iterator_function_values iterator_function_number instr.ICall iterator_functions_numbered (λ n g. refl) (λ n g. refl) &
+    number_keeps 56 instr.SetParm (λ n. refl) (λ n. refl) & bare_keeps 57 instr.End refl refl & no_row
+
+-- the row of an instruction has the shape of its fields, and makes it of them
+abbrev MakesAgain : Instr → Option InstrRow → Type 0
+MakesAgain i None = ⊥
+MakesAgain i (Some row) = (row.shape ≡ shape_of_fields (fields_of i)) × (row.make (fields_of i) ≡ Some i)
+
+made_again : (i : Instr) → MakesAgain i (row_of_code (operation_code i))
+made_again (instr.Const n) = (refl, refl)
+made_again (instr.Null ty) = (refl, refl)
+made_again (instr.GLoad n) = (refl, refl)
+made_again (instr.GStore n) = (refl, refl)
+made_again (instr.LLoad n) = (refl, refl)
+made_again (instr.LStore n) = (refl, refl)
+made_again instr.DropTop = (refl, refl)
+made_again instr.IToD = (refl, refl)
+made_again (instr.Rescale p s) = (refl, refl)
+made_again (instr.Pad n) = (refl, refl)
+made_again (instr.Cut n) = (refl, refl)
+made_again instr.IAdd = (refl, refl)
+made_again instr.ISub = (refl, refl)
+made_again instr.IMul = (refl, refl)
+made_again instr.INeg = (refl, refl)
+made_again instr.IAbs = (refl, refl)
+made_again instr.IMod = (refl, refl)
+made_again instr.DAdd = (refl, refl)
+made_again instr.DSub = (refl, refl)
+made_again instr.DMul = (refl, refl)
+made_again instr.DDiv = (refl, refl)
+made_again instr.DNeg = (refl, refl)
+made_again instr.DAbs = (refl, refl)
+made_again instr.DMod = (refl, refl)
+made_again instr.DFloor = (refl, refl)
+made_again instr.DCeil = (refl, refl)
+made_again (instr.ICmp comparison) = (refl, rw (comparison_found comparison) refl)
+made_again (instr.DCmp comparison) = (refl, rw (comparison_found comparison) refl)
+made_again (instr.TCmp comparison) = (refl, rw (comparison_found comparison) refl)
+made_again instr.And = (refl, refl)
+made_again instr.Or = (refl, refl)
+made_again instr.Not = (refl, refl)
+made_again instr.ITruth = (refl, refl)
+made_again instr.DTruth = (refl, refl)
+made_again instr.IsNull = (refl, refl)
+made_again (instr.Choose n) = (refl, refl)
+made_again (instr.Least n) = (refl, refl)
+made_again (instr.Greatest n) = (refl, refl)
+made_again instr.Cat = (refl, refl)
+made_again instr.Len = (refl, refl)
+made_again instr.Substr = (refl, refl)
+made_again instr.SubFrom = (refl, refl)
+made_again instr.Trim = (refl, refl)
+made_again (instr.Tick place) = (refl, refl)
+made_again (instr.Jump n) = (refl, refl)
+made_again (instr.JFalse n) = (refl, refl)
+made_again (instr.JTrue n) = (refl, refl)
+made_again (instr.Call n) = (refl, refl)
+made_again instr.Ret = (refl, refl)
+made_again instr.RetV = (refl, refl)
+made_again instr.NoWhen = (refl, refl)
+made_again (instr.Output n) = (refl, refl)
+made_again instr.Show = (refl, refl)
+made_again (instr.Put n) = (refl, refl)
+made_again (instr.HCall hash f) = (refl, rw (hash_function_found f) refl)
+made_again (instr.ICall iterator f) = (refl, rw (iterator_function_found f) refl)
+made_again (instr.SetParm n) = (refl, refl)
+made_again instr.End = (refl, refl)
 
 written_is : (code : ℕ) (fields : Fields) (i : Instr) → operation_code i ≡ code → fields_of i ≡ fields → written_instr_of i ≡ record { code = code; fields = fields }
 written_is code fields i same_code same_fields = rw (same_code, same_fields) refl
@@ -377,130 +373,32 @@ written_is code fields i same_code same_fields = rw (same_code, same_fields) ref
 -- no other instruction is written so
 pub instr_only : (w : WrittenInstr) (i : Instr) → instr_of w ≡ Some i → written_instr_of i ≡ w
 instr_only w i e =
-    let k = chained_some (λ (t : Instr). (instr_row_of t).make w.fields) (slice_get row_instrs w.code) i e in
-    let row : KeepsFields (operation_code k.0) (instr_row_of k.0) = row_keeps k.0 in
+    let k = chained_some (λ (row : InstrRow). row.make w.fields) (row_of_code w.code) i e in
+    let same_code : 0 + w.code ≡ w.code = omega arith in
+    let row : KeepsFields w.code k.0 = subst (λ code. KeepsFields code k.0) same_code (rows_keep.kept w.code k.0 k.1) in
     let same = row.keeps w.fields i k.2 in
-    let numbered : operation_code k.0 ≡ w.code = number_at_place operation_code 0 row_instrs rows_numbered w.code k.0 k.1 ∙ omega arith in
-    written_is w.code w.fields i (same.0 ∙ numbered) same.1
+    written_is w.code w.fields i same.0 same.1
+
+again_of : (i : Instr) (o : Option InstrRow) → MakesAgain i o → option_and_then (λ (row : InstrRow). row.make (fields_of i)) o ≡ Some i
+again_of i None h = absurd h
+again_of i (Some row) h = h.1
+
+-- an instruction is what is written of it
+pub instr_written : (i : Instr) → instr_of (written_instr_of i) ≡ Some i
+instr_written i = again_of i (row_of_code (operation_code i)) (made_again i)
+
+shape_found : (i : Instr) (o : Option InstrRow) → MakesAgain i o → option_map_or (λ (row : InstrRow). row.shape) o shape.NoField ≡ shape_of_fields (fields_of i)
+shape_found i None h = absurd h
+shape_found i (Some row) h = h.0
 
 -- the row with an instruction's operation code has the shape of its fields
-pub own_shape : (i : Instr) → option_map_or (λ (t : Instr). (instr_row_of t).shape) (slice_get row_instrs (operation_code i)) shape.NoField ≡ shape_of_fields (fields_of i)
-own_shape (instr.Const n) = refl
-own_shape (instr.Null ty) = refl
-own_shape (instr.GLoad n) = refl
-own_shape (instr.GStore n) = refl
-own_shape (instr.LLoad n) = refl
-own_shape (instr.LStore n) = refl
-own_shape instr.DropTop = refl
-own_shape instr.IToD = refl
-own_shape (instr.Rescale p s) = refl
-own_shape (instr.Pad n) = refl
-own_shape (instr.Cut n) = refl
-own_shape instr.IAdd = refl
-own_shape instr.ISub = refl
-own_shape instr.IMul = refl
-own_shape instr.INeg = refl
-own_shape instr.IAbs = refl
-own_shape instr.IMod = refl
-own_shape instr.DAdd = refl
-own_shape instr.DSub = refl
-own_shape instr.DMul = refl
-own_shape instr.DDiv = refl
-own_shape instr.DNeg = refl
-own_shape instr.DAbs = refl
-own_shape instr.DMod = refl
-own_shape instr.DFloor = refl
-own_shape instr.DCeil = refl
-own_shape (instr.ICmp comparison) = refl
-own_shape (instr.DCmp comparison) = refl
-own_shape (instr.TCmp comparison) = refl
-own_shape instr.And = refl
-own_shape instr.Or = refl
-own_shape instr.Not = refl
-own_shape instr.ITruth = refl
-own_shape instr.DTruth = refl
-own_shape instr.IsNull = refl
-own_shape (instr.Choose n) = refl
-own_shape (instr.Least n) = refl
-own_shape (instr.Greatest n) = refl
-own_shape instr.Cat = refl
-own_shape instr.Len = refl
-own_shape instr.Substr = refl
-own_shape instr.SubFrom = refl
-own_shape instr.Trim = refl
-own_shape (instr.Tick place) = refl
-own_shape (instr.Jump n) = refl
-own_shape (instr.JFalse n) = refl
-own_shape (instr.JTrue n) = refl
-own_shape (instr.Call n) = refl
-own_shape instr.Ret = refl
-own_shape instr.RetV = refl
-own_shape instr.NoWhen = refl
-own_shape (instr.Output n) = refl
-own_shape instr.Show = refl
-own_shape (instr.Put n) = refl
-own_shape (instr.HCall hash f) = refl
-own_shape (instr.ICall iterator f) = refl
-own_shape (instr.SetParm n) = refl
-own_shape instr.End = refl
+pub own_shape : (i : Instr) → option_map_or (λ (row : InstrRow). row.shape) (row_of_code (operation_code i)) shape.NoField ≡ shape_of_fields (fields_of i)
+own_shape i = shape_found i (row_of_code (operation_code i)) (made_again i)
+
+found_within : (i : Instr) (code : ℕ) (o : Option InstrRow) → slice_get instr_rows code ≡ o → MakesAgain i o → nat_lt code (length instr_rows) ≡ true
+found_within i code None e h = absurd h
+found_within i code (Some row) e h = lt-ltb code (length instr_rows) (slice_get_within instr_rows code row e)
 
 -- an operation code is the number of a row
-pub own_code : (i : Instr) → nat_lt (operation_code i) (length row_instrs) ≡ true
-own_code (instr.Const n) = refl
-own_code (instr.Null ty) = refl
-own_code (instr.GLoad n) = refl
-own_code (instr.GStore n) = refl
-own_code (instr.LLoad n) = refl
-own_code (instr.LStore n) = refl
-own_code instr.DropTop = refl
-own_code instr.IToD = refl
-own_code (instr.Rescale p s) = refl
-own_code (instr.Pad n) = refl
-own_code (instr.Cut n) = refl
-own_code instr.IAdd = refl
-own_code instr.ISub = refl
-own_code instr.IMul = refl
-own_code instr.INeg = refl
-own_code instr.IAbs = refl
-own_code instr.IMod = refl
-own_code instr.DAdd = refl
-own_code instr.DSub = refl
-own_code instr.DMul = refl
-own_code instr.DDiv = refl
-own_code instr.DNeg = refl
-own_code instr.DAbs = refl
-own_code instr.DMod = refl
-own_code instr.DFloor = refl
-own_code instr.DCeil = refl
-own_code (instr.ICmp comparison) = refl
-own_code (instr.DCmp comparison) = refl
-own_code (instr.TCmp comparison) = refl
-own_code instr.And = refl
-own_code instr.Or = refl
-own_code instr.Not = refl
-own_code instr.ITruth = refl
-own_code instr.DTruth = refl
-own_code instr.IsNull = refl
-own_code (instr.Choose n) = refl
-own_code (instr.Least n) = refl
-own_code (instr.Greatest n) = refl
-own_code instr.Cat = refl
-own_code instr.Len = refl
-own_code instr.Substr = refl
-own_code instr.SubFrom = refl
-own_code instr.Trim = refl
-own_code (instr.Tick place) = refl
-own_code (instr.Jump n) = refl
-own_code (instr.JFalse n) = refl
-own_code (instr.JTrue n) = refl
-own_code (instr.Call n) = refl
-own_code instr.Ret = refl
-own_code instr.RetV = refl
-own_code instr.NoWhen = refl
-own_code (instr.Output n) = refl
-own_code instr.Show = refl
-own_code (instr.Put n) = refl
-own_code (instr.HCall hash f) = refl
-own_code (instr.ICall iterator f) = refl
-own_code (instr.SetParm n) = refl
-own_code instr.End = refl
+pub own_code : (i : Instr) → nat_lt (operation_code i) (length instr_rows) ≡ true
+own_code i = found_within i (operation_code i) (row_of_code (operation_code i)) refl (made_again i)

@@ -1,7 +1,6 @@
 -- Instructions in an object file: an operation code, and the fields of its row in the machine's table.
-use Rattle.std.specs.Prelude.{ℕ, Bool, true, false, nat_lt, if◌then◌else◌, List, [], ◌∷◌, length, slice_get, Option, Some, None}
+use Rattle.std.specs.Prelude.{ℕ, Bool, true, false, nat_lt, if◌then◌else◌, List, [], ◌∷◌, length, slice_get, Option, Some, None, unwrap_or}
 use Rattle.std.specs.Option.{option_map, option_map_or, option_and_then}
-use Rattle.ds2_base.specs.Place.{start_place}
 use Rattle.ds2_base.specs.declared.place.Place.{Place}
 use Rattle.ds2_value.specs.Types.{in_bounds}
 use Rattle.ds2_value.specs.declared.comparison.Comparison.{Comparison}
@@ -11,7 +10,6 @@ use Rattle.ds2_value.specs.declared.hash_function.HashFunction.TheVariants.{Find
 use Rattle.ds2_value.specs.declared.hash_function.IteratorFunction.{IteratorFunction}
 use Rattle.ds2_value.specs.declared.hash_function.IteratorFunction.TheVariants.{First, Next, Prev, Last}
 use Rattle.ds2_value.specs.declared.ty.Ty.{Ty}
-use Rattle.ds2_value.specs.declared.ty.Ty.TheVariants.{BigInt}
 use Rattle.ds2_code.specs.declared.instr.Instr.{Instr}
 use Rattle.ds2_code.specs.declared.instr.Instr.TheVariants as instr
 use Rattle.ds2_code.specs.OperationCode.{operation_code}
@@ -175,92 +173,37 @@ place_row f = record { shape = shape.PlaceFields; make = λ fields. option_map f
 abbrev pub function_call : {F : Type 0} → List F → ℕ × ℕ → Option (ℕ × F)
 function_call functions x = option_map (λ f. (x.0, f)) (slice_get functions x.1)
 
--- a row with a call of a hash object
-abbrev pub hash_row : (ℕ → HashFunction → Instr) → InstrRow
-hash_row f = record {
+-- a row with an object and one of these calls of it
+abbrev pub call_row : {F : Type 0} → List F → (ℕ → F → Instr) → InstrRow
+call_row {F} functions f = record {
   shape = shape.CallFields;
-  make = λ fields. option_map (λ (x : ℕ × HashFunction). f x.0 x.1) (option_and_then (function_call hash_function_values) (field_call fields));
+  make = λ fields. option_map (λ (x : ℕ × F). f x.0 x.1) (option_and_then (function_call functions) (field_call fields));
 }
 
--- a row with a call of a hash iterator
-abbrev pub iterator_row : (ℕ → IteratorFunction → Instr) → InstrRow
-iterator_row f = record {
-  shape = shape.CallFields;
-  make = λ fields. option_map (λ (x : ℕ × IteratorFunction). f x.0 x.1) (option_and_then (function_call iterator_function_values) (field_call fields));
-}
+-- the rows, in the order of the operation codes
+abbrev pub instr_rows : List InstrRow
+instr_rows =
+    number_row instr.Const ∷ type_row instr.Null ∷ number_row instr.GLoad ∷ number_row instr.GStore ∷
+    number_row instr.LLoad ∷ number_row instr.LStore ∷ bare_row instr.DropTop ∷ bare_row instr.IToD ∷
+    digits_row instr.Rescale ∷ length_row instr.Pad ∷ length_row instr.Cut ∷ bare_row instr.IAdd ∷ bare_row instr.ISub ∷
+    bare_row instr.IMul ∷ bare_row instr.INeg ∷ bare_row instr.IAbs ∷ bare_row instr.IMod ∷ bare_row instr.DAdd ∷
+    bare_row instr.DSub ∷ bare_row instr.DMul ∷ bare_row instr.DDiv ∷ bare_row instr.DNeg ∷ bare_row instr.DAbs ∷
+    bare_row instr.DMod ∷ bare_row instr.DFloor ∷ bare_row instr.DCeil ∷ test_row instr.ICmp ∷ test_row instr.DCmp ∷
+    test_row instr.TCmp ∷ bare_row instr.And ∷ bare_row instr.Or ∷ bare_row instr.Not ∷ bare_row instr.ITruth ∷
+    bare_row instr.DTruth ∷ bare_row instr.IsNull ∷ number_row instr.Choose ∷ number_row instr.Least ∷
+    number_row instr.Greatest ∷ bare_row instr.Cat ∷ bare_row instr.Len ∷ bare_row instr.Substr ∷ bare_row instr.SubFrom ∷
+    bare_row instr.Trim ∷ place_row instr.Tick ∷ number_row instr.Jump ∷ number_row instr.JFalse ∷ number_row instr.JTrue ∷
+    number_row instr.Call ∷ bare_row instr.Ret ∷ bare_row instr.RetV ∷ bare_row instr.NoWhen ∷ number_row instr.Output ∷
+    bare_row instr.Show ∷ number_row instr.Put ∷ call_row hash_function_values instr.HCall ∷
+    call_row iterator_function_values instr.ICall ∷ number_row instr.SetParm ∷ bare_row instr.End ∷ []
 
--- the row of an instruction
+-- the row with an operation code, where there is one
+abbrev pub row_of_code : ℕ → Option InstrRow
+row_of_code code = slice_get instr_rows code
+
+-- the row of an instruction; each has one
 abbrev pub instr_row_of : Instr → InstrRow
-instr_row_of (instr.Const n) = number_row instr.Const
-instr_row_of (instr.Null ty) = type_row instr.Null
-instr_row_of (instr.GLoad n) = number_row instr.GLoad
-instr_row_of (instr.GStore n) = number_row instr.GStore
-instr_row_of (instr.LLoad n) = number_row instr.LLoad
-instr_row_of (instr.LStore n) = number_row instr.LStore
-instr_row_of instr.DropTop = bare_row instr.DropTop
-instr_row_of instr.IToD = bare_row instr.IToD
-instr_row_of (instr.Rescale p s) = digits_row instr.Rescale
-instr_row_of (instr.Pad n) = length_row instr.Pad
-instr_row_of (instr.Cut n) = length_row instr.Cut
-instr_row_of instr.IAdd = bare_row instr.IAdd
-instr_row_of instr.ISub = bare_row instr.ISub
-instr_row_of instr.IMul = bare_row instr.IMul
-instr_row_of instr.INeg = bare_row instr.INeg
-instr_row_of instr.IAbs = bare_row instr.IAbs
-instr_row_of instr.IMod = bare_row instr.IMod
-instr_row_of instr.DAdd = bare_row instr.DAdd
-instr_row_of instr.DSub = bare_row instr.DSub
-instr_row_of instr.DMul = bare_row instr.DMul
-instr_row_of instr.DDiv = bare_row instr.DDiv
-instr_row_of instr.DNeg = bare_row instr.DNeg
-instr_row_of instr.DAbs = bare_row instr.DAbs
-instr_row_of instr.DMod = bare_row instr.DMod
-instr_row_of instr.DFloor = bare_row instr.DFloor
-instr_row_of instr.DCeil = bare_row instr.DCeil
-instr_row_of (instr.ICmp comparison) = test_row instr.ICmp
-instr_row_of (instr.DCmp comparison) = test_row instr.DCmp
-instr_row_of (instr.TCmp comparison) = test_row instr.TCmp
-instr_row_of instr.And = bare_row instr.And
-instr_row_of instr.Or = bare_row instr.Or
-instr_row_of instr.Not = bare_row instr.Not
-instr_row_of instr.ITruth = bare_row instr.ITruth
-instr_row_of instr.DTruth = bare_row instr.DTruth
-instr_row_of instr.IsNull = bare_row instr.IsNull
-instr_row_of (instr.Choose n) = number_row instr.Choose
-instr_row_of (instr.Least n) = number_row instr.Least
-instr_row_of (instr.Greatest n) = number_row instr.Greatest
-instr_row_of instr.Cat = bare_row instr.Cat
-instr_row_of instr.Len = bare_row instr.Len
-instr_row_of instr.Substr = bare_row instr.Substr
-instr_row_of instr.SubFrom = bare_row instr.SubFrom
-instr_row_of instr.Trim = bare_row instr.Trim
-instr_row_of (instr.Tick place) = place_row instr.Tick
-instr_row_of (instr.Jump n) = number_row instr.Jump
-instr_row_of (instr.JFalse n) = number_row instr.JFalse
-instr_row_of (instr.JTrue n) = number_row instr.JTrue
-instr_row_of (instr.Call n) = number_row instr.Call
-instr_row_of instr.Ret = bare_row instr.Ret
-instr_row_of instr.RetV = bare_row instr.RetV
-instr_row_of instr.NoWhen = bare_row instr.NoWhen
-instr_row_of (instr.Output n) = number_row instr.Output
-instr_row_of instr.Show = bare_row instr.Show
-instr_row_of (instr.Put n) = number_row instr.Put
-instr_row_of (instr.HCall hash f) = hash_row instr.HCall
-instr_row_of (instr.ICall iterator f) = iterator_row instr.ICall
-instr_row_of (instr.SetParm n) = number_row instr.SetParm
-instr_row_of instr.End = bare_row instr.End
-
--- an instruction of each row, in the order of the operation codes
-abbrev pub row_instrs : List Instr
-row_instrs =
-    instr.Const 0 ∷ instr.Null BigInt ∷ instr.GLoad 0 ∷ instr.GStore 0 ∷ instr.LLoad 0 ∷ instr.LStore 0 ∷ instr.DropTop ∷
-    instr.IToD ∷ instr.Rescale 0 0 ∷ instr.Pad 0 ∷ instr.Cut 0 ∷ instr.IAdd ∷ instr.ISub ∷ instr.IMul ∷ instr.INeg ∷ instr.IAbs ∷
-    instr.IMod ∷ instr.DAdd ∷ instr.DSub ∷ instr.DMul ∷ instr.DDiv ∷ instr.DNeg ∷ instr.DAbs ∷ instr.DMod ∷ instr.DFloor ∷
-    instr.DCeil ∷ instr.ICmp Equal ∷ instr.DCmp Equal ∷ instr.TCmp Equal ∷ instr.And ∷ instr.Or ∷ instr.Not ∷ instr.ITruth ∷
-    instr.DTruth ∷ instr.IsNull ∷ instr.Choose 0 ∷ instr.Least 0 ∷ instr.Greatest 0 ∷ instr.Cat ∷ instr.Len ∷ instr.Substr ∷
-    instr.SubFrom ∷ instr.Trim ∷ instr.Tick start_place ∷ instr.Jump 0 ∷ instr.JFalse 0 ∷ instr.JTrue 0 ∷ instr.Call 0 ∷
-    instr.Ret ∷ instr.RetV ∷ instr.NoWhen ∷ instr.Output 0 ∷ instr.Show ∷ instr.Put 0 ∷ instr.HCall 0 Find ∷
-    instr.ICall 0 First ∷ instr.SetParm 0 ∷ instr.End ∷ []
+instr_row_of i = unwrap_or (row_of_code (operation_code i)) (bare_row i)
 
 -- the fields of an instruction
 abbrev pub fields_of : Instr → Fields
@@ -270,68 +213,36 @@ fields_of (instr.GLoad n) = NumberField n
 fields_of (instr.GStore n) = NumberField n
 fields_of (instr.LLoad n) = NumberField n
 fields_of (instr.LStore n) = NumberField n
-fields_of instr.DropTop = NoField
-fields_of instr.IToD = NoField
 fields_of (instr.Rescale p s) = DigitsFields p s
 fields_of (instr.Pad n) = LengthField n
 fields_of (instr.Cut n) = LengthField n
-fields_of instr.IAdd = NoField
-fields_of instr.ISub = NoField
-fields_of instr.IMul = NoField
-fields_of instr.INeg = NoField
-fields_of instr.IAbs = NoField
-fields_of instr.IMod = NoField
-fields_of instr.DAdd = NoField
-fields_of instr.DSub = NoField
-fields_of instr.DMul = NoField
-fields_of instr.DDiv = NoField
-fields_of instr.DNeg = NoField
-fields_of instr.DAbs = NoField
-fields_of instr.DMod = NoField
-fields_of instr.DFloor = NoField
-fields_of instr.DCeil = NoField
 fields_of (instr.ICmp comparison) = TestField (comparison_number comparison)
 fields_of (instr.DCmp comparison) = TestField (comparison_number comparison)
 fields_of (instr.TCmp comparison) = TestField (comparison_number comparison)
-fields_of instr.And = NoField
-fields_of instr.Or = NoField
-fields_of instr.Not = NoField
-fields_of instr.ITruth = NoField
-fields_of instr.DTruth = NoField
-fields_of instr.IsNull = NoField
 fields_of (instr.Choose n) = NumberField n
 fields_of (instr.Least n) = NumberField n
 fields_of (instr.Greatest n) = NumberField n
-fields_of instr.Cat = NoField
-fields_of instr.Len = NoField
-fields_of instr.Substr = NoField
-fields_of instr.SubFrom = NoField
-fields_of instr.Trim = NoField
 fields_of (instr.Tick place) = PlaceFields place.line place.column
 fields_of (instr.Jump n) = NumberField n
 fields_of (instr.JFalse n) = NumberField n
 fields_of (instr.JTrue n) = NumberField n
 fields_of (instr.Call n) = NumberField n
-fields_of instr.Ret = NoField
-fields_of instr.RetV = NoField
-fields_of instr.NoWhen = NoField
 fields_of (instr.Output n) = NumberField n
-fields_of instr.Show = NoField
 fields_of (instr.Put n) = NumberField n
 fields_of (instr.HCall hash f) = CallFields hash (hash_function_number f)
 fields_of (instr.ICall iterator f) = CallFields iterator (iterator_function_number f)
 fields_of (instr.SetParm n) = NumberField n
-fields_of instr.End = NoField
+fields_of _ = NoField
 
 -- ---- instructions
 
 -- an operation code is the number of a row
 unfoldable pub operation_part : FormatPart ℕ
-operation_part = checked_part (λ (code : ℕ). nat_lt code (length row_instrs)) byte_part
+operation_part = checked_part (λ (code : ℕ). nat_lt code (length instr_rows)) byte_part
 
 -- the fields of the row with this operation code
 abbrev pub fields_part : ℕ → FormatPart Fields
-fields_part code = shape_part (option_map_or (λ (i : Instr). (instr_row_of i).shape) (slice_get row_instrs code) shape.NoField)
+fields_part code = shape_part (option_map_or (λ (row : InstrRow). row.shape) (row_of_code code) shape.NoField)
 
 -- an operation code, and the fields of its row
 unfoldable pub written_instr_part : FormatPart WrittenInstr
@@ -344,4 +255,4 @@ written_instr_of i = record { code = operation_code i; fields = fields_of i }
 
 -- the instruction that is written so, where there is one
 abbrev pub instr_of : WrittenInstr → Option Instr
-instr_of w = option_and_then (λ (i : Instr). (instr_row_of i).make w.fields) (slice_get row_instrs w.code)
+instr_of w = option_and_then (λ (row : InstrRow). row.make w.fields) (row_of_code w.code)

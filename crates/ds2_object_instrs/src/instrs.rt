@@ -1,8 +1,8 @@
 //! Instructions: an operation code, and the fields of its row in the machine's table.
-ghost use Rattle.std.specs.Prelude.{◌≡◌, slice_get, IsTrue, OnOk, Ok};
+ghost use Rattle.std.specs.Prelude.{◌≡◌, slice_get, map, IsTrue, OnOk, Ok};
 ghost use Rattle.std.specs.Option.{option_map, option_and_then};
 ghost use Rattle.ds2_object_words.specs.Parts.{ReadsPart, Writes, and_read};
-ghost use Rattle.ds2_object_instrs.specs.InstrSpelling.{comparison_values, comparison_number, hash_function_values, hash_function_number, iterator_function_values, iterator_function_number, field_number, field_type, field_digits, field_length, field_test, field_place, field_call, is_no_field, shape_part, shape_of_fields, fields_spelled, written_place, function_call, bare_row, instr_row_of, row_instrs, fields_of, written_instr_part, written_instr_of, instr_of};
+ghost use Rattle.ds2_object_instrs.specs.InstrSpelling.{comparison_values, comparison_number, hash_function_values, hash_function_number, iterator_function_values, iterator_function_number, field_number, field_type, field_digits, field_length, field_test, field_place, field_call, is_no_field, shape_part, shape_of_fields, fields_spelled, written_place, function_call, bare_row, row_of_code, instr_row_of, fields_of, written_instr_part, written_instr_of, instr_of};
 
 use ds2_base::{Bytes, OutOfMemory, Place, Stop};
 use ds2_code::{Instr, with_rows};
@@ -385,11 +385,18 @@ fn instr_at(instrs: &[Instr], number: u8) -> Option<Instr>
     instrs.get(number as usize).copied()
 }
 
-// The instruction of the row with this operation code.
-fn row_at(code: u8) -> Option<Instr>
-    ensures { result ≡ slice_get row_instrs code }
+// The instruction with this number, for its row.
+fn row_among(instrs: &[Instr], number: u8) -> Option<Instr>
+    ensures { option_map instr_row_of result ≡ slice_get (map instr_row_of instrs.now) number }
 {
-    instr_at(&ROW_INSTRS, code)
+    instr_at(instrs, number)
+}
+
+// An instruction of the row with this operation code.
+fn row_at(code: u8) -> Option<Instr>
+    ensures { option_map instr_row_of result ≡ row_of_code code }
+{
+    row_among(&ROW_INSTRS, code)
 }
 
 // What was read in a row.

@@ -1,6 +1,6 @@
 //! Instructions in object files: an operation code, and the fields of its row in the machine's table.
 //!
-//! The rows of the version stand in one table (`specs/InstrSpelling.antt`, `instr_row_of` and `row_instrs`). [`read_instr`] takes an
+//! The rows of the version stand in one table (`specs/InstrSpelling.antt`, `instr_rows`). [`read_instr`] takes an
 //! instruction off the front of bytes, [`write_instr`] puts its one spelling behind bytes.
 #![tactic(auto)]
 

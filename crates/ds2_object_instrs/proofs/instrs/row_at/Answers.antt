@@ -1,4 +1,4 @@
 use Rattle.ds2_object_instrs.proofs.instrs.row_at.Goals as goal
 
 pub returns : goal.returns
-returns c = c.instr_at.ensures
+returns c = c.row_among.ensures
