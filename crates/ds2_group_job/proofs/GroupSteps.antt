@@ -14,8 +14,8 @@ use Rattle.ds2_machine.specs.Kept.{all_written}
 use Rattle.ds2_machine.specs.declared.record.OutRow.{OutRow}
 use Rattle.ds2_machine.specs.declared.record.UnitRecord.{UnitRecord}
 use Rattle.ds2_unit.specs.UnitsRun.{StandsWhere}
-use Rattle.ds2_staged.specs.Turns.{HasRunTurns}
-use Rattle.ds2_staged.specs.declared.turns_end.TurnsEnd.{TurnsEnd}
+use Rattle.ds2_unit.specs.UnitsRun.{HasRunLoads}
+use Rattle.ds2_unit.specs.declared.units_end.UnitsEnd.{UnitsEnd}
 use Rattle.ds2_group_job.specs.GroupRuns.{run_of_group, ending_of_reached, end_of_group, group_at_number}
 use Rattle.ds2_group_job.specs.StageJobs.{StageJob, answer_of_group}
 use Rattle.ds2_group_job.specs.WhateverRan.{IsBehindGroups, GivesWhateverRan}
@@ -34,8 +34,8 @@ ending_told (Standing state) ending now h = h.0
 ending_told (Halted fault place) ending now h = h.0
 ending_told Astray ending now h = absurd h
 
-module _ (before after : UnitRecord) (outcome : GroupResult ProgramData) (end : TurnsEnd) (now : MachineAtRest) (no_rows : before.rows ≡ []) (no_lines : before.lines ≡ [])
-    (ran : HasRunTurns HasKeptRows before after outcome end now) where
+module _ (before after : UnitRecord) (outcome : GroupResult ProgramData) (end : UnitsEnd) (now : MachineAtRest) (no_rows : before.rows ≡ []) (no_lines : before.lines ≡ [])
+    (ran : HasRunLoads HasKeptRows before after outcome end now) where
   kept : HasKeptRows before after outcome.rows outcome.lines
   kept = ran.taken before [] [] (sym (append-nil (all_written before.rows)), sym (append-nil before.lines))
 

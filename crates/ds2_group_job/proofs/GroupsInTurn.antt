@@ -18,7 +18,7 @@ use Rattle.ds2_bags.specs.declared.group_end.GroupEnd.{GroupEnd}
 use Rattle.ds2_code.specs.declared.parts.ProgramParts.{ProgramParts}
 use Rattle.ds2_code.specs.Desk.{ProgramData, SlotSettings}
 use Rattle.ds2_code_answer.specs.CodeAnswer.{code_units}
-use Rattle.ds2_staged.specs.GroupedLoads.{loads_of_groups}
+use Rattle.ds2_loads.specs.GroupedLoads.{loads_of_groups}
 use Rattle.ds2_group_job.specs.GroupRuns.{run_of_group, ending_of_reached, end_of_group, loads_or_none, group_at_number, last_ending, executed_together, given_together}
 use Rattle.ds2_group_job.specs.WhateverRan.{IsBehindGroups, GivesWhateverRan}
 use Rattle.ds2_group_job.proofs.GroupSteps.{one_more}

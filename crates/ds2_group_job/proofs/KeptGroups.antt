@@ -9,7 +9,7 @@ use Rattle.ds2_bags.specs.declared.group_end.GroupEnd.{GroupEnd}
 use Rattle.ds2_machine.specs.declared.record.OutRow.{OutRow}
 use Rattle.ds2_machine.specs.declared.record.UnitRecord.{UnitRecord}
 use Rattle.ds2_staged.specs.Threads.{rows_kept}
-use Rattle.ds2_staged.specs.declared.turns_end.TurnsEnd.{TurnsEnd}
+use Rattle.ds2_unit.specs.declared.units_end.UnitsEnd.{UnitsEnd}
 use Rattle.ds2_group_job.specs.GroupRuns.{last_ending, executed_together, given_together}
 use Rattle.ds2_group_job.specs.StageJobs.{HasKeptGroups}
 
@@ -38,11 +38,11 @@ executed_more (x ∷ ends) e =
     all
 
 -- nothing yet
-pub kept_none : (written : UnitRecord) (end : TurnsEnd) → end.ending ≡ Normal → end.executed ≡ 0 → HasKeptGroups written written (given_together []) end
+pub kept_none : (written : UnitRecord) (end : UnitsEnd) → end.ending ≡ Normal → end.executed ≡ 0 → HasKeptGroups written written (given_together []) end
 kept_none written end ending executed = record { rows = sym (append-nil (rows_kept written.rows)); lines = sym (append-nil written.lines); ending = ending; executed = executed }
 
 -- what one more group gave
-pub kept_more : (before so_far now : UnitRecord) (ends : List GroupEnd) (e : GroupEnd) (all one end : TurnsEnd) → HasKeptGroups before so_far (given_together ends) all → HasKeptGroups so_far now e one
+pub kept_more : (before so_far now : UnitRecord) (ends : List GroupEnd) (e : GroupEnd) (all one end : UnitsEnd) → HasKeptGroups before so_far (given_together ends) all → HasKeptGroups so_far now e one
     → end.ending ≡ one.ending → end.executed ≡ all.executed + one.executed → HasKeptGroups before now (given_together (ends ++ e ∷ [])) end
 kept_more before so_far now ends e all one end kept more ending executed = record {
   rows = more.rows ∙ ap (λ rs. rs ++ e.rows) kept.rows ∙ append_assoc (rows_kept before.rows) (flat_map (λ (x : GroupEnd). x.rows) ends) e.rows ∙ ap (λ rs. rows_kept before.rows ++ rs) (sym (flat_more (λ (x : GroupEnd). x.rows) ends e));

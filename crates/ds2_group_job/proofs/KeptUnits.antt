@@ -22,7 +22,7 @@ use Rattle.ds2_machine.specs.declared.record.UnitRecord.{UnitRecord}
 use Rattle.ds2_machine.specs.declared.unit_end.UnitEnd.{UnitEnd}
 use Rattle.ds2_staged.specs.Threads.{IsThreadEnd, rows_kept}
 use Rattle.ds2_staged.specs.declared.thread.ThreadEnd.{ThreadEnd}
-use Rattle.ds2_staged.specs.declared.turns_end.TurnsEnd.{TurnsEnd}
+use Rattle.ds2_unit.specs.declared.units_end.UnitsEnd.{UnitsEnd}
 use Rattle.ds2_group_job.specs.GroupRuns.{ending_of_reached, end_of_group}
 use Rattle.ds2_group_job.specs.KeptAnswers.{HasKeptTold}
 use Rattle.ds2_group_job.specs.StageJobs.{HasKeptGroups}
@@ -56,7 +56,7 @@ unit_kept before after unit takes =
     record { rows = kept_rows before after unit.rows unit.lines kept; lines = kept.1 }
 
 -- a unit, and nothing behind it
-alone : (before after : UnitRecord) (unit : Progress) (n : ℕ) (ending : Ending) (end : TurnsEnd) → HasKeptUnit before after unit → end.ending ≡ ending → end.executed ≡ n
+alone : (before after : UnitRecord) (unit : Progress) (n : ℕ) (ending : Ending) (end : UnitsEnd) → HasKeptUnit before after unit → end.ending ≡ ending → end.executed ≡ n
     → HasKeptTold before after (told_by_answer (followed_by unit n (nothing_left (Some ending)))) end
 alone before after unit n ending end kept ended executed = record {
   rows = kept.rows ∙ ap (λ rs. rows_kept before.rows ++ rows_of rs) (sym (append-nil unit.rows));
@@ -83,7 +83,7 @@ early : (e f : Ending) → e ≡ f → is_early f ≡ false → is_early e ≡ t
 early e f is not was = let not_early : is_early e ≡ false = ap is_early is ∙ not in absurd cc
 
 -- a unit that faulted is the last one
-pub was_last : (outcome : UnitOutcome ProgramData) (go : ProgramData → Answer) (before after : UnitRecord) (end : UnitEnd) (now : ProgramData) (told : TurnsEnd) → IsUnitEnd HasKeptRows before after outcome end now → is_early end.ending ≡ true
+pub was_last : (outcome : UnitOutcome ProgramData) (go : ProgramData → Answer) (before after : UnitRecord) (end : UnitEnd) (now : ProgramData) (told : UnitsEnd) → IsUnitEnd HasKeptRows before after outcome end now → is_early end.ending ≡ true
     → told.ending ≡ end.ending → told.executed ≡ end.executed → HasKeptTold before after (told_by_answer (then_unit outcome go)) told
 was_last (Completed left unit n) go before after end now told h faulted ending executed = absurd (early end.ending Normal h.0 refl faulted)
 was_last (Interrupted fault unit n) go before after end now told h faulted ending executed =
@@ -91,14 +91,14 @@ was_last (Interrupted fault unit n) go before after end now told h faulted endin
 was_last Strayed go before after end now told h faulted ending executed = absurd h
 
 -- the last unit, however it ended
-pub last_kept : (outcome : UnitOutcome ProgramData) (before after : UnitRecord) (end : UnitEnd) (now : ProgramData) (told : TurnsEnd) → IsUnitEnd HasKeptRows before after outcome end now → told.ending ≡ end.ending → told.executed ≡ end.executed
+pub last_kept : (outcome : UnitOutcome ProgramData) (before after : UnitRecord) (end : UnitEnd) (now : ProgramData) (told : UnitsEnd) → IsUnitEnd HasKeptRows before after outcome end now → told.ending ≡ end.ending → told.executed ≡ end.executed
     → HasKeptTold before after (told_by_answer (then_unit outcome (λ d. nothing_left (Some Normal)))) told
 last_kept (Completed left unit n) before after end now told h ending executed = alone before after unit n Normal told (unit_kept before after unit h.3) (ending ∙ h.0) (executed ∙ h.2)
 last_kept (Interrupted fault unit n) before after end now told h ending executed = alone before after unit n (Faulted fault unit.place) told (unit_kept before after unit h.3) (ending ∙ h.0) (executed ∙ h.2)
 last_kept Strayed before after end now told h ending executed = absurd h
 
 -- a unit, and what was kept behind it
-unit_before : (before middle after : UnitRecord) (unit : Progress) (n : ℕ) (answer : Answer) (rest end : TurnsEnd) → HasKeptUnit before middle unit → HasKeptTold middle after (told_by_answer answer) rest
+unit_before : (before middle after : UnitRecord) (unit : Progress) (n : ℕ) (answer : Answer) (rest end : UnitsEnd) → HasKeptUnit before middle unit → HasKeptTold middle after (told_by_answer answer) rest
     → end.ending ≡ rest.ending → end.executed ≡ n + rest.executed → HasKeptTold before after (told_by_answer (followed_by unit n answer)) end
 unit_before before middle after unit n answer rest end kept behind ending executed = record {
   rows = behind.rows ∙ ap (λ rs. rs ++ rows_of answer.rows) kept.rows ∙ append_assoc (rows_kept before.rows) (rows_of unit.rows) (rows_of answer.rows)
@@ -109,7 +109,7 @@ unit_before before middle after unit n answer rest end kept behind ending execut
 }
 
 -- a unit that came to its end normally, and what was kept of what goes on from there
-pub kept_behind : (outcome : UnitOutcome ProgramData) (go : ProgramData → Answer) (before middle after : UnitRecord) (unit : UnitEnd) (now : ProgramData) (rest end : TurnsEnd) → IsUnitEnd HasKeptRows before middle outcome unit now
+pub kept_behind : (outcome : UnitOutcome ProgramData) (go : ProgramData → Answer) (before middle after : UnitRecord) (unit : UnitEnd) (now : ProgramData) (rest end : UnitsEnd) → IsUnitEnd HasKeptRows before middle outcome unit now
     → is_early unit.ending ≡ false → HasKeptTold middle after (told_by_answer (go now)) rest → end.ending ≡ rest.ending → end.executed ≡ unit.executed + rest.executed
     → HasKeptTold before after (told_by_answer (then_unit outcome go)) end
 kept_behind (Completed left course n) go before middle after unit now rest end h fine behind ending executed =
@@ -121,7 +121,7 @@ kept_behind Strayed go before middle after unit now rest end h fine behind endin
 -- ---- groups
 
 -- a fault in a group ends the program
-pub groups_ended : (result : GroupResult ProgramData) (go : ProgramData → Answer) (before after : UnitRecord) (end : TurnsEnd) → HasKeptGroups before after (end_of_group result) end → ended_by_fault end.ending ≡ true
+pub groups_ended : (result : GroupResult ProgramData) (go : ProgramData → Answer) (before after : UnitRecord) (end : UnitsEnd) → HasKeptGroups before after (end_of_group result) end → ended_by_fault end.ending ≡ true
     → HasKeptTold before after (told_by_answer (joined_loads result (behind_loads result.reached go))) end
 groups_ended result go before after end kept faulted = at result.reached refl
   where
@@ -145,7 +145,7 @@ pub record StandsOn (result : GroupResult ProgramData) : Type 0 where
   pub last : ProgramData
   pub there : result.reached ≡ Standing last
 
-pub stands_on : (result : GroupResult ProgramData) (before after : UnitRecord) (end : TurnsEnd) → HasKeptGroups before after (end_of_group result) end → ended_by_fault end.ending ≡ false → (result.reached ≡ Astray → ⊥) → StandsOn result
+pub stands_on : (result : GroupResult ProgramData) (before after : UnitRecord) (end : UnitsEnd) → HasKeptGroups before after (end_of_group result) end → ended_by_fault end.ending ≡ false → (result.reached ≡ Astray → ⊥) → StandsOn result
 stands_on result before after end kept fine no_stray = at result.reached refl
   where
     well : (e f : Ending) → e ≡ f → ended_by_fault f ≡ true → ended_by_fault e ≡ false → ⊥
@@ -157,7 +157,7 @@ stands_on result before after end kept fine no_stray = at result.reached refl
     at Astray there = absurd (no_stray there)
 
 -- groups, and what was kept behind them
-pub groups_before : (result : GroupResult ProgramData) (go : ProgramData → Answer) (next : ProgramData) (before middle after : UnitRecord) (told : StageTold) (all last end : TurnsEnd) → result.reached ≡ Standing next
+pub groups_before : (result : GroupResult ProgramData) (go : ProgramData → Answer) (next : ProgramData) (before middle after : UnitRecord) (told : StageTold) (all last end : UnitsEnd) → result.reached ≡ Standing next
     → HasKeptGroups before middle (end_of_group result) all → HasKeptTold middle after told last → told ≡ told_by_answer (go next) → end.ending ≡ last.ending → end.executed ≡ all.executed + last.executed
     → HasKeptTold before after (told_by_answer (joined_loads result (behind_loads result.reached go))) end
 groups_before result go next before middle after told all last end there kept behind is ending executed =
@@ -193,7 +193,7 @@ module _ (stage : ProgramParts) (tables : List Contents) (budget grain : ℕ) (b
   abbrev units_told : ProgramData → Answer
   units_told state = then_unit (code_init stage budget state) (run_each (code_units stage budget) (code_loads stage tables))
 
-  pub thread_ended : (before after : UnitRecord) (end : TurnsEnd) (told : ThreadEnd) (groups : ℕ) → before.rows ≡ [] → before.lines ≡ []
+  pub thread_ended : (before after : UnitRecord) (end : UnitsEnd) (told : ThreadEnd) (groups : ℕ) → before.rows ≡ [] → before.lines ≡ []
       → HasKeptTold before after (told_by_answer (then_unit (code_init stage budget begun) (run_each (code_units stage budget) (code_loads stage tables)))) end
       → told.written ≡ after → told.ending ≡ end.ending → told.note.executed ≡ end.executed → told.note.groups ≡ groups_at (Some told.ending) groups
       → groups_at (Some told.ending) groups ≡ groups_at (Some told.ending) (code_group_count grain stage tables)

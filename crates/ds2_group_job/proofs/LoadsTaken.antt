@@ -1,5 +1,5 @@
--- The first so many loads of those that are left.
-use Rattle.std.proofs.Common.{◌≡◌, ℕ, zero, suc, ◌-◌, List, [], ◌∷◌, take, refl, subst, Option, Some, None, arith}
+-- The loads of one of the groups.
+use Rattle.std.proofs.Common.{◌≡◌, ℕ, zero, suc, List, [], ◌∷◌, refl, subst, Option, Some, None}
 use Rattle.std.specs.List.{AllByRecursion}
 use Rattle.std.specs.Prelude.{slice_get}
 use Rattle.ds2_code.specs.declared.parts.Slot.{Slot}
@@ -7,12 +7,6 @@ use Rattle.ds2_code.specs.Desk.{SlotSettings}
 use Rattle.ds2_code.specs.Scales.{AreSettingsScaled}
 use Rattle.ds2_group_job.specs.GroupRuns.{loads_or_none, group_at_number}
 use Rattle.ds2_group_job.specs.StageJobs.{AreGroupsScaled}
-
-pub none_taken : {A : Type 0} (n : ℕ) (xs : List A) → n ≡ 0 → take n xs ≡ []
-none_taken zero xs is = refl
-none_taken (suc n) xs is = absurd (omega (arith, is))
-
--- ---- the loads of one of the groups
 
 chosen_scaled : (slots : List Slot) (o : Option (List SlotSettings)) → ((g : List SlotSettings) → o ≡ Some g → AllByRecursion (AreSettingsScaled slots) g) → AllByRecursion (AreSettingsScaled slots) (loads_or_none o)
 chosen_scaled slots None h = tt

@@ -17,7 +17,7 @@ use Rattle.ds2_machine.specs.AtRest.{IsUnitEnd, is_early}
 use Rattle.ds2_machine.specs.declared.record.UnitRecord.{UnitRecord}
 use Rattle.ds2_machine.specs.declared.unit_end.UnitEnd.{UnitEnd}
 use Rattle.ds2_code.specs.Scales.{AreSettingsScaled}
-use Rattle.ds2_staged.specs.GroupedLoads.{settings_of_code, loads_in_groups, loads_of_groups}
+use Rattle.ds2_loads.specs.GroupedLoads.{settings_of_code, loads_in_groups, loads_of_groups}
 use Rattle.ds2_group_job.specs.StageJobs.{AreGroupsScaled}
 use Rattle.ds2_group_job.specs.WhateverRan.{GivesWhateverRan, IsIndependentFrom}
 use Rattle.ds2_group_job.proofs.GroupSteps.{HasKeptRows}

@@ -10,9 +10,9 @@ use Rattle.ds2_machine.specs.AtRest.{staged_program}
 use Rattle.ds2_machine.specs.declared.machine.TheConstants.{MOST_BUDGET}
 use Rattle.ds2_machine.specs.declared.record.UnitRecord.{UnitRecord}
 use Rattle.ds2_code.specs.Scales.{AreSettingsScaled, IsDataScaled}
-use Rattle.ds2_staged.specs.GroupedLoads.{loads_of_groups}
+use Rattle.ds2_loads.specs.GroupedLoads.{loads_of_groups}
 use Rattle.ds2_staged.specs.Threads.{rows_kept}
-use Rattle.ds2_staged.specs.declared.turns_end.TurnsEnd.{TurnsEnd}
+use Rattle.ds2_unit.specs.declared.units_end.UnitsEnd.{UnitsEnd}
 use Rattle.ds2_group_job.specs.GroupRuns.{run_of_group, end_of_group, group_at_number}
 use Rattle.ds2_group_job.specs.WhateverRan.{GivesWhateverRan}
 
@@ -46,7 +46,7 @@ pub record IsReadyJob (job : StageJob) (spent : Bool) : Type 0 where
   pub independent : GivesWhateverRan (staged_program job.code job.number) job.budget job.groups job.first
 
 -- what groups gave has been kept behind what was written before, and this is how they have ended
-pub record HasKeptGroups (before after : UnitRecord) (given : GroupEnd) (end : TurnsEnd) : Type 0 where
+pub record HasKeptGroups (before after : UnitRecord) (given : GroupEnd) (end : UnitsEnd) : Type 0 where
   pub rows : rows_kept after.rows ≡ rows_kept before.rows ++ given.rows
   pub lines : after.lines ≡ before.lines ++ given.lines
   pub ending : end.ending ≡ given.ending

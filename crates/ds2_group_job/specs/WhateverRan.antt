@@ -10,7 +10,7 @@ use Rattle.ds2_code.specs.Desk.{ProgramData, SlotSettings}
 use Rattle.ds2_code_answer.specs.CodeAnswer.{code_units, code_opening}
 use Rattle.ds2_code_answer.specs.CodeTables.{tables_of_stage}
 use Rattle.ds2_code_answer.specs.StageTold.{told_by_answer}
-use Rattle.ds2_staged.specs.GroupedLoads.{loads_in_groups}
+use Rattle.ds2_loads.specs.GroupedLoads.{loads_in_groups}
 use Rattle.ds2_group_job.specs.GroupRuns.{run_of_group, end_of_group, group_at_number}
 
 -- these data stand behind the groups of these numbers, run one after the other from the first data, each to a normal end

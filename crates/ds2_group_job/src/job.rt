@@ -3,17 +3,17 @@ ghost use Rattle.std.specs.Prelude.{◌≡◌, ◌≤◌, false, IfOk};
 ghost use Rattle.ds2_machine.specs.AtRest.{staged_program};
 ghost use Rattle.ds2_machine.specs.declared.machine.TheConstants.{MOST_BUDGET};
 ghost use Rattle.ds2_code.specs.Scales.{IsDataScaled};
-ghost use Rattle.ds2_staged.specs.StageCursors.{cursor_groups};
+ghost use Rattle.ds2_loads.specs.ProgramSources.{program_groups};
 ghost use Rattle.ds2_staged.specs.Threads.{rows_kept};
 ghost use Rattle.ds2_group_job.specs.WhateverRan.{GivesWhateverRan};
 ghost use Rattle.ds2_group_job.specs.StageJobs.{AreGroupsScaled, IsReadyJob, StageJob};
 
-use crate::group_loads::GroupLoads;
 use crate::group_worker::GroupWorker;
 use ds2_bags::{Answers, GroupEnd, Job};
 use ds2_base::{List, OutOfMemory};
+use ds2_loads::{LoadSource, ProgramLoads};
 use ds2_machine::{Machine, OutRow, UnitRecord};
-use ds2_staged::{StageLoads, run_loads};
+use ds2_unit::run_loads;
 use ds2_valid_code::ProgramCode;
 use ds2_value::Row;
 use std::alloc::Global;
@@ -25,12 +25,12 @@ use std::marker::Model;
 pub struct GroupJob<'m, 'a> {
     code: &'m ProgramCode,
     start: &'m Machine,
-    loads: StageLoads<'a>,
+    loads: ProgramLoads<'a>,
     budget: u64,
 }
 
 impl<'m, 'a> Model for GroupJob<'m, 'a> {
-    ghost use Rattle.ds2_staged.specs.StageCursors.{cursor_groups};
+    ghost use Rattle.ds2_loads.specs.ProgramSources.{program_groups};
     ghost use Rattle.ds2_group_job.specs.StageJobs.{StageJob, IsReadyJob};
 
     ghost Value = { StageJob };
@@ -39,7 +39,7 @@ impl<'m, 'a> Model for GroupJob<'m, 'a> {
       code = j.code.now;
       number = j.start.now.program;
       budget = j.budget;
-      groups = cursor_groups j.loads.at j.loads.cursor;
+      groups = program_groups j.loads;
       first = j.start.now.state;
     } };
 
@@ -47,7 +47,7 @@ impl<'m, 'a> Model for GroupJob<'m, 'a> {
       code = j.code.now;
       number = j.start.now.program;
       budget = j.budget;
-      groups = cursor_groups j.loads.at j.loads.cursor;
+      groups = program_groups j.loads;
       first = j.start.now.state;
     }) j.start.now.spent };
 }
@@ -57,20 +57,20 @@ impl<'m, 'a> GroupJob<'m, 'a> {
     /// what it gives from the data of that machine.
     pub fn open(
         code: &'m ProgramCode,
-        loads: StageLoads<'a>,
+        loads: ProgramLoads<'a>,
         start: &'m Machine,
         budget: u64,
     ) -> GroupJob<'m, 'a>
         requires budget { budget ≤ MOST_BUDGET }
         requires ready { start.now.spent ≡ false }
         requires scaled { IsDataScaled (staged_program code.now start.now.program) start.now.state }
-        requires loads { AreGroupsScaled (staged_program code.now start.now.program).slots (cursor_groups loads.at loads.cursor) }
-        requires independent { GivesWhateverRan (staged_program code.now start.now.program) budget (cursor_groups loads.at loads.cursor) start.now.state }
+        requires loads { AreGroupsScaled (staged_program code.now start.now.program).slots (program_groups loads) }
+        requires independent { GivesWhateverRan (staged_program code.now start.now.program) budget (program_groups loads) start.now.state }
         ensures { result ≡ record {
           code = code.now;
           number = start.now.program;
           budget = budget;
-          groups = cursor_groups loads.entry.at loads.entry.cursor;
+          groups = program_groups loads.entry;
           first = start.now.state;
         } }
     {
@@ -114,10 +114,7 @@ impl<'m, 'a> Job for GroupJob<'m, 'a> {
     fn start(&self, alloc: Global) -> Result<GroupWorker<'a>, OutOfMemory> {
         let machine = self.start.copy(alloc)?;
         let loads = self.loads.copy(alloc)?;
-        Ok(GroupWorker {
-            machine,
-            loads: GroupLoads { loads, most: 0 },
-        })
+        Ok(GroupWorker { machine, loads })
     }
 
     fn run(

@@ -11,7 +11,6 @@
 #![tactic(auto)]
 
 mod gathering;
-mod group_loads;
 mod group_worker;
 mod job;
 pub mod laws;

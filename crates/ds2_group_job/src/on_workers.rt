@@ -6,21 +6,22 @@ ghost use Rattle.ds2_code_answer.specs.StageTold.{told_by_answer};
 ghost use Rattle.ds2_machine.specs.AtRest.{staged_program};
 ghost use Rattle.ds2_machine.specs.declared.machine.TheConstants.{MOST_BUDGET};
 ghost use Rattle.ds2_code.specs.Scales.{IsDataScaled};
-ghost use Rattle.ds2_staged.specs.GroupedLoads.{loads_of_groups};
-ghost use Rattle.ds2_staged.specs.StageCursors.{cursor_groups};
+ghost use Rattle.ds2_loads.specs.GroupedLoads.{loads_of_groups};
+ghost use Rattle.ds2_loads.specs.ProgramSources.{program_groups};
 ghost use Rattle.ds2_group_job.specs.KeptAnswers.{HasKeptTold};
 ghost use Rattle.ds2_group_job.specs.GroupRuns.{end_of_group, run_of_group};
 ghost use Rattle.ds2_group_job.specs.StageJobs.{AreGroupsScaled, HasKeptGroups, answer_of_all};
 ghost use Rattle.ds2_group_job.specs.WhateverRan.{GivesWhateverRan};
 
-use crate::gathering::{is_fault, keep_all, sum_of};
+use crate::gathering::{is_fault, keep_all};
 use crate::job::GroupJob;
 use ds2_base::OutOfMemory;
 use ds2_code::laws::valid_code_ends;
+use ds2_loads::ProgramLoads;
 use ds2_machine::{Machine, UnitRecord};
 use ds2_outside::Gate;
 use ds2_stage::run_stage;
-use ds2_staged::{StageLoads, TurnsEnd};
+use ds2_unit::{UnitsEnd, sum_of};
 use ds2_valid_code::ProgramCode;
 use std::alloc::Global;
 use std::sync::Wait;
@@ -34,7 +35,7 @@ fn run_groups<'m, 'a, G: Gate + Sync, W: Threads + Wait + Sync>(
     workers: u32,
     gate: &G,
     written: &mut UnitRecord,
-) -> Result<TurnsEnd, OutOfMemory>
+) -> Result<UnitsEnd, OutOfMemory>
     requires { (1 ≤ workers) × (workers ≤ 64) }
     ensures { IfOk result (λ end. HasKeptGroups written.old written.new (answer_of_all job.now) end) }
 {
@@ -50,20 +51,20 @@ fn run_loads_on<'m, 'a, G: Gate + Sync, W: Threads + Wait + Sync>(
     alloc: Global,
     code: &'m ProgramCode,
     machine: &'m Machine,
-    loads: StageLoads<'a>,
+    loads: ProgramLoads<'a>,
     budget: u64,
     workers: u32,
     gate: &G,
     written: &mut UnitRecord,
-) -> Result<TurnsEnd, OutOfMemory>
+) -> Result<UnitsEnd, OutOfMemory>
     requires workers { (1 ≤ workers) × (workers ≤ 64) }
     requires budget { budget ≤ MOST_BUDGET }
     requires ready { machine.now.spent ≡ false }
     requires scaled { IsDataScaled (staged_program code.now machine.now.program) machine.now.state }
-    requires loads { AreGroupsScaled (staged_program code.now machine.now.program).slots (cursor_groups loads.at loads.cursor) }
-    requires independent { GivesWhateverRan (staged_program code.now machine.now.program) budget (cursor_groups loads.at loads.cursor) machine.now.state }
+    requires loads { AreGroupsScaled (staged_program code.now machine.now.program).slots (program_groups loads) }
+    requires independent { GivesWhateverRan (staged_program code.now machine.now.program) budget (program_groups loads) machine.now.state }
     ensures { IfOk result (λ end. HasKeptGroups written.old written.new (end_of_group
-        (run_of_group (staged_program code.now machine.now.program) budget (loads_of_groups (cursor_groups loads.entry.at loads.entry.cursor)) machine.now.state)) end) }
+        (run_of_group (staged_program code.now machine.now.program) budget (loads_of_groups (program_groups loads.entry)) machine.now.state)) end) }
 {
     let job = GroupJob::open(code, loads, machine, budget);
     run_groups(rt, alloc, &job, workers, gate, written)
@@ -76,20 +77,20 @@ pub(crate) fn run_rest<'a, G: Gate + Sync, W: Threads + Wait + Sync>(
     alloc: Global,
     code: &ProgramCode,
     machine: &mut Machine,
-    loads: StageLoads<'a>,
+    loads: ProgramLoads<'a>,
     budget: u64,
     workers: u32,
     gate: &G,
     written: &mut UnitRecord,
-) -> Result<TurnsEnd, OutOfMemory>
+) -> Result<UnitsEnd, OutOfMemory>
     requires workers { (1 ≤ workers) × (workers ≤ 64) }
     requires budget { budget ≤ MOST_BUDGET }
     requires ready { machine.old.spent ≡ false }
     requires scaled { IsDataScaled (staged_program code.now machine.old.program) machine.old.state }
-    requires loads { AreGroupsScaled (staged_program code.now machine.old.program).slots (cursor_groups loads.at loads.cursor) }
-    requires independent { GivesWhateverRan (staged_program code.now machine.old.program) budget (cursor_groups loads.at loads.cursor) machine.old.state }
+    requires loads { AreGroupsScaled (staged_program code.now machine.old.program).slots (program_groups loads) }
+    requires independent { GivesWhateverRan (staged_program code.now machine.old.program) budget (program_groups loads) machine.old.state }
     ensures { IfOk result (λ end. HasKeptTold written.old written.new (told_by_answer
-        (run_each (code_units (staged_program code.now machine.old.program) budget) (loads_of_groups (cursor_groups loads.entry.at loads.entry.cursor)) machine.old.state)) end) }
+        (run_each (code_units (staged_program code.now machine.old.program) budget) (loads_of_groups (program_groups loads.entry)) machine.old.state)) end) }
 {
     valid_code_ends();
     let _valid = code.parts();
@@ -101,7 +102,7 @@ pub(crate) fn run_rest<'a, G: Gate + Sync, W: Threads + Wait + Sync>(
     }
     let last = machine.call_term(alloc, code, budget, written)?;
     let executed = sum_of(end.executed, u128::from(last.executed))?;
-    Ok(TurnsEnd {
+    Ok(UnitsEnd {
         ending: last.ending,
         executed,
     })

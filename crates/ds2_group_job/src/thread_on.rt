@@ -7,35 +7,27 @@ ghost use Rattle.ds2_code_answer.specs.CodeLoads.{code_group_count, code_loads, 
 ghost use Rattle.ds2_code_answer.specs.StageTold.{told_by_answer};
 ghost use Rattle.ds2_machine.specs.AtRest.{staged_program};
 ghost use Rattle.ds2_code.specs.Scales.{AreGivenScaled, IsDataScaled};
-ghost use Rattle.ds2_staged.specs.GroupedLoads.{loads_in_groups};
+ghost use Rattle.ds2_loads.specs.GroupedLoads.{loads_in_groups};
 ghost use Rattle.ds2_staged.specs.Threads.{IsReadyThread, IsThreadEnd, thread_answer};
 ghost use Rattle.ds2_group_job.specs.KeptAnswers.{HasKeptTold};
 ghost use Rattle.ds2_group_job.specs.WhateverRan.{GivesWhateverRan, IsIndependentFrom, IsIndependentThread};
 
-use crate::gathering::sum_of;
 use crate::on_workers::run_rest;
 use ds2_base::OutOfMemory;
 use ds2_code::ProgramParts;
 use ds2_code_answer::laws::loads_are_scaled;
-use ds2_loads::TableRows;
+use ds2_loads::laws::groups_are_all_loads;
+use ds2_loads::{LoadSource, ProgramLoads, TableRows, statement_of};
 use ds2_machine::{Machine, UnitRecord};
 use ds2_outside::Gate;
 use ds2_reading::{Reading, Tables};
-use ds2_staged::laws::groups_are_all_loads;
-use ds2_staged::{StageLoads, ThreadEnd, TurnsEnd, are_given_scaled, statement_of};
-use ds2_unit::StageNote;
+use ds2_staged::{GroupedEnd, ThreadEnd, are_given_scaled, groups_behind};
+use ds2_unit::{StageNote, UnitsEnd, sum_of};
 use ds2_valid_code::ProgramCode;
-use ds2_value::{Ending, Value};
+use ds2_value::Value;
 use std::alloc::Global;
 use std::sync::Wait;
 use std::thread::Threads;
-
-// How the units of a thread program have ended, and how many groups its loads make; none are counted where its `init` faulted.
-#[derive(Clone, Copy)]
-struct GroupsEnd {
-    end: TurnsEnd,
-    groups: u64,
-}
 
 // Runs the loads of a thread program's statement in groups on so many workers, and `term`, from its machine behind `init`.
 fn run_statement<G: Gate + Sync, W: Threads + Wait + Sync>(
@@ -51,7 +43,7 @@ fn run_statement<G: Gate + Sync, W: Threads + Wait + Sync>(
     workers: u32,
     gate: &G,
     written: &mut UnitRecord,
-) -> Result<GroupsEnd, OutOfMemory>
+) -> Result<GroupedEnd, OutOfMemory>
     requires thread { IsReadyThread code.now stage.now tables.now budget grain }
     requires reading { reading.now ≡ code_reading stage.now }
     requires number { staged_program code.now machine.old.program ≡ stage.now }
@@ -65,12 +57,12 @@ fn run_statement<G: Gate + Sync, W: Threads + Wait + Sync>(
 {
     loads_are_scaled();
     groups_are_all_loads();
-    let loads = StageLoads::open(alloc, stage, reading, tables, grain)?;
+    let loads = ProgramLoads::open(alloc, stage, reading, tables, grain)?;
     let groups = loads.groups();
     let end = run_rest(
         rt, alloc, code, machine, loads, budget, workers, gate, written,
     )?;
-    Ok(GroupsEnd { end, groups })
+    Ok(GroupedEnd { end, groups })
 }
 
 // Runs the loads of a thread program in groups on so many workers, and `term`, from its machine behind `init`.
@@ -86,7 +78,7 @@ fn run_over<G: Gate + Sync, W: Threads + Wait + Sync>(
     workers: u32,
     gate: &G,
     written: &mut UnitRecord,
-) -> Result<GroupsEnd, OutOfMemory>
+) -> Result<GroupedEnd, OutOfMemory>
     requires thread { IsReadyThread code.now stage.now tables.now budget grain }
     requires number { staged_program code.now machine.old.program ≡ stage.now }
     requires scaled { IsDataScaled (staged_program code.now machine.old.program) machine.old.state }
@@ -116,7 +108,7 @@ fn run_whole<G: Gate + Sync, W: Threads + Wait + Sync>(
     workers: u32,
     gate: &G,
     written: &mut UnitRecord,
-) -> Result<GroupsEnd, OutOfMemory>
+) -> Result<GroupedEnd, OutOfMemory>
     requires thread { IsReadyThread code.now stage.now tables.now budget grain }
     requires number { staged_program code.now machine.old.program ≡ stage.now }
     requires scaled { IsDataScaled (staged_program code.now machine.old.program) machine.old.state }
@@ -130,8 +122,8 @@ fn run_whole<G: Gate + Sync, W: Threads + Wait + Sync>(
     let first = machine.call_init(alloc, code, budget, written)?;
     let executed = u128::from(first.executed);
     if machine.spent() {
-        return Ok(GroupsEnd {
-            end: TurnsEnd {
+        return Ok(GroupedEnd {
+            end: UnitsEnd {
                 ending: first.ending,
                 executed,
             },
@@ -142,23 +134,13 @@ fn run_whole<G: Gate + Sync, W: Threads + Wait + Sync>(
         rt, alloc, code, stage, tables, machine, budget, grain, workers, gate, written,
     )?;
     let all = sum_of(executed, rest.end.executed)?;
-    Ok(GroupsEnd {
-        end: TurnsEnd {
+    Ok(GroupedEnd {
+        end: UnitsEnd {
             ending: rest.end.ending,
             executed: all,
         },
         groups: rest.groups,
     })
-}
-
-// So many groups behind a normal end; 0 behind a fault.
-fn groups_behind(ending: Ending, groups: u64) -> u64
-    ensures { result ≡ groups_at (Some ending) groups }
-{
-    match ending {
-        Ending::Normal => groups,
-        Ending::Faulted { .. } => 0,
-    }
 }
 
 // Runs a thread program whole, its groups on so many workers, from a machine for it.

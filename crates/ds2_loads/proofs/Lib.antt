@@ -2,3 +2,10 @@ pub mod SlotTypes
 pub mod SettingLists
 pub mod LoadSteps
 pub mod NumberedTables
+pub mod RowLists
+pub mod LoadsLeft
+pub mod CursorSteps
+pub mod OpenCursors
+pub mod OpenWalks
+pub mod GroupLaws
+pub mod LoadsTaken

@@ -63,4 +63,14 @@ impl MergeWalk {
     {
         next_load(&self.tables, &mut self.place)
     }
+
+    /// A walk over the same loads, at the same load. The numbers of the rows are shared.
+    pub fn copy(&self, alloc: Global) -> Result<MergeWalk, OutOfMemory>
+        ensures { IfOk result (λ walk. walk ≡ self.now) }
+    {
+        Ok(MergeWalk {
+            tables: self.tables.copy(alloc)?,
+            place: self.place,
+        })
+    }
 }

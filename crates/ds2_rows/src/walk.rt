@@ -62,4 +62,14 @@ impl SetWalk {
     {
         next_load(&self.tables, &mut self.place)
     }
+
+    /// A walk over the same loads, at the same load. The numbers of the rows are shared.
+    pub fn copy(&self, alloc: Global) -> Result<SetWalk, OutOfMemory>
+        ensures { IfOk result (λ walk. walk ≡ self.now) }
+    {
+        Ok(SetWalk {
+            tables: self.tables.copy(alloc)?,
+            place: self.place,
+        })
+    }
 }

@@ -16,7 +16,7 @@ use Rattle.ds2_code.specs.Desk.{ProgramData, SlotSettings}
 use Rattle.ds2_code_answer.specs.CodeAnswer.{code_units, code_opening, code_program}
 use Rattle.ds2_code_answer.specs.CodeLoads.{code_loads, slots_of_stage}
 use Rattle.ds2_code_answer.specs.CodeTables.{tables_of_stage}
-use Rattle.ds2_staged.specs.GroupedLoads.{GroupsAreAllLoads, loads_in_groups, loads_of_groups}
+use Rattle.ds2_loads.specs.GroupedLoads.{GroupsAreAllLoads, loads_in_groups, loads_of_groups}
 use Rattle.ds2_staged.specs.EveryGroup.{RanInTurn, RanEachGroupOnce, HoldsBehindUnit, rows_as_groups, EachRanGroupsOnce, EveryGroupOnce}
 
 -- ---- units that ended normally

@@ -1,11 +1,6 @@
-pub mod TurnsInOrder
-pub mod LoadTurns
 pub mod GivenScales
 pub mod StagedCode
 pub mod ReaderAnswers
 pub mod ThreadEnds
 pub mod StagedRuns
-pub mod CursorSteps
-pub mod OpenCursors
-pub mod GroupLaws
 pub mod EveryGroup

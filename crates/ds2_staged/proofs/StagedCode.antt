@@ -21,8 +21,8 @@ use Rattle.ds2_code_answer.specs.CodeLoads.{code_reading}
 use Rattle.ds2_code_answer.specs.CodeLoadLaws.{ReadingsFitTables}
 use Rattle.ds2_code_answer.specs.CodeTables.{hash_references, program_references, first_read_table, tables_of_stage, columns_named, columns_had, AreTablesOfCode}
 use Rattle.ds2_unit.specs.ProgramRun.{grain_asked}
-use Rattle.ds2_unit.specs.UnitsRun.{ReadsNoThread}
-use Rattle.ds2_staged.specs.Grains.{IsGrainOf, IsGrainOfReading}
+use Rattle.ds2_loads.specs.Readings.{ReadsNoThread}
+use Rattle.ds2_loads.specs.Grains.{IsGrainOf, IsGrainOfReading}
 use Rattle.ds2_machine.specs.declared.machine.TheConstants.{MOST_BUDGET}
 use Rattle.ds2_staged.specs.Threads.{AreGrainsOf, IsReadyThread, plain_grain, plain_grain_of, plain_grains}
 use Rattle.ds2_value.specs.Types.{in_bounds}

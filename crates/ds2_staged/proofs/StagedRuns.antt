@@ -21,15 +21,16 @@ use Rattle.ds2_machine.specs.Sink.{SinkTakes}
 use Rattle.ds2_machine.specs.declared.record.OutRow.{OutRow}
 use Rattle.ds2_machine.specs.declared.unit_end.UnitEnd.{UnitEnd}
 use Rattle.ds2_unit.specs.ProgramRun.{IsRunEnd, note_of_stage}
-use Rattle.ds2_staged.proofs.CursorSteps.{first_at}
-use Rattle.ds2_staged.specs.Threads.{IsThreadEnd, rows_as_loads, rows_kept}
-use Rattle.ds2_staged.specs.Turns.{HasRunThrough}
+use Rattle.ds2_loads.specs.StageRows.{rows_as_loads}
+use Rattle.ds2_loads.proofs.CursorSteps.{first_at}
+use Rattle.ds2_staged.specs.Threads.{IsThreadEnd, rows_kept}
+use Rattle.ds2_unit.specs.UnitsRun.{HasRunAnswer}
 use Rattle.ds2_unit.specs.declared.program_end.RunEnd.{RunEnd}
 use Rattle.ds2_unit.specs.declared.program_end.StageNote.{StageNote}
 use Rattle.ds2_staged.specs.declared.thread.ThreadEnd.{ThreadEnd}
-use Rattle.ds2_staged.specs.declared.turns_end.TurnsEnd.{TurnsEnd}
+use Rattle.ds2_unit.specs.declared.units_end.UnitsEnd.{UnitsEnd}
 use Rattle.ds2_unit.proofs.SinkLists.{taken_more}
-use Rattle.ds2_staged.proofs.TurnsInOrder.{unit_then, unit_stops}
+use Rattle.ds2_unit.proofs.UnitsInOrder.{unit_then, unit_stops}
 
 -- the rows of a thread program as loads
 pub loads_of_rows : (slots : List Slot) (into : List ℕ) (rows : List OutRow) (want : List Row) → rows_kept rows ≡ want → rows_as_loads slots into rows ≡ map (row_slot_settings slots into) want
@@ -69,16 +70,16 @@ rows_scaled slots into (r ∷ rows) = (row_scaled slots into r.row, rows_scaled 
 
 module _ {S : Type 0} (has_taken : S → S → List Written → List (List ℕ) → Type 0) where
   -- lines that were handed on, and what comes behind them
-  lines_first : (before now after : S) (lines : List (List ℕ)) (answer : Answer) (end : TurnsEnd) → SinkTakes has_taken before now [] lines → HasRunThrough has_taken now after answer end
+  lines_first : (before now after : S) (lines : List (List ℕ)) (answer : Answer) (end : UnitsEnd) → SinkTakes has_taken before now [] lines → HasRunAnswer has_taken now after answer end
       → SinkTakes has_taken before after answer.rows (lines ++ answer.lines)
   lines_first before now after lines answer end first rest = taken_more has_taken before now after [] answer.rows lines answer.lines first rest.taken
 
   -- behind a thread program that ended normally
-  pub behind_normal : (before now after : S) (lines : List (List ℕ)) (stage : Answer) (go : List Row → Answer) (end : TurnsEnd) → stage.ending ≡ Some Normal → lines ≡ stage.lines
-      → SinkTakes has_taken before now [] lines → HasRunThrough has_taken now after (go (stage_rows stage)) end
-      → HasRunThrough has_taken before after (after_stage stage.ending stage go) end
+  pub behind_normal : (before now after : S) (lines : List (List ℕ)) (stage : Answer) (go : List Row → Answer) (end : UnitsEnd) → stage.ending ≡ Some Normal → lines ≡ stage.lines
+      → SinkTakes has_taken before now [] lines → HasRunAnswer has_taken now after (go (stage_rows stage)) end
+      → HasRunAnswer has_taken before after (after_stage stage.ending stage go) end
   behind_normal before now after lines stage go end normal same first rest =
-      let P : Option Ending → Type 0 = λ e. HasRunThrough has_taken before after (after_stage e stage go) end in
+      let P : Option Ending → Type 0 = λ e. HasRunAnswer has_taken before after (after_stage e stage go) end in
       let Q : List (List ℕ) → Type 0 = λ ls. SinkTakes has_taken before now [] ls in
       subst P (sym normal)
       (record {
@@ -88,11 +89,11 @@ module _ {S : Type 0} (has_taken : S → S → List Written → List (List ℕ) 
       })
 
   -- behind one that ended by a fault
-  pub behind_fault : (before now : S) (lines : List (List ℕ)) (stage : Answer) (go : List Row → Answer) (fault : Fault) (place : Place) (end : TurnsEnd) → stage.ending ≡ Some (Faulted fault place)
+  pub behind_fault : (before now : S) (lines : List (List ℕ)) (stage : Answer) (go : List Row → Answer) (fault : Fault) (place : Place) (end : UnitsEnd) → stage.ending ≡ Some (Faulted fault place)
       → lines ≡ stage.lines → SinkTakes has_taken before now [] lines → end.ending ≡ Faulted fault place → end.executed ≡ 0
-      → HasRunThrough has_taken before now (after_stage stage.ending stage go) end
+      → HasRunAnswer has_taken before now (after_stage stage.ending stage go) end
   behind_fault before now lines stage go fault place end faulted same first ending none =
-      let P : Option Ending → Type 0 = λ e. HasRunThrough has_taken before now (after_stage e stage go) end in
+      let P : Option Ending → Type 0 = λ e. HasRunAnswer has_taken before now (after_stage e stage go) end in
       let Q : List (List ℕ) → Type 0 = λ ls. SinkTakes has_taken before now [] ls in
       subst P (sym faulted)
       (record {
@@ -102,7 +103,7 @@ module _ {S : Type 0} (has_taken : S → S → List Written → List (List ℕ) 
       })
 
   -- groups are no part of what a run leaves
-  pub whatever_groups : (before after : S) (groups : ℕ) (answer : Answer) (end : TurnsEnd) → HasRunThrough has_taken before after answer end → HasRunThrough has_taken before after (with_groups groups answer) end
+  pub whatever_groups : (before after : S) (groups : ℕ) (answer : Answer) (end : UnitsEnd) → HasRunAnswer has_taken before after answer end → HasRunAnswer has_taken before after (with_groups groups answer) end
   whatever_groups before after groups answer end h = record { taken = h.taken; counted = h.counted; ended = h.ended }
 
   -- ---- the whole
@@ -137,7 +138,7 @@ module _ {S : Type 0} (has_taken : S → S → List Written → List (List ℕ) 
   pub reader_stops : (o : UnitOutcome ProgramData) (go : ProgramData → Answer) (before after : S) (unit : UnitEnd) (state : ProgramData) (told : RunEnd) → IsUnitEnd has_taken before after o unit state
       → is_early unit.ending ≡ true → told.ending ≡ unit.ending → told.executed ≡ unit.executed → told.stages ≡ [] → IsRunEnd has_taken before after (then_unit o go) told
   reader_stops o go before after unit state told h early ending executed none =
-      let end : TurnsEnd = record { ending = told.ending; executed = told.executed } in
+      let end : UnitsEnd = record { ending = told.ending; executed = told.executed } in
       let ran = unit_stops has_taken o go before after unit state end h early ending executed in
       record {
         taken = ran.taken;
@@ -161,11 +162,11 @@ module _ {S : Type 0} (has_taken : S → S → List Written → List (List ℕ) 
     one_noted (Interrupted fault p n) before next unit state stage h late is = absurd (not_late unit.ending (Faulted fault p.place) h.0 refl late)
     one_noted Strayed before next unit state stage h late is = absurd h
 
-    pub reader_ends : (o : UnitOutcome ProgramData) (before next after : S) (unit : UnitEnd) (state : ProgramData) (rest : TurnsEnd) (stage : ThreadEnd) (told : RunEnd) → IsUnitEnd has_taken before next o unit state
-        → is_early unit.ending ≡ false → IsThreadEnd (stage_of state) stage → HasRunThrough has_taken next after (goes_on state) rest
+    pub reader_ends : (o : UnitOutcome ProgramData) (before next after : S) (unit : UnitEnd) (state : ProgramData) (rest : UnitsEnd) (stage : ThreadEnd) (told : RunEnd) → IsUnitEnd has_taken before next o unit state
+        → is_early unit.ending ≡ false → IsThreadEnd (stage_of state) stage → HasRunAnswer has_taken next after (goes_on state) rest
         → told.ending ≡ rest.ending → told.executed ≡ unit.executed + rest.executed → told.stages ≡ stage.note ∷ [] → IsRunEnd has_taken before after (then_unit o goes_on) told
     reader_ends o before next after unit state rest stage told h late is behind ending executed notes =
-        let end : TurnsEnd = record { ending = told.ending; executed = told.executed } in
+        let end : UnitsEnd = record { ending = told.ending; executed = told.executed } in
         let ran = unit_then has_taken o goes_on before next after unit state rest end h late behind ending executed in
         record {
           taken = ran.taken;

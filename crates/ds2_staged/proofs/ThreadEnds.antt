@@ -15,9 +15,9 @@ use Rattle.ds2_machine.specs.Kept.{all_written}
 use Rattle.ds2_machine.specs.declared.record.OutRow.{OutRow}
 use Rattle.ds2_machine.specs.declared.record.UnitRecord.{UnitRecord}
 use Rattle.ds2_staged.specs.Threads.{IsThreadEnd, rows_kept}
-use Rattle.ds2_staged.specs.Turns.{HasRunThrough}
+use Rattle.ds2_unit.specs.UnitsRun.{HasRunAnswer}
 use Rattle.ds2_staged.specs.declared.thread.ThreadEnd.{ThreadEnd}
-use Rattle.ds2_staged.specs.declared.turns_end.TurnsEnd.{TurnsEnd}
+use Rattle.ds2_unit.specs.declared.units_end.UnitsEnd.{UnitsEnd}
 
 -- ---- no thread program is read
 
@@ -48,8 +48,8 @@ module _ (stage : ProgramParts) (tables : List Contents) (budget grain : ℕ) (s
   abbrev units_answer : Answer
   units_answer = then_unit (code_init stage budget state) (run_each (code_units stage budget) (code_loads stage tables))
 
-  pub stage_ended : (before after : UnitRecord) (end : TurnsEnd) (told : ThreadEnd) → before.rows ≡ [] → before.lines ≡ []
-      → HasRunThrough HasKept before after (then_unit (code_init stage budget state) (run_each (code_units stage budget) (code_loads stage tables))) end
+  pub stage_ended : (before after : UnitRecord) (end : UnitsEnd) (told : ThreadEnd) → before.rows ≡ [] → before.lines ≡ []
+      → HasRunAnswer HasKept before after (then_unit (code_init stage budget state) (run_each (code_units stage budget) (code_loads stage tables))) end
       → told.written ≡ after → told.ending ≡ end.ending → told.note.executed ≡ end.executed → told.note.groups ≡ groups_at (Some told.ending) (code_group_count grain stage tables)
       → IsThreadEnd (alone_answer (code_program stage [] tables budget grain) state) told
   stage_ended before after end told no_rows no_lines ran written ending executed groups =

@@ -12,7 +12,7 @@ use Rattle.ds2_code.specs.Desk.{ProgramData, SlotSettings}
 use Rattle.ds2_code_answer.specs.CodeAnswer.{code_units, code_opening, code_program}
 use Rattle.ds2_code_answer.specs.CodeLoads.{slots_of_stage}
 use Rattle.ds2_code_answer.specs.CodeTables.{tables_of_stage}
-use Rattle.ds2_staged.specs.GroupedLoads.{loads_in_groups}
+use Rattle.ds2_loads.specs.GroupedLoads.{loads_in_groups}
 
 -- these are the results of groups that ran to their ends in order, one for each group: the first one from the first data, each further
 -- one from those that the one before it left, and the last data are those behind all of them

@@ -1,7 +1,5 @@
-pub mod Turns
+pub use Rattle.ds2_loads.specs.Grains
+pub use Rattle.ds2_loads.specs.GroupedLoads
 pub mod Threads
 pub mod GivenScales
-pub mod Grains
-pub mod StageCursors
-pub mod GroupedLoads
 pub mod EveryGroup

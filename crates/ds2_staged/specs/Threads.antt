@@ -8,10 +8,9 @@ use Rattle.ds2_code.specs.declared.parts.ByPart.{ByPart}
 use Rattle.ds2_code.specs.declared.parts.ProgramParts.{ProgramParts}
 use Rattle.ds2_code.specs.declared.parts.ReadingPart.{ReadingPart}
 use Rattle.ds2_code.specs.declared.parts.ReadingPart.TheVariants as reading
-use Rattle.ds2_code.specs.declared.parts.Slot.{Slot}
 use Rattle.ds2_code.specs.declared.parts.StagedParts.{StagedParts}
 use Rattle.ds2_code.specs.CodeUnit.{code_init, opening_data, row_slot_settings}
-use Rattle.ds2_code.specs.Desk.{ProgramData, SlotSettings}
+use Rattle.ds2_code.specs.Desk.{ProgramData}
 use Rattle.ds2_slots.specs.LoadedHashes.{AreSlotTypesInBounds}
 use Rattle.ds2_machine.specs.AtRest.{staged_program}
 use Rattle.ds2_machine.specs.declared.machine.TheConstants.{MOST_BUDGET}
@@ -19,8 +18,8 @@ use Rattle.ds2_machine.specs.declared.record.OutRow.{OutRow}
 use Rattle.ds2_code_answer.specs.CodeAnswer.{code_units, code_opening, code_program}
 use Rattle.ds2_code_answer.specs.CodeLoads.{code_reading, slots_of_stage}
 use Rattle.ds2_code_answer.specs.CodeTables.{rows_of_each}
-use Rattle.ds2_unit.specs.UnitsRun.{ReadsNoThread}
-use Rattle.ds2_staged.specs.Grains.{IsGrainOfReading}
+use Rattle.ds2_loads.specs.Readings.{ReadsNoThread}
+use Rattle.ds2_loads.specs.Grains.{IsGrainOfReading}
 use Rattle.ds2_staged.specs.declared.thread.ThreadEnd.{ThreadEnd}
 
 -- ---- grains
@@ -50,10 +49,6 @@ plain_grains [] = []
 plain_grains (stage ∷ stages) = plain_grain_of stage.reading ∷ []
 
 -- ---- what a thread program leaves
-
--- rows that were written, as loads of the program that reads from a thread program
-abbrev pub rows_as_loads : List Slot → List ℕ → List OutRow → List SlotSettings
-rows_as_loads slots into rows = map (λ (r : OutRow). row_slot_settings slots into r.row) rows
 
 -- rows that were kept, without the numbers of their outputs
 abbrev pub rows_kept : List OutRow → List Row

@@ -1,16 +1,7 @@
 //! What holds of the groups of a program's loads.
 ghost use Rattle.ds2_staged.specs.EveryGroup.{EveryGroupOnce};
-ghost use Rattle.ds2_staged.specs.GroupedLoads.{GroupsAreAllLoads};
 
-use ds2_table::laws::{groups_divide_loads, loads_stand_in_by_order};
-
-/// The groups of a program's loads, one after the other, are its loads in their order, at every grain.
-pub fn groups_are_all_loads()
-    ensures { GroupsAreAllLoads }
-{
-    loads_stand_in_by_order();
-    groups_divide_loads();
-}
+use ds2_loads::laws::groups_are_all_loads;
 
 /// Where a program ends normally, it ran each of its groups once, in order and each from what the one before it left, and so did each
 /// thread program that it read from, local or not: its rows are those of `init`, of each group, and of `term`.

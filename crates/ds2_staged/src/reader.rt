@@ -7,20 +7,17 @@ ghost use Rattle.ds2_machine.specs.Sink.{SinkTakes};
 ghost use Rattle.ds2_machine.specs.declared.machine.TheConstants.{MOST_BUDGET};
 ghost use Rattle.ds2_code_answer.specs.CodeLoads.{slots_of_stage};
 ghost use Rattle.ds2_unit.specs.ProgramRun.{IsRunEnd};
-ghost use Rattle.ds2_staged.specs.Turns.{HasRunThrough};
+ghost use Rattle.ds2_unit.specs.UnitsRun.{HasRunAnswer};
 ghost use Rattle.ds2_staged.specs.Threads.{IsThreadEnd, answer_behind, reader_answer, reader_answer_from};
 
 use crate::runs_thread::RunsThread;
 use crate::thread::ThreadEnd;
-use crate::thread_rows::ThreadRows;
-use crate::turns_end::TurnsEnd;
-use crate::units::{and_more, run_to_end};
 use ds2_base::{List, OutOfMemory, Text};
 use ds2_code::{ProgramParts, ReadingPart};
-use ds2_loads::TableRows;
+use ds2_loads::{StageRows, TableRows};
 use ds2_machine::{Machine, UnitEnd, UnitSink};
 use ds2_reading::Tables;
-use ds2_unit::{RunEnd, StageNote};
+use ds2_unit::{RunEnd, StageNote, UnitsEnd, run_to_end, sum_of};
 use ds2_valid_code::ProgramCode;
 use ds2_value::Ending;
 use std::alloc::Global;
@@ -58,7 +55,7 @@ fn run_behind<S: UnitSink>(
     machine: &mut Machine,
     budget: u64,
     sink: &mut S,
-) -> Result<TurnsEnd, OutOfMemory>
+) -> Result<UnitsEnd, OutOfMemory>
     requires program { code.now.program ≡ program.now }
     requires number { machine.old.program ≡ 0 }
     requires types { AreSlotTypesInBounds program.now.slots }
@@ -66,24 +63,25 @@ fn run_behind<S: UnitSink>(
     requires budget { budget ≤ MOST_BUDGET }
     requires ready { machine.old.spent ≡ false }
     requires into { slots_of_stage program.now.reading ≡ into.now }
-    ensures { IfOk result (λ end. (answer : Answer) → IsThreadEnd answer stage.now → HasRunThrough S.has_taken sink.old sink.new
+    ensures { IfOk result (λ end. (answer : Answer) → IsThreadEnd answer stage.now → HasRunAnswer S.has_taken sink.old sink.new
         (answer_behind program.now budget machine.old.state answer) end) }
 {
     let lines = stage.written.lines.as_slice();
     hand_on(alloc, lines, sink)?;
     match stage.ending {
-        Ending::Faulted { kind, place } => Ok(TurnsEnd {
+        Ending::Faulted { kind, place } => Ok(UnitsEnd {
             ending: Ending::Faulted { kind, place },
             executed: 0,
         }),
         Ending::Normal => {
             let slots = program.slots.as_slice();
             let rest = stage.written.rows.as_slice();
-            let mut source = ThreadRows {
+            let mut source = StageRows {
                 slots,
                 into,
                 row: &[],
                 rest,
+                all: rest,
             };
             let end = run_to_end(alloc, code, machine, &mut source, budget, sink)?;
             Ok(end)
@@ -99,12 +97,12 @@ pub fn run_rows<S: UnitSink>(
     machine: &mut Machine,
     budget: u64,
     sink: &mut S,
-) -> Result<TurnsEnd, OutOfMemory>
+) -> Result<UnitsEnd, OutOfMemory>
     requires number { machine.old.program ≡ 0 }
     requires scaled { IsDataScaled code.now.program machine.old.state }
     requires budget { budget ≤ MOST_BUDGET }
     requires ready { machine.old.spent ≡ false }
-    ensures { IfOk result (λ end. (answer : Answer) → IsThreadEnd answer stage.now → HasRunThrough S.has_taken sink.old sink.new
+    ensures { IfOk result (λ end. (answer : Answer) → IsThreadEnd answer stage.now → HasRunAnswer S.has_taken sink.old sink.new
         (answer_behind code.now.program budget machine.old.state answer) end) }
 {
     let program = &code.parts().program;
@@ -130,13 +128,13 @@ pub fn ended_behind(
     alloc: Global,
     first: UnitEnd,
     note: StageNote,
-    rest: TurnsEnd,
+    rest: UnitsEnd,
 ) -> Result<RunEnd, OutOfMemory>
     ensures ending { IfOk result (λ end. end.ending ≡ rest.ending) }
     ensures executed { IfOk result (λ end. end.executed ≡ first.executed + rest.executed) }
     ensures stages { IfOk result (λ end. end.stages ≡ note ∷ []) }
 {
-    let executed = and_more(rest.executed, first.executed)?;
+    let executed = sum_of(rest.executed, u128::from(first.executed))?;
     let mut stages = List::new(alloc);
     stages.push(note)?;
     Ok(RunEnd {

@@ -1,5 +1,5 @@
 //! A thread program that reads tables, on one thread.
-ghost use Rattle.std.specs.Prelude.{◌≡◌, ◌≤◌, [], drop, false, IfOk, Some};
+ghost use Rattle.std.specs.Prelude.{◌≡◌, ◌≤◌, [], drop, false, length, IfOk, Some};
 ghost use Rattle.std.specs.Arc.{arc_value};
 ghost use Rattle.std.specs.List.{AllByRecursion};
 ghost use Rattle.ds2_table.specs.OneThread.{alone_answer, groups_at, run_each, then_unit};
@@ -9,21 +9,18 @@ ghost use Rattle.ds2_machine.specs.AtRest.{staged_program};
 ghost use Rattle.ds2_machine.specs.declared.machine.TheConstants.{MOST_BUDGET};
 ghost use Rattle.ds2_code_answer.specs.CodeAnswer.{code_program, code_units};
 ghost use Rattle.ds2_code_answer.specs.CodeLoads.{code_group_count, code_loads, code_reading};
-ghost use Rattle.ds2_staged.specs.Turns.{HasRunThrough};
+ghost use Rattle.ds2_unit.specs.UnitsRun.{HasRunAnswer};
 ghost use Rattle.ds2_staged.specs.Threads.{IsReadyThread, IsThreadEnd, thread_answer};
 
 use crate::given::are_given_scaled;
-use crate::turns_end::TurnsEnd;
-use crate::units::run_units;
-use crate::{LoadSource, StageLoads, statement_of};
 use ds2_base::OutOfMemory;
 use ds2_code::ProgramParts;
 use ds2_code_answer::laws::loads_are_scaled;
-use ds2_loads::TableRows;
+use ds2_loads::{LoadSource, ProgramLoads, TableRows, statement_of};
 use ds2_machine::{Machine, UnitRecord, UnitSink};
 use ds2_reading::{Reading, Tables};
 use ds2_table::Table;
-use ds2_unit::StageNote;
+use ds2_unit::{StageNote, UnitsEnd, run_units};
 use ds2_valid_code::ProgramCode;
 use ds2_value::{Ending, Value};
 use std::alloc::Global;
@@ -62,8 +59,8 @@ pub fn tables_behind(alloc: Global, tables: &Tables, first: usize) -> Result<Tab
     Ok(behind)
 }
 
-// So many groups behind a normal end; 0 behind a fault.
-fn groups_behind(ending: Ending, groups: u64) -> u64
+/// So many groups behind a normal end; 0 behind a fault.
+pub fn groups_behind(ending: Ending, groups: u64) -> u64
     ensures { result ≡ groups_at (Some ending) groups }
 {
     match ending {
@@ -72,20 +69,19 @@ fn groups_behind(ending: Ending, groups: u64) -> u64
     }
 }
 
-// How the units of a thread program have ended, and how many groups its loads make.
+/// How the units of a thread program have ended, and how many groups its loads make; none need be counted where it ended by a fault.
 #[derive(Clone, Copy)]
-struct GroupedEnd {
-    end: TurnsEnd,
-    groups: u64,
+pub struct GroupedEnd {
+    pub end: UnitsEnd,
+    pub groups: u64,
 }
 
-// Runs the units of a program on the loads of a source, which make so many groups.
+// Runs the units of a program on the loads of a source, and tells how many groups these make.
 fn run_grouped<L: LoadSource, S: UnitSink>(
     alloc: Global,
     code: &ProgramCode,
     machine: &mut Machine,
     source: &mut L,
-    groups: u64,
     budget: u64,
     sink: &mut S,
 ) -> Result<GroupedEnd, OutOfMemory>
@@ -93,11 +89,12 @@ fn run_grouped<L: LoadSource, S: UnitSink>(
     requires loads { AllByRecursion (AreSettingsScaled (staged_program code.now machine.old.program).slots) (L.left source.old) }
     requires budget { budget ≤ MOST_BUDGET }
     requires ready { machine.old.spent ≡ false }
-    ensures ran { IfOk result (λ ran. HasRunThrough S.has_taken sink.old sink.new
+    ensures ran { IfOk result (λ ran. HasRunAnswer S.has_taken sink.old sink.new
         (then_unit (code_init (staged_program code.now machine.old.program) budget machine.old.state)
         (run_each (code_units (staged_program code.now machine.old.program) budget) (L.left source.old))) ran.end) }
-    ensures groups { IfOk result (λ ran. ran.groups ≡ groups) }
+    ensures groups { IfOk result (λ ran. ran.groups ≡ length (L.grouped source.old)) }
 {
+    let groups = source.groups();
     let end = run_units(alloc, code, machine, source, budget, sink)?;
     Ok(GroupedEnd { end, groups })
 }
@@ -119,14 +116,13 @@ fn run_statement<S: UnitSink>(
     requires number { staged_program code.now machine.old.program ≡ stage.now }
     requires scaled { IsDataScaled (staged_program code.now machine.old.program) machine.old.state }
     requires ready { machine.old.spent ≡ false }
-    ensures ran { IfOk result (λ ran. HasRunThrough S.has_taken sink.old sink.new
+    ensures ran { IfOk result (λ ran. HasRunAnswer S.has_taken sink.old sink.new
         (then_unit (code_init stage.now budget machine.old.state) (run_each (code_units stage.now budget) (code_loads stage.now tables.now))) ran.end) }
     ensures groups { IfOk result (λ ran. ran.groups ≡ code_group_count grain stage.now tables.now) }
 {
     loads_are_scaled();
-    let mut loads = StageLoads::open(alloc, stage, reading, tables, grain)?;
-    let groups = loads.groups();
-    run_grouped(alloc, code, machine, &mut loads, groups, budget, sink)
+    let mut loads = ProgramLoads::open(alloc, stage, reading, tables, grain)?;
+    run_grouped(alloc, code, machine, &mut loads, budget, sink)
 }
 
 // Runs the units of a thread program on its loads, from a machine for it.
@@ -144,7 +140,7 @@ fn run_over<S: UnitSink>(
     requires number { staged_program code.now machine.old.program ≡ stage.now }
     requires scaled { IsDataScaled (staged_program code.now machine.old.program) machine.old.state }
     requires ready { machine.old.spent ≡ false }
-    ensures ran { IfOk result (λ ran. HasRunThrough S.has_taken sink.old sink.new
+    ensures ran { IfOk result (λ ran. HasRunAnswer S.has_taken sink.old sink.new
         (then_unit (code_init stage.now budget machine.old.state) (run_each (code_units stage.now budget) (code_loads stage.now tables.now))) ran.end) }
     ensures groups { IfOk result (λ ran. ran.groups ≡ code_group_count grain stage.now tables.now) }
 {

@@ -1,5 +1,3 @@
-pub mod RowLists
-pub mod LoadsLeft
 pub mod SinkLists
 pub mod OutputLists
 pub mod OutputTables

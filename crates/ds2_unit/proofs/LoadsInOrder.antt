@@ -13,7 +13,7 @@ use Rattle.ds2_code.specs.Scales.{AreSettingsScaled, IsDataScaled}
 use Rattle.ds2_machine.specs.AtRest.{MachineAtRest, IsUnitEnd, is_early, staged_program}
 use Rattle.ds2_machine.specs.declared.unit_end.UnitEnd.{UnitEnd}
 use Rattle.ds2_code_answer.specs.CodeAnswer.{code_units}
-use Rattle.ds2_unit.specs.Sources.{IsNextLoad}
+use Rattle.ds2_loads.specs.Sources.{IsNextLoad}
 use Rattle.ds2_unit.specs.UnitsRun.{HasRunLoads}
 use Rattle.ds2_unit.specs.declared.units_end.UnitsEnd.{UnitsEnd}
 use Rattle.ds2_unit.proofs.UnitsInOrder.{LoadsLead, lead_at_first, lead_on, halted, all_run}

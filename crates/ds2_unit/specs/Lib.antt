@@ -1,8 +1,3 @@
-pub mod Sources
-pub mod StatementSource
-pub mod Statement
-pub mod RowsBehind
-pub mod RowSource
 pub mod UnitsRun
 pub mod Outputs
 pub mod ProgramRun

@@ -5,8 +5,6 @@ use Rattle.ds2_value.specs.declared.fault.Ending.{Ending}
 use Rattle.ds2_value.specs.declared.fault.Ending.TheVariants.{Normal, Faulted}
 use Rattle.ds2_table.specs.OneThread.{Reached, Standing, Halted, Astray, GroupResult, Answer, then_unit, run_each}
 use Rattle.ds2_code.specs.declared.parts.ProgramParts.{ProgramParts}
-use Rattle.ds2_code.specs.declared.parts.ReadingPart.{ReadingPart}
-use Rattle.ds2_code.specs.declared.parts.ReadingPart.TheVariants as reading
 use Rattle.ds2_code.specs.declared.parts.StagedParts.{StagedParts}
 use Rattle.ds2_code.specs.CodeUnit.{code_init}
 use Rattle.ds2_code.specs.Desk.{ProgramData, SlotSettings}
@@ -48,11 +46,3 @@ pub record IsReadyToRun (code : StagedParts) (machine : MachineAtRest) (most : �
   pub budget : most ≤ MOST_BUDGET
   pub ready : machine.spent ≡ false
   pub program : machine.program ≡ 0
-
--- a reading of tables or of nothing, not of the rows of a thread program
-abbrev pub ReadsNoThread : ReadingPart → Type 0
-ReadsNoThread reading.Nothing = Unit {0}
-ReadsNoThread reading.Once = Unit {0}
-ReadsNoThread (reading.Set tables bys) = Unit {0}
-ReadsNoThread (reading.Merge tables bys retains) = Unit {0}
-ReadsNoThread (reading.Stage threads slots) = ⊥

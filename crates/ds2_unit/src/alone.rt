@@ -3,13 +3,12 @@ ghost use Rattle.std.specs.Prelude.{◌≡◌, ◌≤◌, [], length, map, IfOk}
 ghost use Rattle.ds2_machine.specs.declared.machine.TheConstants.{MOST_BUDGET};
 ghost use Rattle.ds2_code_answer.specs.CodeAnswer.{code_answer};
 ghost use Rattle.ds2_code_answer.specs.CodeTables.{AreTablesOfCode};
-ghost use Rattle.ds2_unit.specs.UnitsRun.{ReadsNoThread};
+ghost use Rattle.ds2_loads.specs.Readings.{ReadsNoThread};
 ghost use Rattle.ds2_unit.specs.Outputs.{table_of_output};
 ghost use Rattle.ds2_unit.specs.ProgramRun.{IsRunEnd, grain_asked};
-ghost use Rattle.ds2_unit.specs.AloneEnd.{IsProgramEnd};
 
 use crate::output_sinks::OutputSinks;
-use crate::program_end::{ProgramEnd, RunEnd};
+use crate::program_end::RunEnd;
 use crate::reading::{run_reading, slots_of};
 use crate::table_sink::empty_tables;
 use ds2_base::{List, OutOfMemory};
@@ -48,34 +47,6 @@ pub fn run_into<S: UnitSink>(
         ending: end.ending,
         executed: end.executed,
         stages: List::new(alloc),
-    })
-}
-
-/// Runs a data program as [`run_into`] does, and gives what it leaves: a table for each output, its lines and its ending.
-///
-/// A row that does not fit the columns of its output, which valid code does not write, would be refused as want of memory.
-pub fn run_alone(
-    alloc: Global,
-    code: &ProgramCode,
-    tables: &Tables,
-    budget: u64,
-    grains: &List<u32>,
-) -> Result<ProgramEnd, OutOfMemory>
-    requires tables { AreTablesOfCode code.now tables.now }
-    requires budget { budget ≤ MOST_BUDGET }
-    requires grains { length grains.now ≡ length code.now.stages }
-    requires stages { code.now.stages ≡ [] }
-    requires reads { ReadsNoThread code.now.program.reading }
-    ensures { IfOk result (λ end. IsProgramEnd code.now.program (code_answer code.now tables.now budget (grain_asked grains.now)) end) }
-{
-    let mut sink = sinks_of(alloc, code)?;
-    let end = run_into(alloc, code, tables, budget, grains, &mut sink)?;
-    Ok(ProgramEnd {
-        tables: List::of(sink.outputs),
-        lines: sink.lines,
-        ending: end.ending,
-        executed: end.executed,
-        stages: end.stages,
     })
 }
 

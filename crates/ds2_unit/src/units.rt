@@ -1,4 +1,4 @@
-//! The units of a program, one after the other.
+//! The units of a program, one after the other, on the loads of a source.
 ghost use Rattle.std.specs.Prelude.{◌≡◌, ◌+◌, ◌≤◌, false, IfOk};
 ghost use Rattle.std.specs.List.{AllByRecursion};
 ghost use Rattle.ds2_table.specs.OneThread.{run_all, run_each, then_unit};
@@ -9,26 +9,34 @@ ghost use Rattle.ds2_machine.specs.declared.machine.TheConstants.{MOST_BUDGET};
 ghost use Rattle.ds2_code_answer.specs.CodeAnswer.{code_units};
 ghost use Rattle.ds2_unit.specs.UnitsRun.{HasRunLoads, HasRunAnswer};
 
-use crate::source::LoadSource;
 use crate::units_end::UnitsEnd;
 use ds2_base::OutOfMemory;
+use ds2_loads::LoadSource;
 use ds2_machine::{Machine, UnitSink};
 use ds2_valid_code::ProgramCode;
 use ds2_value::Ending;
 use std::alloc::Global;
 
-// So many instructions and so many more. A number above 128 bits, which no run has the time to come to, is refused as want of memory.
-fn and_more(executed: u128, more: u64) -> Result<u128, OutOfMemory>
+/// So many instructions and so many more. A number above 128 bits, which no run has the time to come to, is refused as want of memory.
+pub fn sum_of(executed: u128, more: u128) -> Result<u128, OutOfMemory>
     ensures { IfOk result (λ sum. sum ≡ executed + more) }
 {
-    match executed.checked_add(u128::from(more)) {
+    match executed.checked_add(more) {
         None => Err(OutOfMemory),
         Some(sum) => Ok(sum),
     }
 }
 
-/// Runs the unit `run` on each load, up to the first fault.
-pub(crate) fn run_loads<L: LoadSource, S: UnitSink>(
+// So many instructions and those of one more unit.
+fn and_more(executed: u128, more: u64) -> Result<u128, OutOfMemory>
+    ensures { IfOk result (λ sum. sum ≡ executed + more) }
+{
+    sum_of(executed, u128::from(more))
+}
+
+/// Runs the unit `run` of a machine's program on each load, up to the first fault, each time with this budget of at most
+/// [`ds2_machine::MOST_BUDGET`] steps and calls.
+pub fn run_loads<L: LoadSource, S: UnitSink>(
     alloc: Global,
     code: &ProgramCode,
     machine: &mut Machine,
@@ -44,6 +52,7 @@ pub(crate) fn run_loads<L: LoadSource, S: UnitSink>(
         (run_all (code_units (staged_program code.now machine.old.program) budget) (L.left source.old) machine.old.state) end machine.new) }
     ensures scaled { machine.new.spent ≡ false → IsDataScaled (staged_program code.now machine.new.program) machine.new.state }
     ensures program { machine.new.program ≡ machine.old.program }
+    ensures grouped { L.grouped source.new ≡ L.grouped source.old }
 {
     let mut executed: u128 = 0;
     'loads: while source.next_load() {
@@ -63,8 +72,8 @@ pub(crate) fn run_loads<L: LoadSource, S: UnitSink>(
     })
 }
 
-// Runs `run` on each load, and then `term`.
-fn run_to_end<L: LoadSource, S: UnitSink>(
+/// Runs `run` on each load, and then `term`, up to the first fault.
+pub fn run_to_end<L: LoadSource, S: UnitSink>(
     alloc: Global,
     code: &ProgramCode,
     machine: &mut Machine,
@@ -92,7 +101,7 @@ fn run_to_end<L: LoadSource, S: UnitSink>(
 }
 
 /// Runs `init`, `run` on each load, and `term`, up to the first fault.
-pub(crate) fn run_units<L: LoadSource, S: UnitSink>(
+pub fn run_units<L: LoadSource, S: UnitSink>(
     alloc: Global,
     code: &ProgramCode,
     machine: &mut Machine,

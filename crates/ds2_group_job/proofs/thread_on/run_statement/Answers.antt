@@ -5,8 +5,8 @@ use Rattle.ds2_code.specs.Desk.{SlotSettings}
 use Rattle.ds2_code_answer.specs.CodeAnswer.{code_units}
 use Rattle.ds2_code_answer.specs.CodeLoads.{code_loads}
 use Rattle.ds2_code_answer.specs.StageTold.{told_by_answer}
-use Rattle.ds2_staged.specs.GroupedLoads.{loads_of_groups}
-use Rattle.ds2_staged.specs.StageCursors.{cursor_groups}
+use Rattle.ds2_loads.specs.GroupedLoads.{loads_of_groups}
+use Rattle.ds2_loads.specs.ProgramSources.{program_groups}
 use Rattle.ds2_group_job.specs.KeptAnswers.{HasKeptTold}
 use Rattle.ds2_group_job.specs.StageJobs.{AreGroupsScaled}
 use Rattle.ds2_group_job.specs.WhateverRan.{GivesWhateverRan}
@@ -41,7 +41,7 @@ pub run_rest-requires-clause-loads : goal.run_rest-requires-clause-loads
 run_rest-requires-clause-loads g c = λ κs lives.
     let stage = c.args.stage.now in
     let tables = c.args.tables.now in
-    let groups = cursor_groups c.in_ok-loads.loads.at c.in_ok-loads.loads.cursor in
+    let groups = program_groups c.in_ok-loads.loads in
     let P : ProgramParts → Type 0 = λ p. AreGroupsScaled p.slots groups in
     subst P (sym c.requires.number)
     (groups_are_scaled stage.slots groups (code_loads stage tables) (ap loads_of_groups c.in_ok-loads.ensures.groups ∙ c.groups_are_all_loads.ensures c.args.grain stage tables) (c.loads_are_scaled.ensures stage tables))
@@ -49,7 +49,7 @@ run_rest-requires-clause-loads g c = λ κs lives.
 pub run_rest-requires-clause-independent : goal.run_rest-requires-clause-independent
 run_rest-requires-clause-independent g c = λ κs lives.
     let state = c.args.machine.now.state in
-    let R : ProgramParts → Type 0 = λ p. GivesWhateverRan p c.args.budget (cursor_groups c.in_ok-loads.loads.at c.in_ok-loads.loads.cursor) state in
+    let R : ProgramParts → Type 0 = λ p. GivesWhateverRan p c.args.budget (program_groups c.in_ok-loads.loads) state in
     let S : List (List SlotSettings) → Type 0 = λ gs. GivesWhateverRan c.args.stage.now c.args.budget gs state in
     subst R (sym c.requires.number) (subst S (sym c.in_ok-loads.ensures.groups) c.requires.independent)
 
@@ -58,7 +58,7 @@ returns-clause-ran g c =
     let stage = c.args.stage.now in
     let tables = c.args.tables.now in
     let state = c.args.machine.now.state in
-    let groups = cursor_groups c.in_ok-loads.loads.at c.in_ok-loads.loads.cursor in
+    let groups = program_groups c.in_ok-loads.loads in
     let loads : loads_of_groups groups ≡ code_loads stage tables = ap loads_of_groups c.in_ok-loads.ensures.groups ∙ c.groups_are_all_loads.ensures c.args.grain stage tables in
     let R : ProgramParts → Type 0 = λ p. HasKeptTold c.args.written.now c.run_rest.new.written (told_by_answer (run_each (code_units p c.args.budget) (loads_of_groups groups) state)) c.in_ok-end.end in
     let S : List SlotSettings → Type 0 = λ ls. HasKeptTold c.args.written.now c.run_rest.new.written (told_by_answer (run_each (code_units stage c.args.budget) ls state)) c.in_ok-end.end in
@@ -66,4 +66,4 @@ returns-clause-ran g c =
 
 pub returns-clause-groups : goal.returns-clause-groups
 returns-clause-groups g c =
-    c.groups-groups.ensures ∙ as_many_groups c.args.grain c.args.stage.now c.args.tables.now (cursor_groups c.in_ok-loads.loads.at c.in_ok-loads.loads.cursor) c.in_ok-loads.ensures.groups
+    c.groups-groups.ensures ∙ as_many_groups c.args.grain c.args.stage.now c.args.tables.now (program_groups c.in_ok-loads.loads) c.in_ok-loads.ensures.groups

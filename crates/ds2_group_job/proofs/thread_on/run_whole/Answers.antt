@@ -5,7 +5,7 @@ use Rattle.ds2_code.specs.CodeUnit.{code_init}
 use Rattle.ds2_code_answer.specs.CodeAnswer.{code_units}
 use Rattle.ds2_code_answer.specs.CodeLoads.{code_loads, code_group_count}
 use Rattle.ds2_machine.specs.AtRest.{IsUnitEnd, is_early, staged_program}
-use Rattle.ds2_staged.specs.declared.turns_end.TurnsEnd.{TurnsEnd}
+use Rattle.ds2_unit.specs.declared.units_end.UnitsEnd.{UnitsEnd}
 use Rattle.ds2_group_job.proofs.GroupSteps.{HasKeptRows}
 use Rattle.ds2_group_job.proofs.KeptUnits.{was_last, kept_behind}
 use Rattle.ds2_group_job.proofs.ThreadBegun.{none_told, free_behind}
@@ -45,7 +45,7 @@ returns-then-spent-clause-ran g c =
     let now = c.call_init.new.self.state in
     let P : ProgramParts → Type 0 = λ p. IsUnitEnd HasKeptRows c.args.written.now c.call_init.new.sink (code_init p c.args.budget begun) c.in_ok-first.first now in
     let early : is_early c.in_ok-first.first.ending ≡ true = sym c.in_ok-first.ensures.spent ∙ sym c.spent.ensures ∙ c.if-spent.true in
-    let end : TurnsEnd = record { ending = c.in_ok-first.first.ending; executed = c.from-executed.result } in
+    let end : UnitsEnd = record { ending = c.in_ok-first.first.ending; executed = c.from-executed.result } in
     was_last (code_init stage c.args.budget begun) (run_each (code_units stage c.args.budget) (code_loads stage c.args.tables.now)) c.args.written.now c.call_init.new.sink c.in_ok-first.first now end
     (subst P c.requires.number c.in_ok-first.ensures.ran) early refl (omega (arith, c.from-executed.ensures))
 
@@ -60,7 +60,7 @@ returns-clause-ran g c =
     let now = c.call_init.new.self.state in
     let P : ProgramParts → Type 0 = λ p. IsUnitEnd HasKeptRows c.args.written.now c.call_init.new.sink (code_init p c.args.budget begun) c.in_ok-first.first now in
     let fine : is_early c.in_ok-first.first.ending ≡ false = sym c.in_ok-first.ensures.spent ∙ sym c.spent.ensures ∙ c.if-spent.false in
-    let end : TurnsEnd = record { ending = c.in_ok-rest.rest.end.ending; executed = c.in_ok-all.all } in
+    let end : UnitsEnd = record { ending = c.in_ok-rest.rest.end.ending; executed = c.in_ok-all.all } in
     kept_behind (code_init stage c.args.budget begun) (run_each (code_units stage c.args.budget) (code_loads stage c.args.tables.now)) c.args.written.now c.call_init.new.sink c.run_over.new.written
     c.in_ok-first.first now c.in_ok-rest.rest.end end (subst P c.requires.number c.in_ok-first.ensures.ran) fine c.in_ok-rest.ensures.ran refl (omega (arith, c.in_ok-all.ensures, c.from-executed.ensures))
 

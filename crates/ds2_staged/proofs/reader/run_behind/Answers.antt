@@ -10,8 +10,9 @@ use Rattle.ds2_machine.specs.AtRest.{staged_program}
 use Rattle.ds2_machine.specs.declared.record.OutRow.{OutRow}
 use Rattle.ds2_code_answer.specs.CodeAnswer.{code_units}
 use Rattle.ds2_code_answer.specs.CodeLoads.{slots_of_stage}
-use Rattle.ds2_staged.specs.Turns.{HasRunThrough}
-use Rattle.ds2_staged.specs.Threads.{rows_as_loads, answer_on_rows}
+use Rattle.ds2_unit.specs.UnitsRun.{HasRunAnswer}
+use Rattle.ds2_loads.specs.StageRows.{rows_as_loads}
+use Rattle.ds2_staged.specs.Threads.{answer_on_rows}
 use Rattle.ds2_staged.proofs.StagedRuns.{loads_of_rows, rows_scaled, behind_normal, behind_fault, whatever_groups}
 use Rattle.ds2_staged.proofs.reader.run_behind.Goals as goal
 
@@ -45,10 +46,10 @@ returns-in_ok-end-in-Normal g c = λ answer is.
     ∙ ap (λ (columns : List ℕ). rows_as_loads program.slots columns c.args.stage.now.written.rows) (sym c.requires.into)
     ∙ loads_of_rows program.slots (slots_of_stage program.reading) c.args.stage.now.written.rows (stage_rows answer) is.rows in
     let P : ProgramParts → Type 0 = λ p.
-    HasRunThrough g.S.UnitSink.has_taken c.hand_on.new.sink c.run_to_end.new.sink
+    HasRunAnswer g.S.UnitSink.has_taken c.hand_on.new.sink c.run_to_end.new.sink
     (run_each (code_units p c.args.budget) (rows_as_loads c.as_slice-slots.result.now into c.as_slice-rest.result.now) state) c.in_ok-end-in-Normal.end in
     let Q : List SlotSettings → Type 0 = λ xs.
-    HasRunThrough g.S.UnitSink.has_taken c.hand_on.new.sink c.run_to_end.new.sink (run_each (code_units program c.args.budget) xs state) c.in_ok-end-in-Normal.end in
+    HasRunAnswer g.S.UnitSink.has_taken c.hand_on.new.sink c.run_to_end.new.sink (run_each (code_units program c.args.budget) xs state) c.in_ok-end-in-Normal.end in
     behind_normal g.S.UnitSink.has_taken c.args.sink.now c.hand_on.new.sink c.run_to_end.new.sink c.as_slice-lines.result.now answer (answer_on_rows program c.args.budget state)
     c.in_ok-end-in-Normal.end (is.ended ∙ ap Some c.in-Normal.is) (c.as_slice-lines.ensures ∙ is.lines) c.in_ok-hand_on.ensures
     (whatever_groups g.S.UnitSink.has_taken c.hand_on.new.sink c.run_to_end.new.sink (length (stage_rows answer))

@@ -6,7 +6,7 @@ use Rattle.ds2_code.specs.Scales.{IsDataScaled}
 use Rattle.ds2_slots.specs.LoadedHashes.{AreSlotTypesInBounds}
 use Rattle.ds2_unit.proofs.Statements.{types_of_valid}
 use Rattle.ds2_staged.specs.Threads.{IsThreadEnd, answer_behind}
-use Rattle.ds2_staged.specs.Turns.{HasRunThrough}
+use Rattle.ds2_unit.specs.UnitsRun.{HasRunAnswer}
 use Rattle.ds2_staged.proofs.reader.run_rows.Goals as goal
 
 pub run_behind-requires-clause-program : goal.run_behind-requires-clause-program
@@ -25,6 +25,6 @@ run_behind-requires-clause-scaled g c =
 pub returns : goal.returns
 returns g c =
     let P : ProgramParts → Type 0 = λ p.
-    IfOk c.run_behind.result (λ end. (answer : Answer) → IsThreadEnd answer c.args.stage.now → HasRunThrough g.S.UnitSink.has_taken c.args.sink.now c.run_behind.new.sink
+    IfOk c.run_behind.result (λ end. (answer : Answer) → IsThreadEnd answer c.args.stage.now → HasRunAnswer g.S.UnitSink.has_taken c.args.sink.now c.run_behind.new.sink
     (answer_behind p c.args.budget c.args.machine.now.state answer) end) in
     subst P (ap (λ (x : StagedParts). x.program) c.parts.ensures.value) c.run_behind.ensures

@@ -10,8 +10,8 @@ use Rattle.ds2_code.specs.Scales.{AreSettingsScaled}
 use Rattle.ds2_machine.specs.AtRest.{staged_program}
 use Rattle.ds2_code_answer.specs.CodeAnswer.{code_units}
 use Rattle.ds2_code_answer.specs.CodeLoads.{code_keyed_loads, code_loads}
-use Rattle.ds2_staged.specs.GroupedLoads.{settings_of_code}
-use Rattle.ds2_staged.specs.Turns.{HasRunThrough}
+use Rattle.ds2_loads.specs.GroupedLoads.{settings_of_code}
+use Rattle.ds2_unit.specs.UnitsRun.{HasRunAnswer}
 use Rattle.ds2_staged.specs.declared.thread.GroupedEnd.{GroupedEnd}
 use Rattle.ds2_staged.proofs.thread.run_statement.Goals as goal
 
@@ -39,10 +39,10 @@ run_grouped-requires-clause-loads g c =
 pub returns-clause-ran : goal.returns-clause-ran
 returns-clause-ran g c =
     let P : ProgramParts → Type 0 = λ p.
-    IfOk c.run_grouped.result (λ ran. HasRunThrough g.S.UnitSink.has_taken c.args.sink.now c.run_grouped.new.sink
+    IfOk c.run_grouped.result (λ ran. HasRunAnswer g.S.UnitSink.has_taken c.args.sink.now c.run_grouped.new.sink
     (then_unit (code_init p c.args.budget c.args.machine.now.state) (run_each (code_units p c.args.budget) (code_loads c.args.stage.now c.args.tables.now))) ran.end) in
     let Q : List SlotSettings → Type 0 = λ xs.
-    IfOk c.run_grouped.result (λ ran. HasRunThrough g.S.UnitSink.has_taken c.args.sink.now c.run_grouped.new.sink
+    IfOk c.run_grouped.result (λ ran. HasRunAnswer g.S.UnitSink.has_taken c.args.sink.now c.run_grouped.new.sink
     (then_unit (code_init (staged_program c.args.code.now c.args.machine.now.program) c.args.budget c.args.machine.now.state)
     (run_each (code_units (staged_program c.args.code.now c.args.machine.now.program) c.args.budget) xs)) ran.end) in
     subst P c.requires.number (subst Q c.in_ok-loads.ensures.left c.run_grouped.ensures.ran)
@@ -51,6 +51,6 @@ pub returns-clause-groups : goal.returns-clause-groups
 returns-clause-groups g c =
     let P : ℕ → Type 0 = λ n. IfOk c.run_grouped.result (λ (ran : GroupedEnd). ran.groups ≡ n) in
     subst P
-    (c.groups-groups.ensures ∙ ap length c.in_ok-loads.ensures.groups
+    (ap length c.in_ok-loads.ensures.groups
     ∙ length-map (groups c.args.grain (code_keyed_loads c.args.stage.now c.args.tables.now)) (map (settings_of_code c.args.stage.now c.args.tables.now)))
     c.run_grouped.ensures.groups

@@ -14,7 +14,7 @@ returns c =
       program = ap (λ (m : MachineAtRest). m.program) same ∙ ap (λ (j : StageJob). j.number) c.self.view_is;
       ready = ap (λ (m : MachineAtRest). m.spent) same ∙ c.self.invariant.ready;
       scaled = subst Q (ap (λ (j : StageJob). j.code) c.self.view_is) (subst P (sym same) c.self.invariant.scaled);
-      loads = c.in_ok-loads.ensures.groups ∙ ap (λ (j : StageJob). j.groups) c.self.view_is;
+      loads = c.in_ok-loads.ensures.grouped ∙ ap (λ (j : StageJob). j.groups) c.self.view_is;
       ran = [];
       behind = ap (λ (m : MachineAtRest). m.state) same ∙ ap (λ (j : StageJob). j.first) c.self.view_is;
     }

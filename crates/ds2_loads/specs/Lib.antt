@@ -1,0 +1,9 @@
+pub mod Sources
+pub mod Readings
+pub mod Grains
+pub mod StatementSource
+pub mod RowsBehind
+pub mod LoadCursors
+pub mod GroupedLoads
+pub mod ProgramSources
+pub mod StageRows
