@@ -12,14 +12,8 @@
 //! }
 //! ```
 //!
-//! A table of sales, made from one number: what `demo` runs over.
-//!
-//! Numbers are drawn one out of the other, the first out of the number of rows, so that a number of rows has one table.
-//!
-//! ```text
-//! let table = sales(alloc, 2)?;
-//! let total = sales_total(2);
-//! ```
+//! The table of [`sales`] over which `demo` runs is made from one number: numbers are drawn one out of the other, the first out of the number
+//! of rows.
 #![tactic(auto)]
 
 mod command_line;
@@ -34,7 +28,6 @@ mod schema;
 mod status;
 mod words;
 
-pub use crate::{MOST_SALES, sales_total};
 pub use command_line::{CommandLine, GivenOptions, MOST_THREADS, read_command_line};
 pub use counts::say_without_counts;
 pub use demo::{demo_files, demo_job};
