@@ -1,4 +1,5 @@
 pub mod GroupSteps
+pub mod StagesReady
 pub mod GroupsInTurn
 pub mod NoneStrays
 pub mod KeptGroups

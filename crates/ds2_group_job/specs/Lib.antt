@@ -4,3 +4,5 @@ pub mod StageJobs
 pub mod GroupWorkers
 pub mod KeptAnswers
 pub mod IndependentGroups
+pub mod StageRuns
+pub mod ProgramRuns

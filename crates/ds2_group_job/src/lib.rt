@@ -1,24 +1,34 @@
-//! The groups of a thread program as a job of a stage, and programs whose thread program runs on many workers.
+//! The groups of a thread program as a job of a stage, and programs with the thread programs that they read from.
 //!
 //! A [`GroupJob`] stands on the machine on which `init` of the thread program was run once. Each worker has a copy of that machine, and a
 //! cursor of its own over the loads. [`run_thread_on`] gives what `ds2_staged::run_thread` gives, for every number of workers, where groups
-//! of the thread program give the same whatever groups ran before them; [`run_with`] runs a whole program so. The laws in [`laws`] say
-//! which thread programs these are.
+//! of the thread program give the same whatever groups ran before them. The laws in [`laws`] say which thread programs these are.
+//!
+//! A [`StageRun`] is a thread program that can be run in both ways. [`run_into`] runs a whole program ([`ProgramRun`]) and takes what runs
+//! its thread program as a function, so that it needs no threads itself; [`run_alone`] and [`run_with`] hand it the one way and the other.
 //!
 //! ```text
-//! let end = run_with(&rt, alloc, &code, &tables, budget, &grains, workers, &NoGate)?;
+//! let program = ProgramRun { code: &code, tables: &tables, budget, grains: &grains, workers };
+//! let end = run_with(&rt, alloc, &program, &NoGate)?;
 //! ```
 #![tactic(auto)]
 
+mod alone;
 mod gathering;
 mod group_worker;
 mod job;
 pub mod laws;
 mod on_workers;
+mod program_run;
+mod reader;
+mod stage_run;
 mod thread_on;
-mod with_workers;
 
+pub use alone::{run_alone, run_with};
+pub use ds2_staged::ThreadEnd;
 pub use group_worker::GroupWorker;
 pub use job::GroupJob;
+pub use program_run::ProgramRun;
+pub use reader::run_into;
+pub use stage_run::StageRun;
 pub use thread_on::run_thread_on;
-pub use with_workers::{run_into_with, run_with};

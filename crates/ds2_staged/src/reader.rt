@@ -1,4 +1,4 @@
-//! A program that reads from a thread program.
+//! A program behind the thread program that it reads from.
 ghost use Rattle.std.specs.Prelude.{◌≡◌, ◌+◌, ◌≤◌, [], ◌∷◌, false, IfOk, OnOk};
 ghost use Rattle.ds2_table.specs.OneThread.{Answer};
 ghost use Rattle.ds2_code.specs.Scales.{IsDataScaled};
@@ -6,17 +6,14 @@ ghost use Rattle.ds2_slots.specs.LoadedHashes.{AreSlotTypesInBounds};
 ghost use Rattle.ds2_machine.specs.Sink.{SinkTakes};
 ghost use Rattle.ds2_machine.specs.declared.machine.TheConstants.{MOST_BUDGET};
 ghost use Rattle.ds2_code_answer.specs.CodeLoads.{slots_of_stage};
-ghost use Rattle.ds2_unit.specs.ProgramRun.{IsRunEnd};
 ghost use Rattle.ds2_unit.specs.UnitsRun.{HasRunAnswer};
-ghost use Rattle.ds2_staged.specs.Threads.{IsThreadEnd, answer_behind, reader_answer, reader_answer_from};
+ghost use Rattle.ds2_staged.specs.Threads.{IsThreadEnd, answer_behind};
 
-use crate::runs_thread::RunsThread;
 use crate::thread::ThreadEnd;
 use ds2_base::{List, OutOfMemory, Text};
 use ds2_code::{ProgramParts, ReadingPart};
-use ds2_loads::{StageRows, TableRows};
+use ds2_loads::StageRows;
 use ds2_machine::{Machine, UnitEnd, UnitSink};
-use ds2_reading::Tables;
 use ds2_unit::{RunEnd, StageNote, UnitsEnd, run_to_end, sum_of};
 use ds2_valid_code::ProgramCode;
 use ds2_value::Ending;
@@ -142,52 +139,4 @@ pub fn ended_behind(
         executed,
         stages,
     })
-}
-
-// Runs a data program that reads from a thread program, from a machine for it.
-fn run_opened<R: RunsThread, S: UnitSink>(
-    alloc: Global,
-    code: &ProgramCode,
-    machine: &mut Machine,
-    budget: u64,
-    thread: &R,
-    sink: &mut S,
-) -> Result<RunEnd, OutOfMemory>
-    requires number { machine.old.program ≡ 0 }
-    requires scaled { IsDataScaled code.now.program machine.old.state }
-    requires budget { budget ≤ MOST_BUDGET }
-    requires ready { machine.old.spent ≡ false }
-    requires thread { R.ready thread.now }
-    ensures { IfOk result (λ end. IsRunEnd S.has_taken sink.old sink.new (reader_answer_from code.now.program budget (R.answer thread.now) machine.old.state) end) }
-{
-    let first = machine.call_init(alloc, code, budget, sink)?;
-    if machine.spent() {
-        return Ok(ended_at_init(alloc, first));
-    }
-    let stage = thread.run_whole(alloc, machine.stage_parameters())?;
-    let rest = run_rows(alloc, code, &stage, machine, budget, sink)?;
-    let end = ended_behind(alloc, first, stage.note, rest)?;
-    Ok(end)
-}
-
-/// Runs a data program that reads from a thread program with so many parameters: its `init`, the thread program with the parameters that
-/// were set last, null where none was, then `run` on each row of that one, and `term`. What runs the thread program is a parameter.
-///
-/// The thread program's lines go to the sink when it has ended, and its fault ends the data program.
-pub fn run_reader<R: RunsThread, S: UnitSink>(
-    alloc: Global,
-    code: &ProgramCode,
-    parameters: usize,
-    tables: &Tables,
-    budget: u64,
-    thread: &R,
-    sink: &mut S,
-) -> Result<RunEnd, OutOfMemory>
-    requires budget { budget ≤ MOST_BUDGET }
-    requires thread { R.ready thread.now }
-    ensures { IfOk result (λ end. IsRunEnd S.has_taken sink.old sink.new (reader_answer code.now.program parameters tables.now budget (R.answer thread.now)) end) }
-{
-    let rows = TableRows { tables };
-    let mut machine = Machine::open(alloc, code, 0, &[], &rows, parameters)?;
-    run_opened(alloc, code, &mut machine, budget, thread, sink)
 }

@@ -1,16 +1,15 @@
 use Rattle.std.proofs.Common.{◌++◌, [], sym, ap, ◌∙◌, subst, List}
 use Rattle.std.proofs.lemmas.List.{append-nil}
 use Rattle.ds2_table.specs.Table.{Contents}
-use Rattle.ds2_code_answer.specs.CodeAnswer.{code_answer}
 use Rattle.ds2_unit.specs.Outputs.{HaveRows}
-use Rattle.ds2_unit.specs.ProgramRun.{grain_asked}
 use Rattle.ds2_unit.proofs.OutputTables.{HasTaken, nothing_written, tables_end}
-use Rattle.ds2_staged.proofs.alone.run_alone.Goals as goal
+use Rattle.ds2_group_job.specs.ProgramRuns.{answer_of_program}
+use Rattle.ds2_group_job.proofs.alone.run_program.Goals as goal
 
 pub returns : goal.returns
-returns c =
-    let code = c.args.code.now.program in
-    let answer = code_answer c.args.code.now c.args.tables.now c.args.budget (grain_asked c.args.grains.now) in
+returns g c =
+    let code = c.args.program.now.code.now.program in
+    let answer = answer_of_program c.args.program.now in
     let begun = c.in_ok-sink.sink in
     let now = c.run_into.new.sink in
     let it = c.in_ok-end.ensures in
