@@ -7,5 +7,6 @@ pub mod CommandOutcomes
 pub use Rattle.ds2_compile.specs.AnswersOfTexts
 pub use Rattle.ds2_compile.specs.ProgramTree
 pub use Rattle.ds2_compile.specs.StagedParts
+pub use Rattle.ds2_exec.specs.StageRuns
 pub use Rattle.ds2_verdicts.specs.ThreadVerdicts
 pub use Rattle.ds2_verdicts.specs.declared.verdicts.ThreadVerdict

@@ -5,22 +5,22 @@ ghost use Rattle.ds2_answer.specs.Status.{IsAnswerStatus};
 ghost use Rattle.ds2_answer.specs.CommandLines.{HasRowsWithin};
 ghost use Rattle.ds2_answer.specs.DemoPlans.{total_line};
 ghost use Rattle.ds2_answer.specs.declared.command_line.CommandLine.TheVariants.{Demo};
+ghost use Rattle.ds2_exec.specs.StageRuns.{RunsStages};
 ghost use Rattle.ds2_store_steps.specs.Halts.{HaltsAs};
 ghost use Rattle.ds2_commands.specs.DemoOutcomes.{DoesDemo, EndsDemo, FollowsBeside, told_of_end};
 
 use crate::run::run_source;
-use crate::workers::run_source_with;
+use crate::source_run::SourceRun;
 use ds2_answer::lines::say_demo;
 use ds2_answer::{DEFAULT_BUDGET, Status, demo_files, demo_job, sales_total, say_without_counts};
 use ds2_base::{Bytes, List, OutOfMemory};
 use ds2_compile::sources_are_read;
-use ds2_outside::Gate;
+use ds2_exec::{StageRun, ThreadEnd};
 use ds2_store_steps::Halt;
+use ds2_value::Value;
 use std::alloc::Global;
-use std::sync::Wait;
-use std::thread::Threads;
 
-// How many workers share the groups of the job's thread program.
+// How many workers share the groups of the job's thread program, where they run on workers.
 const WORKERS: u32 = 4;
 
 // Says how many sales there were, and their total.
@@ -70,29 +70,16 @@ fn end_demo(
     }
 }
 
-/// `demo`: runs its job over `n` sales, and says what the job has said, but for its counts of instructions. No store is asked.
-pub(crate) fn show_demo(alloc: Global, n: u32, log: &mut Bytes) -> Result<(), Halt>
-    requires rows { HasRowsWithin (Demo n) }
-    ensures does { (sources : SourcesRead) → DoesDemo sources n log.old result log.new }
-    ensures unread { HaltsAs Status.Read result → ⊥ }
-    ensures unwritten { HaltsAs Status.Write result → ⊥ }
-{
-    sources_are_read();
-    let job = demo_job(alloc)?;
-    let mut files = demo_files(alloc, n)?;
-    let mut text = List::new(alloc);
-    let ran = run_source(alloc, &job, DEFAULT_BUDGET, &mut text, &mut files);
-    end_demo(alloc, n, ran, &text, log)
-}
-
-/// The same, with the groups of the job's thread program on several workers.
-pub(crate) fn show_demo_with<G: Gate + Sync, W: Threads + Wait + Sync>(
-    rt: &W,
+/// `demo`: runs its job over `n` sales, its thread program by `run`, and says what the job has said, but for its counts of instructions. No
+/// store is asked.
+pub(crate) fn show_demo<F: Fn(Global, &StageRun, &[Value]) -> Result<ThreadEnd, OutOfMemory>>(
     alloc: Global,
     n: u32,
-    gate: &G,
+    run: &F,
     log: &mut Bytes,
 ) -> Result<(), Halt>
+    requires callable { F.IsAlwaysCallable run.now }
+    requires right { RunsStages (F.post run.now) }
     requires rows { HasRowsWithin (Demo n) }
     ensures does { (sources : SourcesRead) → DoesDemo sources n log.old result log.new }
     ensures unread { HaltsAs Status.Read result → ⊥ }
@@ -102,15 +89,11 @@ pub(crate) fn show_demo_with<G: Gate + Sync, W: Threads + Wait + Sync>(
     let job = demo_job(alloc)?;
     let mut files = demo_files(alloc, n)?;
     let mut text = List::new(alloc);
-    let ran = run_source_with(
-        rt,
-        alloc,
-        &job,
-        Some(WORKERS),
-        gate,
-        DEFAULT_BUDGET,
-        &mut text,
-        &mut files,
-    );
+    let asked = SourceRun {
+        source: &job,
+        threads: Some(WORKERS),
+        budget: DEFAULT_BUDGET,
+    };
+    let ran = run_source(alloc, &asked, run, &mut text, &mut files);
     end_demo(alloc, n, ran, &text, log)
 }

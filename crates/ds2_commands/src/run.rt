@@ -3,79 +3,93 @@ ghost use Rattle.std.specs.Prelude.{◌≤◌, IsTrue};
 ghost use Rattle.ds2_compile.specs.AnswersOfTexts.{SourcesRead};
 ghost use Rattle.ds2_answer.specs.Words.{is_source};
 ghost use Rattle.ds2_answer.specs.declared.words.TheConstants.{MOST_BUDGET};
+ghost use Rattle.ds2_exec.specs.StageRuns.{RunsStages};
 ghost use Rattle.ds2_store_steps.specs.Halts.{CausedBy, FollowsAll};
 ghost use Rattle.ds2_commands.specs.CommandOutcomes.{DoesSource, runs_with};
 ghost use Rattle.ds2_commands.specs.SourceLoads.{IsRunnableObject, RunsLoaded, StoresReadable, loaded_plan};
 
 use crate::loaded::Loaded;
+use crate::source_run::SourceRun;
 use crate::sources::load_source;
 use crate::storing::store_new;
 use ds2_answer::Status;
 use ds2_answer::laws::codes_do_as_programs;
-use ds2_base::{Bytes, Text};
+use ds2_base::{Bytes, OutOfMemory};
 use ds2_compile::sources_are_read;
-use ds2_exec::run_programs;
+use ds2_exec::{RunInput, StageRun, ThreadEnd, run_programs};
 use ds2_outside::Store;
 use ds2_store_steps::Halt;
+use ds2_value::Value;
 use std::alloc::Global;
 
 // Runs the programs of a source.
-fn run_codes<S: Store>(
+fn run_codes<F: Fn(Global, &StageRun, &[Value]) -> Result<ThreadEnd, OutOfMemory>, S: Store>(
     alloc: Global,
+    asked: &SourceRun,
     loaded: &Loaded,
-    budget: u64,
+    run: &F,
     log: &mut Bytes,
     store: &mut S,
 ) -> Result<(), Halt>
+    requires callable { F.IsAlwaysCallable run.now }
+    requires right { RunsStages (F.post run.now) }
     requires runs { IsRunnableObject loaded.now }
-    requires budget { budget ≤ MOST_BUDGET }
-    ensures does { FollowsAll (loaded_plan budget loaded.now) log.old (S.files store.old) result log.new (S.files store.new) }
+    requires budget { asked.now.budget ≤ MOST_BUDGET }
+    ensures does { FollowsAll (loaded_plan asked.now.budget loaded.now) log.old (S.files store.old) result log.new (S.files store.new) }
     ensures read { CausedBy Status.Read result (S.read_faults store.old) (S.read_faults store.new) }
     ensures write { CausedBy Status.Write result (S.write_faults store.old) (S.write_faults store.new) }
 {
     let codes = loaded.object.programs().as_slice();
     let stored = loaded.stored.as_slice();
     let verdicts = loaded.verdicts.as_slice();
-    run_programs(alloc, codes, stored, verdicts, budget, log, store)
+    let input = RunInput {
+        codes,
+        stored,
+        verdicts,
+        threads: asked.threads,
+        budget: asked.budget,
+    };
+    run_programs(alloc, &input, run, log, store)
 }
 
 // Unless an output is there already, stores the object of a source and runs its programs.
-fn run_loaded<S: Store>(
+fn run_loaded<F: Fn(Global, &StageRun, &[Value]) -> Result<ThreadEnd, OutOfMemory>, S: Store>(
     alloc: Global,
-    source: &Text,
+    asked: &SourceRun,
     loaded: &Loaded,
-    budget: u64,
+    run: &F,
     log: &mut Bytes,
     store: &mut S,
 ) -> Result<(), Halt>
-    requires named { IsTrue (is_source source.now) }
+    requires callable { F.IsAlwaysCallable run.now }
+    requires right { RunsStages (F.post run.now) }
+    requires named { IsTrue (is_source asked.now.source.now) }
     requires runs { IsRunnableObject loaded.now }
-    requires budget { budget ≤ MOST_BUDGET }
-    ensures does { RunsLoaded source.now budget loaded.now log.old (S.files store.old) result log.new (S.files store.new) }
+    requires budget { asked.now.budget ≤ MOST_BUDGET }
+    ensures does { RunsLoaded asked.now.source.now asked.now.budget loaded.now log.old (S.files store.old) result log.new (S.files store.new) }
     ensures readable { StoresReadable loaded.now.object result (S.files store.old) (S.files store.new) }
     ensures read { CausedBy Status.Read result (S.read_faults store.old) (S.read_faults store.new) }
     ensures write { CausedBy Status.Write result (S.write_faults store.old) (S.write_faults store.new) }
 {
     codes_do_as_programs();
-    store_new(alloc, source, &loaded.object, log, store)?;
-    run_codes(alloc, loaded, budget, log, store)
+    store_new(alloc, asked.source, &loaded.object, log, store)?;
+    run_codes(alloc, asked, loaded, run, log, store)
 }
 
-/// `run`: compiles a source, stores its object and runs its programs.
-pub(crate) fn run_source<S: Store>(
-    alloc: Global,
-    source: &Text,
-    budget: u64,
-    log: &mut Bytes,
-    store: &mut S,
-) -> Result<(), Halt>
-    requires named { IsTrue (is_source source.now) }
-    requires budget { budget ≤ MOST_BUDGET }
-    ensures does { (sources : SourcesRead) → DoesSource sources source.now (runs_with source.now budget) log.old (S.files store.old) result log.new (S.files store.new) }
+/// `run`: compiles a source, stores its object and runs its programs, their thread programs by `run`.
+pub(crate) fn run_source<
+    F: Fn(Global, &StageRun, &[Value]) -> Result<ThreadEnd, OutOfMemory>,
+    S: Store,
+>(alloc: Global, asked: &SourceRun, run: &F, log: &mut Bytes, store: &mut S) -> Result<(), Halt>
+    requires callable { F.IsAlwaysCallable run.now }
+    requires right { RunsStages (F.post run.now) }
+    requires named { IsTrue (is_source asked.now.source.now) }
+    requires budget { asked.now.budget ≤ MOST_BUDGET }
+    ensures does { (sources : SourcesRead) → DoesSource sources asked.now.source.now (runs_with asked.now.source.now asked.now.budget) log.old (S.files store.old) result log.new (S.files store.new) }
     ensures read { CausedBy Status.Read result (S.read_faults store.old) (S.read_faults store.new) }
     ensures write { CausedBy Status.Write result (S.write_faults store.old) (S.write_faults store.new) }
 {
     sources_are_read();
-    let loaded = load_source(alloc, source, log, store)?;
-    run_loaded(alloc, source, &loaded, budget, log, store)
+    let loaded = load_source(alloc, asked.source, log, store)?;
+    run_loaded(alloc, asked, &loaded, run, log, store)
 }

@@ -1,5 +1,5 @@
 -- The grain of a local thread program, and what its groups give there.
-use Rattle.std.proofs.Common.{◌≡◌, ◌∙◌, ℕ, List, [], ◌∷◌, get_or, length, map, Option, sym, ap, subst, arith}
+use Rattle.std.proofs.Common.{◌≡◌, ◌∙◌, ℕ, List, [], ◌∷◌, get_or, length, map, Option, Some, None, IfSome, sym, ap, subst, arith}
 use Rattle.std.specs.List.{AllByRecursion}
 use Rattle.ds2_table.specs.Table.{Contents, IsTable}
 use Rattle.ds2_code.specs.declared.parts.ProgramParts.{ProgramParts}
@@ -11,7 +11,8 @@ use Rattle.ds2_same_meaning.specs.SameMeaning.{number_of_bys}
 use Rattle.ds2_answer.specs.HeldTables.{HeldTables, tables_held}
 use Rattle.ds2_answer.specs.ObjectPlans.{stage_in_code, stages_of_code}
 use Rattle.ds2_answer.specs.StagesLeft.{VerdictsTold, grain_of_stages, grain_told}
-use Rattle.ds2_exec.specs.LocalCodes.{IsIndependentOver, IsIndependentWhereLocal, IsToldLocal}
+use Rattle.ds2_verdicts.specs.ThreadVerdicts.{verdict_named}
+use Rattle.ds2_exec.specs.LocalCodes.{IsIndependentOver, IsIndependentWhereLocal, IsLocalByVerdict, IsToldLocal}
 
 -- the one thread program of a list
 pub only_one : (stages : List ProgramParts) (stage : ProgramParts) → length stages ≡ 1 → stage ≡ get_or stages 0 stage → stages ≡ stage ∷ []
@@ -29,6 +30,24 @@ pub independent_asked : (told : VerdictsTold) (code : StagedParts) (tables : Lis
     → IsIndependentOver told code tables budget → AreIndependentStages code.program code.stages tables budget asked
 independent_asked told code tables budget grain asked is asked_is independent =
     subst (λ (g : ℕ). AreIndependentStages code.program code.stages tables budget g) (sym (asked_is ∙ local_asked told code.stages grain is)) (independent grain is)
+
+-- where its groups may run on workers, since it is told to be local
+pub independent_given : (told : VerdictsTold) (code : StagedParts) (tables : List Contents) (budget asked : ℕ) (stages : List ProgramParts) (parts : StagedParts) → stages ≡ code.stages → parts ≡ code
+    → asked ≡ grain_of_stages told (map stage_in_code stages) → IsIndependentOver told code tables budget → (workers : Option ℕ) → IfSome workers (λ _. IsLocalByVerdict told parts.stages)
+    → IfSome workers (λ _. AreIndependentStages code.program code.stages tables budget asked)
+independent_given told code tables budget asked stages parts stages_are parts_are asked_is independent None local = local
+independent_given told code tables budget asked stages parts stages_are parts_are asked_is independent (Some n) local =
+    independent_asked told code tables budget local.0 asked (subst (λ (x : StagedParts). IsToldLocal told x.stages local.0) parts_are local.1) (asked_is ∙ ap (λ (ss : List ProgramParts). grain_of_stages told (map stage_in_code ss)) stages_are) independent
+
+-- where no verdict is told, no thread program is told to be local
+none_told : (stages : List ProgramParts) (grain : ℕ) → IsToldLocal (verdict_named []) stages grain → ⊥
+none_told [] grain is = is
+none_told (stage ∷ []) grain is = absurd cc
+none_told (stage ∷ next ∷ stages) grain is = is
+
+pub none_local : (codes' : List StagedParts) → AllByRecursion (IsIndependentWhereLocal (verdict_named [])) codes'
+none_local [] = tt
+none_local (code ∷ codes') = ((λ held budget fits whole grain is. absurd (none_told code.stages grain is)), none_local codes')
 
 -- tables that are held are tables of the code over which its thread program is independent
 pub independent_held : (told : VerdictsTold) (code : StagedParts) (held : HeldTables) (tables : List Contents) (budget : ℕ) → tables ≡ tables_held held code → AllByRecursion IsTable tables

@@ -7,3 +7,4 @@ pub mod VerdictGrains
 pub mod OutputSinks
 pub mod ExecOutcomes
 pub mod LocalThreads
+pub use Rattle.ds2_group_job.specs.StageRuns

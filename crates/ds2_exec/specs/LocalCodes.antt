@@ -16,6 +16,10 @@ IsToldLocal told [] grain = ⊥
 IsToldLocal told (stage ∷ []) grain = told (name_of_stage stage.name) ≡ Some (Local grain)
 IsToldLocal told (stage ∷ next ∷ stages) grain = ⊥
 
+-- it is so by some grain
+abbrev pub IsLocalByVerdict : VerdictsTold → List ProgramParts → Type 0
+IsLocalByVerdict told stages = (grain : ℕ) × IsToldLocal told stages grain
+
 -- over these tables and with this budget, the groups of a thread program that is told to be local give the same at its grain whatever groups ran
 -- before them
 abbrev pub IsIndependentOver : VerdictsTold → StagedParts → List Contents → (budget : ℕ) → Type 0

@@ -2,7 +2,8 @@
 //!
 //! [`exec`] runs an object and gives a status and the text for the log ([`ExecEnd`]); what it does is the object's plan (`object_plan` of
 //! `ds2_answer`). Its last step is [`run_programs`], which a command that compiles a source makes too; those before it are of
-//! `ds2_store_steps`. [`run_programs_with`] gives the same answer as [`run_programs`], the groups of local thread programs on many workers.
+//! `ds2_store_steps`. What runs a thread program ([`StageRun`]) is a parameter: on the caller's thread, or its groups on many workers where it
+//! is local.
 //!
 //! ```text
 //! let object = decode(alloc, &bytes)?;
@@ -23,9 +24,11 @@ mod object_run;
 mod output_rows;
 mod output_sink;
 mod programs;
+mod run_input;
 mod stages;
 mod workers;
 
+pub use ds2_group_job::{StageRun, ThreadEnd};
 pub use object_run::{ExecEnd, exec, run_object};
 pub use programs::run_programs;
-pub use workers::run_programs_with;
+pub use run_input::RunInput;

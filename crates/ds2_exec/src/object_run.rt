@@ -7,11 +7,14 @@ ghost use Rattle.ds2_store_steps.specs.Halts.{CausedBy, FollowsAll};
 ghost use Rattle.ds2_outside.specs.Causes.{HasCause};
 
 use crate::programs::run_programs;
+use crate::run_input::RunInput;
 use ds2_answer::Status;
 use ds2_base::{Bytes, List, OutOfMemory};
+use ds2_group_job::StageRun;
 use ds2_object::ObjectCode;
 use ds2_outside::Store;
 use ds2_store_steps::{Halt, ask_outputs, inputs_of, read_tables, references_of};
+use ds2_value::Value;
 use std::alloc::Global;
 
 /// What the run of an object leaves beside its tables.
@@ -41,7 +44,20 @@ pub fn run_object<S: Store>(
     let names = inputs_of(alloc, references)?;
     let stored = read_tables(alloc, references, names.as_slice(), log, store)?;
     ask_outputs(alloc, codes, log, store)?;
-    run_programs(alloc, codes, stored.as_slice(), &[], budget, log, store)
+    let input = RunInput {
+        codes,
+        stored: stored.as_slice(),
+        verdicts: &[],
+        threads: None,
+        budget,
+    };
+    run_programs(
+        alloc,
+        &input,
+        &|a: Global, stage: &StageRun, given: &[Value]| stage.run(a, given),
+        log,
+        store,
+    )
 }
 
 /// Runs an object: reads the tables of the store that its programs name, each with the columns that they name, asks for its outputs, runs

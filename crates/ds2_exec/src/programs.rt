@@ -8,6 +8,7 @@ ghost use Rattle.ds2_table.specs.Table.{IsTable};
 ghost use Rattle.ds2_code_answer.specs.CodeAnswer.{code_answer};
 ghost use Rattle.ds2_code_answer.specs.CodeTables.{AreTablesOfCode};
 ghost use Rattle.ds2_machine.specs.declared.machine.TheConstants.{MOST_BUDGET};
+ghost use Rattle.ds2_group_job.specs.StageRuns.{RunsStages};
 ghost use Rattle.ds2_answer.specs.HeldTables.{held_from_store, tables_held};
 ghost use Rattle.ds2_answer.specs.Lines.{count_line};
 ghost use Rattle.ds2_answer.specs.ObjectPlans.{run_of_code, stages_of_code};
@@ -17,28 +18,31 @@ ghost use Rattle.ds2_answer.specs.StagesLeft.{grain_of_stages};
 ghost use Rattle.ds2_verdicts.specs.ThreadVerdicts.{verdict_named};
 ghost use Rattle.ds2_store_steps.specs.Halts.{CausedBy, Follows, FollowsAll};
 ghost use Rattle.ds2_exec.specs.CodeRuns.{AreLinked, rows_counted};
+ghost use Rattle.ds2_exec.specs.LocalCodes.{IsIndependentOver, IsIndependentWhereLocal};
 ghost use Rattle.ds2_exec.specs.OutputSinks.{HaveKept, IsCodeEnd, code_end_then, left_by_run, sinks_then, tables_kept, write_sink_then};
 ghost use Rattle.ds2_exec.specs.StageEnds.{GrainsFit, stages_counted};
 
 use crate::key::key_of_run;
 use crate::output_rows::sinks_of;
 use crate::output_sink::OutputSink;
+use crate::run_input::{RunInput, Running};
 use crate::stages::{StageEnd, count_stages, grains_of, stage_ends};
+use crate::workers::workers_of;
 use ds2_answer::Status;
 use ds2_answer::lines::{say_count, say_lines, say_table};
 use ds2_base::{Bytes, List, OutOfMemory, Text};
 use ds2_code::ProgramParts;
+use ds2_group_job::{ProgramRun, StageRun, ThreadEnd, run_into};
 use ds2_outside::Store;
 use ds2_reading::{HashKey, Tables};
 use ds2_scope::NameSet;
-use ds2_staged::run_into;
 use ds2_store_steps::{
     Halt, KeptTable, end_in_fault, names_kept, references_of, references_of_code, table_file,
     tables_referred, write_file,
 };
 use ds2_unit::{OutputSinks, RunEnd};
 use ds2_valid_code::ProgramCode;
-use ds2_value::Ending;
+use ds2_value::{Ending, Value};
 use ds2_verdicts::ThreadVerdict;
 use std::alloc::Global;
 
@@ -56,7 +60,7 @@ pub(crate) struct CodeEnd {
 // ---- one program
 
 // The tables that a program's code names, of those that are held, with this key.
-pub(crate) fn tables_of_code(
+fn tables_of_code(
     alloc: Global,
     code: &ProgramCode,
     stored: &[KeptTable],
@@ -70,8 +74,8 @@ pub(crate) fn tables_of_code(
     tables_referred(alloc, references.as_slice(), stored, made, key)
 }
 
-/// What a program's code leaves whose run has ended so, with what its sink has taken.
-pub(crate) fn code_end(
+// What a program's code leaves whose run has ended so, with what its sink has taken.
+fn code_end(
     alloc: Global,
     stages: &[ProgramParts],
     verdicts: &[ThreadVerdict],
@@ -90,27 +94,36 @@ pub(crate) fn code_end(
     })
 }
 
-// Runs a program's code over its tables. Rows are kept of tables of these names.
-fn run_code(
+// Runs a program's code over its tables. Rows are kept of tables of the names that are kept.
+fn run_code<F: Fn(Global, &StageRun, &[Value]) -> Result<ThreadEnd, OutOfMemory>>(
     alloc: Global,
+    running: &Running<F>,
     code: &ProgramCode,
     tables: &Tables,
-    kept: &NameSet,
-    verdicts: &[ThreadVerdict],
-    budget: u64,
 ) -> Result<CodeEnd, OutOfMemory>
-    requires fit { GrainsFit (verdict_named verdicts.now) code.now }
+    requires callable { F.IsAlwaysCallable running.now.run.now }
+    requires right { RunsStages (F.post running.now.run.now) }
+    requires fit { GrainsFit (verdict_named running.now.verdicts.now) code.now }
     requires tables { AreTablesOfCode code.now tables.now }
-    requires budget { budget ≤ MOST_BUDGET }
-    ensures { IfOk result (λ end. IsCodeEnd (contains (pointwise nat_eq) kept.now) (verdict_named verdicts.now) code.now
-        (code_answer code.now tables.now budget (grain_of_stages (verdict_named verdicts.now) (stages_of_code code.now))) end) }
+    requires budget { running.now.budget ≤ MOST_BUDGET }
+    requires independent { IsIndependentOver (verdict_named running.now.verdicts.now) code.now tables.now running.now.budget }
+    ensures { IfOk result (λ end. IsCodeEnd (contains (pointwise nat_eq) running.now.kept.now) (verdict_named running.now.verdicts.now) code.now
+        (code_answer code.now tables.now running.now.budget (grain_of_stages (verdict_named running.now.verdicts.now) (stages_of_code code.now))) end) }
 {
     let parts = code.parts();
-    let threads = parts.stages.as_slice();
-    let grains = grains_of(alloc, threads, verdicts)?;
-    let mut sink = sinks_of(alloc, code, kept)?;
-    let end = run_into(alloc, code, tables, budget, &grains, &mut sink)?;
-    code_end(alloc, threads, verdicts, sink, end)
+    let stages = parts.stages.as_slice();
+    let verdicts = running.verdicts;
+    let grains = grains_of(alloc, stages, verdicts)?;
+    let program = ProgramRun {
+        code,
+        tables,
+        budget: running.budget,
+        grains: &grains,
+        workers: workers_of(parts, verdicts, running.threads),
+    };
+    let mut sink = sinks_of(alloc, code, running.kept)?;
+    let end = run_into(alloc, &program, running.run, &mut sink)?;
+    code_end(alloc, stages, verdicts, sink, end)
 }
 
 // Writes a table.
@@ -239,8 +252,8 @@ fn kept_tables(alloc: Global, sinks: List<OutputSink>) -> Result<List<KeptTable>
     Ok(tables)
 }
 
-/// Says what a program has left, writes its tables, and gives those of which rows are kept.
-pub(crate) fn settle<S: Store>(
+// Says what a program has left, writes its tables, and gives those of which rows are kept.
+fn settle<S: Store>(
     alloc: Global,
     end: CodeEnd,
     log: &mut Bytes,
@@ -256,36 +269,35 @@ pub(crate) fn settle<S: Store>(
 }
 
 // Runs a program, and gives those of its tables of which rows are kept.
-fn run_program<S: Store>(
+fn run_program<F: Fn(Global, &StageRun, &[Value]) -> Result<ThreadEnd, OutOfMemory>, S: Store>(
     alloc: Global,
+    running: &Running<F>,
     code: &ProgramCode,
-    kept: &NameSet,
-    stored: &[KeptTable],
     made: &[List<KeptTable>],
-    key: HashKey,
-    verdicts: &[ThreadVerdict],
-    budget: u64,
     log: &mut Bytes,
     store: &mut S,
 ) -> Result<List<KeptTable>, Halt>
-    requires fit { GrainsFit (verdict_named verdicts.now) code.now }
-    requires tables { AreTablesOfCode code.now (tables_held (record { stored = stored.now; made = made.now }) code.now) }
-    requires budget { budget ≤ MOST_BUDGET }
-    ensures does { (rest : Plan) → Follows (program_then (run_of_code (verdict_named verdicts.now) budget code.now (record { stored = stored.now; made = made.now })) rest) (λ _. rest) log.old (S.files store.old) result log.new (S.files store.new) }
-    ensures made { IfOk result (λ tables. HaveKept (contains (pointwise nat_eq) kept.now) tables (ProgramLeft.tables (run_of_code (verdict_named verdicts.now) budget code.now (record { stored = stored.now; made = made.now })))) }
+    requires callable { F.IsAlwaysCallable running.now.run.now }
+    requires right { RunsStages (F.post running.now.run.now) }
+    requires fit { GrainsFit (verdict_named running.now.verdicts.now) code.now }
+    requires tables { AreTablesOfCode code.now (tables_held (record { stored = running.now.stored.now; made = made.now }) code.now) }
+    requires budget { running.now.budget ≤ MOST_BUDGET }
+    requires independent { IsIndependentWhereLocal (verdict_named running.now.verdicts.now) code.now }
+    ensures does { (rest : Plan) → Follows (program_then (run_of_code (verdict_named running.now.verdicts.now) running.now.budget code.now (record { stored = running.now.stored.now; made = made.now })) rest) (λ _. rest) log.old (S.files store.old) result log.new (S.files store.new) }
+    ensures made { IfOk result (λ tables. HaveKept (contains (pointwise nat_eq) running.now.kept.now) tables (ProgramLeft.tables (run_of_code (verdict_named running.now.verdicts.now) running.now.budget code.now (record { stored = running.now.stored.now; made = made.now })))) }
     ensures read { CausedBy Status.Read result (S.read_faults store.old) (S.read_faults store.new) }
     ensures write { CausedBy Status.Write result (S.write_faults store.old) (S.write_faults store.new) }
 {
-    let tables = tables_of_code(alloc, code, stored, made, key)?;
-    let end = run_code(alloc, code, &tables, kept, verdicts, budget)?;
+    let tables = tables_of_code(alloc, code, running.stored, made, running.key)?;
+    let end = run_code(alloc, running, code, &tables)?;
     settle(alloc, end, log, store)
 }
 
 // ---- programs
 
-/// The names of the tables of which rows are kept, which are let go by a call.
-pub(crate) struct KeptNames {
-    pub(crate) names: NameSet,
+// The names of the tables of which rows are kept, which are let go by a call.
+struct KeptNames {
+    names: NameSet,
 }
 
 impl Drop for KeptNames {
@@ -295,45 +307,46 @@ impl Drop for KeptNames {
 }
 
 /// Runs programs one behind the other, each over the tables of the store that were read and those that earlier ones have made: `init`, `run`
-/// on each load, `term`, each with this budget of at most [`ds2_machine::MOST_BUDGET`] steps and calls; behind `init` the thread program that
-/// it reads from, if any, with its groups at the grain of its verdict. A program that ends without fault writes its tables; the first fault
-/// ends the command. Rows are kept only of tables that a program names.
-pub fn run_programs<S: Store>(
+/// on each load, `term`; behind `init` the thread program that it reads from, if any, with its groups at the grain of its verdict. `run` runs
+/// that one, on workers where its verdict is local or on the caller's thread, with the same answer. A program that ends without fault writes
+/// its tables; the first fault ends the command. Rows are kept only of tables that a program names.
+pub fn run_programs<F: Fn(Global, &StageRun, &[Value]) -> Result<ThreadEnd, OutOfMemory>, S: Store>(
     alloc: Global,
-    codes: &[ProgramCode],
-    stored: &[KeptTable],
-    verdicts: &[ThreadVerdict],
-    budget: u64,
+    input: &RunInput,
+    run: &F,
     log: &mut Bytes,
     store: &mut S,
 ) -> Result<(), Halt>
-    requires fit { AllByRecursion (GrainsFit (verdict_named verdicts.now)) codes.now }
-    requires linked { AreLinked codes.now stored.now }
-    requires budget { budget ≤ MOST_BUDGET }
-    ensures does { FollowsAll (programs_plan (map (run_of_code (verdict_named verdicts.now) budget) codes.now) (held_from_store stored.now)) log.old (S.files store.old) result log.new (S.files store.new) }
+    requires callable { F.IsAlwaysCallable run.now }
+    requires right { RunsStages (F.post run.now) }
+    requires fit { AllByRecursion (GrainsFit (verdict_named input.now.verdicts.now)) input.now.codes.now }
+    requires linked { AreLinked input.now.codes.now input.now.stored.now }
+    requires budget { input.now.budget ≤ MOST_BUDGET }
+    requires independent { AllByRecursion (IsIndependentWhereLocal (verdict_named input.now.verdicts.now)) input.now.codes.now }
+    ensures does { FollowsAll (programs_plan (map (run_of_code (verdict_named input.now.verdicts.now) input.now.budget) input.now.codes.now) (held_from_store input.now.stored.now)) log.old (S.files store.old) result log.new (S.files store.new) }
     ensures read { CausedBy Status.Read result (S.read_faults store.old) (S.read_faults store.new) }
     ensures write { CausedBy Status.Write result (S.write_faults store.old) (S.write_faults store.new) }
 {
+    let codes = input.codes;
+    let stored = input.stored;
     let references = references_of(alloc, codes)?;
     let names = names_kept(alloc, references.as_slice())?;
     let kept = KeptNames { names };
     let key = key_of_run(alloc, codes, stored)?;
+    let running = Running {
+        stored,
+        verdicts: input.verdicts,
+        kept: &kept.names,
+        key,
+        threads: input.threads,
+        budget: input.budget,
+        run,
+    };
     let mut made: List<List<KeptTable>> = List::new(alloc);
     let mut left = codes;
     while let [code, after @ ..] = left {
         let _parts = code.parts();
-        let tables = run_program(
-            alloc,
-            code,
-            &kept.names,
-            stored,
-            made.as_slice(),
-            key,
-            verdicts,
-            budget,
-            log,
-            store,
-        )?;
+        let tables = run_program(alloc, &running, code, made.as_slice(), log, store)?;
         made.push(tables)?;
         left = after;
     }

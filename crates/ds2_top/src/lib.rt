@@ -10,7 +10,6 @@
 mod report;
 mod top;
 mod words;
-mod workers;
 
 pub use ds2_answer::Status;
 pub use top::{ds2, ds2_alone};

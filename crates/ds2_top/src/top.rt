@@ -2,12 +2,12 @@
 ghost use Rattle.ds2_top.specs.Headline.{Headline};
 
 use crate::report::report_end;
-use crate::words::run;
-use crate::workers::run_with;
+use crate::words::do_words;
 use ds2_answer::Status;
 use ds2_base::{List, Text};
-use ds2_commands::sources_are_read;
+use ds2_commands::{StageRun, sources_are_read};
 use ds2_outside::{Gate, Sink, Store};
+use ds2_value::Value;
 use std::alloc::Global;
 use std::sync::Wait;
 use std::thread::Threads;
@@ -30,7 +30,8 @@ pub fn ds2_alone<T: Store, L: Sink>(
 {
     sources_are_read();
     let mut text = List::new(alloc);
-    let ran = run(alloc, words, &mut text, store);
+    let run = |a: Global, stage: &StageRun, given: &[Value]| stage.run(a, given);
+    let ran = do_words(alloc, words, &run, &mut text, store);
     report_end(alloc, ran, &text, log)
 }
 
@@ -51,6 +52,7 @@ pub fn ds2<T: Store, L: Sink, G: Gate + Sync>(
 {
     sources_are_read();
     let mut text = List::new(alloc);
-    let ran = run_with(rt, alloc, words, gate, &mut text, store);
+    let run_on = |a: Global, stage: &StageRun, given: &[Value]| stage.run_on(rt, a, given, gate);
+    let ran = do_words(alloc, words, &run_on, &mut text, store);
     report_end(alloc, ran, &text, log)
 }

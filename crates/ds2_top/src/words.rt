@@ -4,17 +4,19 @@ ghost use Rattle.ds2_answer.specs.CommandLines.{command_line_of};
 ghost use Rattle.ds2_answer.specs.Lines.{usage_line};
 ghost use Rattle.ds2_store_steps.specs.Halts.{CausedBy, StopsAs};
 ghost use Rattle.ds2_commands.specs.CommandOutcomes.{DoesCommand};
+ghost use Rattle.ds2_commands.specs.StageRuns.{RunsStages};
 
 use ds2_answer::lines::say_usage;
 use ds2_answer::{Status, read_command_line};
 use ds2_base::{Bytes, OutOfMemory, Text};
-use ds2_commands::do_command;
+use ds2_commands::{StageRun, ThreadEnd, do_command};
 use ds2_outside::Store;
 use ds2_store_steps::Halt;
+use ds2_value::Value;
 use std::alloc::Global;
 
-/// Says that the words are no command, which ends it.
-pub(crate) fn refuse_words(log: &mut Bytes) -> Halt
+// Says that the words are no command, which ends it.
+fn refuse_words(log: &mut Bytes) -> Halt
     ensures { StopsAs Status.Usage usage_line log.old result log.new }
 {
     match say_usage(log) {
@@ -23,19 +25,19 @@ pub(crate) fn refuse_words(log: &mut Bytes) -> Halt
     }
 }
 
-/// Does what a line of words says, but for the writing of the log.
-pub(crate) fn run<S: Store>(
-    alloc: Global,
-    words: &[Text],
-    log: &mut Bytes,
-    store: &mut S,
-) -> Result<(), Halt>
+/// Does what a line of words says, its thread programs by `run`, but for the writing of the log.
+pub(crate) fn do_words<
+    F: Fn(Global, &StageRun, &[Value]) -> Result<ThreadEnd, OutOfMemory>,
+    S: Store,
+>(alloc: Global, words: &[Text], run: &F, log: &mut Bytes, store: &mut S) -> Result<(), Halt>
+    requires callable { F.IsAlwaysCallable run.now }
+    requires right { RunsStages (F.post run.now) }
     ensures does { (sources : SourcesRead) → DoesCommand sources (command_line_of words.now) log.old (S.files store.old) result log.new (S.files store.new) }
     ensures read { CausedBy Status.Read result (S.read_faults store.old) (S.read_faults store.new) }
     ensures write { CausedBy Status.Write result (S.write_faults store.old) (S.write_faults store.new) }
 {
     match read_command_line(alloc, words)? {
-        Some(line) => do_command(alloc, &line, log, store),
+        Some(line) => do_command(alloc, &line, run, log, store),
         None => Err(refuse_words(log)),
     }
 }

@@ -1,5 +1,5 @@
 use Rattle.std.proofs.Common.{◌∙◌}
-use Rattle.ds2_commands.proofs.StoreSteps.{fits_of, ran_loaded, runs_of}
+use Rattle.ds2_commands.proofs.StoreSteps.{fits_of, independent_of, ran_loaded, runs_of}
 use Rattle.ds2_commands.proofs.run.run_codes.Goals as goal
 
 pub run_programs-requires-clause-fit : goal.run_programs-requires-clause-fit
@@ -10,7 +10,11 @@ pub run_programs-requires-clause-linked : goal.run_programs-requires-clause-link
 run_programs-requires-clause-linked g c =
     runs_of c.args.loaded.now.object c.as_slice-codes.result.now c.args.loaded.now.stored c.as_slice-stored.result.now (c.as_slice-codes.ensures ∙ c.programs.ensures.value) c.as_slice-stored.ensures c.requires.runs.linked
 
+pub run_programs-requires-clause-independent : goal.run_programs-requires-clause-independent
+run_programs-requires-clause-independent g c =
+    independent_of c.args.loaded.now.object c.as_slice-codes.result.now c.args.loaded.now.verdicts c.as_slice-verdicts.result.now (c.as_slice-codes.ensures ∙ c.programs.ensures.value) c.as_slice-verdicts.ensures c.requires.runs.independent
+
 pub returns-clause-does : goal.returns-clause-does
 returns-clause-does g c =
-    ran_loaded c.args.budget c.args.loaded.now c.as_slice-codes.result.now c.as_slice-stored.result.now c.as_slice-verdicts.result.now (c.as_slice-codes.ensures ∙ c.programs.ensures.value) c.as_slice-stored.ensures c.as_slice-verdicts.ensures
+    ran_loaded c.args.asked.now.budget c.args.loaded.now c.as_slice-codes.result.now c.as_slice-stored.result.now c.as_slice-verdicts.result.now (c.as_slice-codes.ensures ∙ c.programs.ensures.value) c.as_slice-stored.ensures c.as_slice-verdicts.ensures
     c.args.log.now c.run_programs.new.log (g.S.Store.files c.args.store.now) (g.S.Store.files c.run_programs.new.store) c.run_programs.result c.run_programs.ensures.does

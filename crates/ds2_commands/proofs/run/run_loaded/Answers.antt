@@ -3,12 +3,12 @@ use Rattle.ds2_commands.proofs.run.run_loaded.Goals as goal
 
 pub returns-in_err-store_new-clause-does : goal.returns-in_err-store_new-clause-does
 returns-in_err-store_new-clause-does g c =
-    run_unstored c.codes_do_as_programs.ensures c.args.source.now c.args.budget c.args.loaded.now c.args.log.now c.store_new.new.log (g.S.Store.files c.args.store.now) (g.S.Store.files c.store_new.new.store)
+    run_unstored c.codes_do_as_programs.ensures c.args.asked.now.source.now c.args.asked.now.budget c.args.loaded.now c.args.log.now c.store_new.new.log (g.S.Store.files c.args.store.now) (g.S.Store.files c.store_new.new.store)
     c.in_err-store_new.field-0.0 c.from_residual.result c.from_residual.ensures.1 c.in_err-store_new.ensures.does
 
 pub returns-clause-does : goal.returns-clause-does
 returns-clause-does g c =
-    run_then c.codes_do_as_programs.ensures c.args.source.now c.args.budget c.args.loaded.now c.args.log.now c.store_new.new.log c.run_codes.new.log
+    run_then c.codes_do_as_programs.ensures c.args.asked.now.source.now c.args.asked.now.budget c.args.loaded.now c.args.log.now c.store_new.new.log c.run_codes.new.log
     (g.S.Store.files c.args.store.now) (g.S.Store.files c.store_new.new.store) (g.S.Store.files c.run_codes.new.store) c.run_codes.result c.in_ok-store_new.ensures.does c.run_codes.ensures.does
 
 pub returns-in_err-store_new-clause-readable : goal.returns-in_err-store_new-clause-readable

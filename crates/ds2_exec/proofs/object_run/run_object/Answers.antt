@@ -4,6 +4,7 @@ use Rattle.ds2_object.specs.ObjectSpelling.{object_linked}
 use Rattle.ds2_store_steps.specs.TableReads.{AreTablesRead}
 use Rattle.ds2_exec.proofs.CodeSteps.{grains_fit, object_links}
 use Rattle.ds2_exec.proofs.ExecSteps.{inputs_are, inputs_differ, object_is, object_then, object_unnamed, object_unread, outputs_not_there, outputs_there}
+use Rattle.ds2_exec.proofs.LocalSteps.{none_local}
 use Rattle.ds2_exec.proofs.object_run.run_object.Goals as goal
 
 pub read_tables-requires : goal.read_tables-requires
@@ -14,6 +15,9 @@ read_tables-requires g c = record {
 
 pub run_programs-requires-clause-fit : goal.run_programs-requires-clause-fit
 run_programs-requires-clause-fit g c = grains_fit c.as_slice-codes.result.now
+
+pub run_programs-requires-clause-independent : goal.run_programs-requires-clause-independent
+run_programs-requires-clause-independent g c = none_local c.as_slice-codes.result.now
 
 pub run_programs-requires-clause-linked : goal.run_programs-requires-clause-linked
 run_programs-requires-clause-linked g c =

@@ -5,18 +5,19 @@ use Rattle.std.specs.HashSet.{contains}
 use Rattle.ds2_verdicts.specs.ThreadVerdicts.{verdict_named}
 use Rattle.ds2_answer.specs.Plan.{Stops}
 use Rattle.ds2_answer.specs.declared.status.Status.TheVariants.{Done}
+use Rattle.ds2_exec.proofs.LocalSteps.{first_local}
 use Rattle.ds2_store_steps.proofs.Leading.{item_is, no_memory, none_is_left}
 use Rattle.ds2_exec.proofs.RunSteps.{next_program, plan_of, run_all, run_another, run_halts, run_kept, run_unkept, running_begins}
 use Rattle.ds2_exec.proofs.programs.run_programs.Goals as goal
 
 pub returns-in_err-references-clause-does : goal.returns-in_err-references-clause-does
 returns-in_err-references-clause-does g c =
-    no_memory (plan_of (verdict_named c.args.verdicts.now) c.args.budget c.args.stored.now c.args.codes.now []) (λ (_ : Unit {0}). Stops Done) c.args.log.now c.args.log.now (g.S.Store.files c.args.store.now) (g.S.Store.files c.args.store.now) c.from_residual.result
+    no_memory (plan_of (verdict_named c.args.input.now.verdicts.now) c.args.input.now.budget c.args.input.now.stored.now c.args.input.now.codes.now []) (λ (_ : Unit {0}). Stops Done) c.args.log.now c.args.log.now (g.S.Store.files c.args.store.now) (g.S.Store.files c.args.store.now) c.from_residual.result
     c.from_residual.ensures.1 refl
 
 pub returns-in_err-names-clause-does : goal.returns-in_err-names-clause-does
 returns-in_err-names-clause-does g c =
-    no_memory (plan_of (verdict_named c.args.verdicts.now) c.args.budget c.args.stored.now c.args.codes.now []) (λ (_ : Unit {0}). Stops Done) c.args.log.now c.args.log.now (g.S.Store.files c.args.store.now) (g.S.Store.files c.args.store.now) c.from_residual-in_err-names.result
+    no_memory (plan_of (verdict_named c.args.input.now.verdicts.now) c.args.input.now.budget c.args.input.now.stored.now c.args.input.now.codes.now []) (λ (_ : Unit {0}). Stops Done) c.args.log.now c.args.log.now (g.S.Store.files c.args.store.now) (g.S.Store.files c.args.store.now) c.from_residual-in_err-names.result
     c.from_residual-in_err-names.ensures.1 refl
 
 pub key_of_run-requires : goal.key_of_run-requires
@@ -24,42 +25,47 @@ key_of_run-requires g c = c.requires.linked.links
 
 pub returns-in_err-key-clause-does : goal.returns-in_err-key-clause-does
 returns-in_err-key-clause-does g c =
-    no_memory (plan_of (verdict_named c.args.verdicts.now) c.args.budget c.args.stored.now c.args.codes.now []) (λ (_ : Unit {0}). Stops Done) c.args.log.now c.args.log.now (g.S.Store.files c.args.store.now) (g.S.Store.files c.args.store.now) c.from_residual-in_err-key.result
+    no_memory (plan_of (verdict_named c.args.input.now.verdicts.now) c.args.input.now.budget c.args.input.now.stored.now c.args.input.now.codes.now []) (λ (_ : Unit {0}). Stops Done) c.args.log.now c.args.log.now (g.S.Store.files c.args.store.now) (g.S.Store.files c.args.store.now) c.from_residual-in_err-key.result
     c.from_residual-in_err-key.ensures.1 refl
 
 pub loop-left-init : goal.loop-left-init
 loop-left-init g c =
     let keeps = contains (pointwise nat_eq) c.in_ok-names.names in
     record {
-      run = running_begins keeps (verdict_named c.args.verdicts.now) c.args.budget c.args.stored.now c.args.codes.now c.as_slice.result.now c.new-made.result c.args.log.now (g.S.Store.files c.args.store.now) c.requires.fit c.requires.linked
+      run = running_begins keeps (verdict_named c.args.input.now.verdicts.now) c.args.input.now.budget c.args.input.now.stored.now c.args.input.now.codes.now c.as_slice.result.now c.new-made.result c.args.log.now (g.S.Store.files c.args.store.now) c.requires.fit c.requires.linked
           (c.as_slice.ensures ∙ c.in_ok-references.ensures) c.in_ok-names.ensures c.new-made.ensures;
+      independent = c.requires.independent;
       reads = omega arith;
       writes = omega arith;
     }
 
 pub run_program-requires-clause-fit : goal.run_program-requires-clause-fit
-run_program-requires-clause-fit g c = (next_program _ (verdict_named c.args.verdicts.now) _ _ c.args.codes.now _ _ _ _ _ _ _ _ (item_is _ _ c.in-len1-up.len_at_least c.code-item.is) (run_kept _ _ c.args.budget c.args.stored.now c.args.codes.now _ _ _ _ _ _ _ c.as_slice-in-len1-up.ensures c.loop-left.invariant.run)).0
+run_program-requires-clause-fit g c = (next_program _ (verdict_named c.args.input.now.verdicts.now) _ _ c.args.input.now.codes.now _ _ _ _ _ _ _ _ (item_is _ _ c.in-len1-up.len_at_least c.code-item.is) (run_kept _ _ c.args.input.now.budget c.args.input.now.stored.now c.args.input.now.codes.now _ _ _ _ _ _ _ c.as_slice-in-len1-up.ensures c.loop-left.invariant.run)).0
 
 pub run_program-requires-clause-tables : goal.run_program-requires-clause-tables
-run_program-requires-clause-tables g c = (next_program _ (verdict_named c.args.verdicts.now) _ _ c.args.codes.now _ _ _ _ _ _ _ _ (item_is _ _ c.in-len1-up.len_at_least c.code-item.is) (run_kept _ _ c.args.budget c.args.stored.now c.args.codes.now _ _ _ _ _ _ _ c.as_slice-in-len1-up.ensures c.loop-left.invariant.run)).1
+run_program-requires-clause-tables g c = (next_program _ (verdict_named c.args.input.now.verdicts.now) _ _ c.args.input.now.codes.now _ _ _ _ _ _ _ _ (item_is _ _ c.in-len1-up.len_at_least c.code-item.is) (run_kept _ _ c.args.input.now.budget c.args.input.now.stored.now c.args.input.now.codes.now _ _ _ _ _ _ _ c.as_slice-in-len1-up.ensures c.loop-left.invariant.run)).1
+
+pub run_program-requires-clause-independent : goal.run_program-requires-clause-independent
+run_program-requires-clause-independent g c = (first_local (verdict_named c.args.input.now.verdicts.now) _ _ _ (item_is _ _ c.in-len1-up.len_at_least c.code-item.is) c.loop-left.invariant.independent).0
 
 pub loop-left-preserved : goal.loop-left-preserved
 loop-left-preserved g c = record {
-  run = run_another _ (verdict_named c.args.verdicts.now) c.args.budget c.args.stored.now c.args.codes.now _ _ _ _ _ _ _ _ (item_is _ _ c.in-len1-up.len_at_least c.code-item.is) (run_kept _ _ c.args.budget c.args.stored.now c.args.codes.now _ _ _ _ _ _ _ c.as_slice-in-len1-up.ensures c.loop-left.invariant.run) _ _ _ _ _ c.parts-parts.ensures.valid c.as_slice-in-len1-up.ensures c.in_ok-push.ensures.ok
+  run = run_another _ (verdict_named c.args.input.now.verdicts.now) c.args.input.now.budget c.args.input.now.stored.now c.args.input.now.codes.now _ _ _ _ _ _ _ _ (item_is _ _ c.in-len1-up.len_at_least c.code-item.is) (run_kept _ _ c.args.input.now.budget c.args.input.now.stored.now c.args.input.now.codes.now _ _ _ _ _ _ _ c.as_slice-in-len1-up.ensures c.loop-left.invariant.run) _ _ _ _ _ c.parts-parts.ensures.valid c.as_slice-in-len1-up.ensures c.in_ok-push.ensures.ok
       c.in_ok-tables.ensures.made c.in_ok-tables.ensures.does;
+  independent = (first_local (verdict_named c.args.input.now.verdicts.now) _ _ _ (item_is _ _ c.in-len1-up.len_at_least c.code-item.is) c.loop-left.invariant.independent).1;
   reads = omega (arith, c.in_ok-tables.ensures.read);
   writes = omega (arith, c.in_ok-tables.ensures.write);
 }
 
 pub returns-clause-does : goal.returns-clause-does
-returns-clause-does g c = run_all _ (verdict_named c.args.verdicts.now) c.args.budget c.args.stored.now c.args.codes.now _ _ _ _ _ _ (none_is_left _ c.in_default.len_below) c.loop-left.invariant.run
+returns-clause-does g c = run_all _ (verdict_named c.args.input.now.verdicts.now) c.args.input.now.budget c.args.input.now.stored.now c.args.input.now.codes.now _ _ _ _ _ _ (none_is_left _ c.in_default.len_below) c.loop-left.invariant.run
 
 pub returns-in_err-tables-clause-does : goal.returns-in_err-tables-clause-does
 returns-in_err-tables-clause-does g c =
-    run_halts _ (verdict_named c.args.verdicts.now) c.args.budget c.args.stored.now c.args.codes.now _ _ _ _ _ _ _ _ (item_is _ _ c.in-len1-up.len_at_least c.code-item.is) (run_kept _ _ c.args.budget c.args.stored.now c.args.codes.now _ _ _ _ _ _ _ c.as_slice-in-len1-up.ensures c.loop-left.invariant.run) (Unit {0}) _ _ _ c.from_residual-in_err-tables.result
+    run_halts _ (verdict_named c.args.input.now.verdicts.now) c.args.input.now.budget c.args.input.now.stored.now c.args.input.now.codes.now _ _ _ _ _ _ _ _ (item_is _ _ c.in-len1-up.len_at_least c.code-item.is) (run_kept _ _ c.args.input.now.budget c.args.input.now.stored.now c.args.input.now.codes.now _ _ _ _ _ _ _ c.as_slice-in-len1-up.ensures c.loop-left.invariant.run) (Unit {0}) _ _ _ c.from_residual-in_err-tables.result
     c.from_residual-in_err-tables.ensures.1 c.in_err-tables.ensures.does
 
 pub returns-in_err-push-clause-does : goal.returns-in_err-push-clause-does
 returns-in_err-push-clause-does g c =
-    run_unkept _ (verdict_named c.args.verdicts.now) c.args.budget c.args.stored.now c.args.codes.now _ _ _ _ _ _ _ _ (item_is _ _ c.in-len1-up.len_at_least c.code-item.is) (run_kept _ _ c.args.budget c.args.stored.now c.args.codes.now _ _ _ _ _ _ _ c.as_slice-in-len1-up.ensures c.loop-left.invariant.run) _ _ c.from_residual-in_err-push.result
+    run_unkept _ (verdict_named c.args.input.now.verdicts.now) c.args.input.now.budget c.args.input.now.stored.now c.args.input.now.codes.now _ _ _ _ _ _ _ _ (item_is _ _ c.in-len1-up.len_at_least c.code-item.is) (run_kept _ _ c.args.input.now.budget c.args.input.now.stored.now c.args.input.now.codes.now _ _ _ _ _ _ _ c.as_slice-in-len1-up.ensures c.loop-left.invariant.run) _ _ c.from_residual-in_err-push.result
     c.from_residual-in_err-push.ensures.1 c.in_ok-tables.ensures.does

@@ -2,13 +2,16 @@ use Rattle.std.proofs.Common.{◌≤◌, length}
 use Rattle.std.specs.Prelude.{nat_eq}
 use Rattle.std.specs.Cmp.Lexicographic.{pointwise}
 use Rattle.std.specs.HashSet.{contains}
+use Rattle.std.specs.List.{AllByRecursion}
 use Rattle.ds2_verdicts.specs.ThreadVerdicts.{verdict_named}
+use Rattle.ds2_exec.specs.LocalCodes.{IsIndependentWhereLocal}
 use Rattle.ds2_exec.proofs.RunSteps.{AreRunSoFar}
 use Rattle.ds2_exec.proofs.programs.run_programs.Given as goal
 
 abbrev pub invariant-loop-left : goal.invariant-loop-left
 invariant-loop-left g l = record {
-  run : AreRunSoFar (contains (pointwise nat_eq) l.kept.names) (verdict_named l.verdicts) l.budget l.stored l.codes l.left l.made l.initial.log (g.S.Store.files l.initial.store) l.log (g.S.Store.files l.store);
+  run : AreRunSoFar (contains (pointwise nat_eq) l.running.kept.now) (verdict_named l.fn.input.verdicts.now) l.fn.input.budget l.fn.input.stored.now l.fn.input.codes.now l.left l.made l.initial.log (g.S.Store.files l.initial.store) l.log (g.S.Store.files l.store);
+  independent : AllByRecursion (IsIndependentWhereLocal (verdict_named l.fn.input.verdicts.now)) l.left;
   reads : g.S.Store.read_faults l.initial.store ≤ g.S.Store.read_faults l.store;
   writes : g.S.Store.write_faults l.initial.store ≤ g.S.Store.write_faults l.store;
 }

@@ -3,5 +3,5 @@ use Rattle.ds2_top.proofs.top.ds2.Goals as goal
 
 pub returns : goal.returns
 returns g c =
-    end_headline c.sources_are_read.ensures c.args.words.now _ _ c.report_end.result c.new-text.result c.run_with-ran.new.log c.run_with-ran.result c.new-text.ensures c.run_with-ran.ensures.read c.run_with-ran.ensures.write
-    (c.run_with-ran.ensures.does c.sources_are_read.ensures) c.report_end.ensures
+    end_headline c.sources_are_read.ensures c.args.words.now _ _ c.report_end.result c.new-text.result c.do_words-ran.new.log c.do_words-ran.result c.new-text.ensures c.do_words-ran.ensures.read c.do_words-ran.ensures.write
+    (c.do_words-ran.ensures.does c.sources_are_read.ensures) c.report_end.ensures

@@ -4,7 +4,7 @@ use Rattle.ds2_answer.specs.CommandLines.{HasRowsWithin, command_line_of}
 use Rattle.ds2_commands.specs.CommandOutcomes.{DoesCommand}
 use Rattle.ds2_top.proofs.WordSteps.{no_line, no_words}
 use Rattle.ds2_top.proofs.NamedLines.{line_names}
-use Rattle.ds2_top.proofs.words.run.Goals as goal
+use Rattle.ds2_top.proofs.words.do_words.Goals as goal
 
 pub do_command-requires-clause-named : goal.do_command-requires-clause-named
 do_command-requires-clause-named g c = line_names c.args.words.now c.in-Some.line (sym c.in_ok-line.ensures.command ∙ c.in-Some.is)
