@@ -2,7 +2,8 @@
 """Runs commands once for each of their allocations, and lets that allocation fail: bench/little_memory.py [PROGRAM [JOB]]
 
 Each run has to end with status 11, a first part of the files that the command writes whole and the others absent, and a log that is empty or
-has the one line on it; or, where a worker left its groups to others, with all that the command leaves with its memory. PROGRAM is the built program, that of this repository where not given; JOB is the name of one of the jobs, all where not given. Needs
+has the one line on it; or, where a worker left its groups to others, with all that the command leaves with its memory, which no command by
+one worker does. PROGRAM is the built program, that of this repository where not given; JOB is the name of one of the jobs, all where not given. Needs
 a C compiler (cc). Of each job the first 5,000 allocations are refused, or all: until three runs in turn had all their memory. Prints for each
 job how its runs have ended, and `N passed, M failed` for the jobs.
 """
@@ -78,6 +79,8 @@ class Job:
         """How the run without this allocation has ended, and what was wrong with it."""
         status, log, written, is_refused = self.run(number)
         if status == 0:
+            if is_refused and "--threads" not in self.words:
+                return "helped", "status 0 by one worker without this allocation"
             is_right = log == self.log and written == self.written
             return ("helped" if is_refused else "whole"), None if is_right else "another log or other files at status 0"
         if status != 11:
