@@ -1,5 +1,5 @@
 -- Sets of locations that are told by a value for each of them.
-use Rattle.std.proofs.Common.{◌≡◌, ℕ, zero, suc, ◌+◌, ◌<◌, Bool, true, false, List, [], ◌∷◌, length, map, Option, Some, None, option_map, is_some, refl, sym, ap, ◌∙◌, subst, arith}
+use Rattle.std.proofs.Common.{◌≡◌, ℕ, suc, ◌+◌, ◌<◌, Bool, true, false, List, [], ◌∷◌, length, map, Option, Some, None, option_map, is_some, refl, sym, ap, ◌∙◌, subst, arith}
 use Rattle.std.specs.List.{list_any, range_with_len}
 use Rattle.std.specs.Prelude.{◌&&◌, slice_get}
 use Rattle.std.proofs.lemmas.List.FromFn.{length-map-range_with_len}
@@ -16,9 +16,10 @@ use Rattle.ds2_deeds.specs.CodeTrees.{nameless_tree}
 use Rattle.ds2_deeds.specs.NamedLocations.{locations_named}
 use Rattle.ds2_deeds.specs.NumberedCalls.{changes_number, with_called}
 use Rattle.ds2_deeds.specs.NumberedDeeds.{numbers_of, numbered_deeds}
-use Rattle.ds2_recorded_walk.specs.LocationBits.{or_off, is_on, is_number_on, later_bits, either_on, both_on, set_of_bits}
+use Rattle.ds2_recorded_walk.specs.LocationBits.{or_off, is_on, is_number_on, either_on, both_on, set_of_bits}
 use Rattle.ds2_recorded_walk.specs.RecordedWalks.{of_those}
 use Rattle.ds2_recorded_walk.proofs.BitLemmas.{set_both}
+use Rattle.ds2_recorded_walk.proofs.SetLemmas.{both_length, counted_on}
 use Rattle.ds2_recorded_walk.proofs.WalkLemmas.{same_sets}
 use Rattle.ds2_local.specs.declared.judged.JudgedBodies.{JudgedBodies}
 use Rattle.ds2_local.specs.JudgedBodies.{HoldsJudged}
@@ -34,21 +35,6 @@ use Rattle.ds2_local.proofs.MentionLemmas.{changes_numbered}
 -- the value of a test at a number
 pub mapped_on : (test : Location → Bool) (ls : List Location) (at : Location) (k : ℕ) → slice_get ls k ≡ Some at → is_on (map test ls) k ≡ test at
 mapped_on test ls at k e = ap (λ o. or_off o) (slice_get-map test ls k ∙ ap (λ o. option_map test o) e)
-
-range_there : (from count k : ℕ) → k < count → slice_get (range_with_len from count) k ≡ Some (from + k)
-range_there from zero k lt = absurd (omega (arith, lt))
-range_there from (suc count) zero lt = let e : from ≡ from + zero = omega arith in ap (λ n. Some n) e
-range_there from (suc count) (suc k) lt =
-    let less : k < count = omega (arith, lt) in let e : from + 1 + k ≡ from + suc k = omega arith in range_there (from + 1) count k less ∙ ap (λ n. Some n) e
-
-pub counted_on : (test : ℕ → Bool) (count k : ℕ) → k < count → is_on (map test (range_with_len 0 count)) k ≡ test k
-counted_on test count k lt =
-    let e : 0 + k ≡ k = omega arith in
-    ap (λ o. or_off o) (slice_get-map test (range_with_len 0 count) k ∙ ap (λ o. option_map test o) (range_there 0 count k lt)) ∙ ap test e
-
-both_length : (a b : List Bool) → length (both_on a b) ≡ length a
-both_length [] b = refl
-both_length (x ∷ a) b = ap (λ n. suc n) (both_length a (later_bits b))
 
 either_length : (a b : List Bool) → length a ≡ length b → length (either_on a b) ≡ length a
 either_length [] [] e = refl

@@ -18,7 +18,9 @@ use crate::marks::numbers_mentioned;
 use ds2_base::{List, OutOfMemory};
 use ds2_deeds::{MethodName, NumberedDeed, method_at, method_scope};
 use ds2_meaning::{ByVariable, Method};
-use ds2_recorded_walk::{CallEffect, RecordScope, RecordedRead, RecordedWalk, all_on, walk_body};
+use ds2_recorded_walk::{
+    CallEffect, LocationSet, RecordScope, RecordedRead, RecordedWalk, walk_body,
+};
 use ds2_value::CALL_DEPTH;
 use std::alloc::Global;
 
@@ -33,7 +35,7 @@ pub fn mention_effect(
     let reads = numbers_mentioned(alloc, count, deeds)?;
     Ok(CallEffect {
         reads,
-        keeps: all_on(alloc, count)?,
+        keeps: LocationSet::all(alloc, count),
     })
 }
 
@@ -83,7 +85,7 @@ pub fn copy_effect(alloc: Global, effect: &CallEffect) -> Result<CallEffect, Out
 fn body_effect(scope: &RecordScope<'_>, method: &Method) -> Result<CallEffect, OutOfMemory>
     ensures { IfOk result (λ effect. BodyTells scope.now (typed_statements method.now.body) effect) }
 {
-    let locations = all_on(scope.alloc, scope.numbers.locations.len())?;
+    let locations = LocationSet::all(scope.alloc, scope.numbers.locations.len());
     let mut walk = RecordedWalk::new(scope.alloc, locations);
     walk_body(scope, &mut walk, method.body.as_slice())?;
     walk.end(scope.alloc)?;

@@ -32,7 +32,8 @@ use ds2_body_survey::statements_have_output;
 use ds2_deeds::{LocationName, run_deeds, system_scope, with_called};
 use ds2_meaning::{ByVariable, Method, Program, SystemMethod};
 use ds2_recorded_walk::{
-    RecordScope, RecordedRead, RecordedWalk, all_on, common, is_on, read_output, united, walk_body,
+    LocationSet, RecordScope, RecordedRead, RecordedWalk, common, is_on, read_output, united,
+    walk_body,
 };
 use std::alloc::Global;
 
@@ -159,7 +160,7 @@ fn walk_system(
 fn record_in(scope: &RecordScope<'_>, program: &Program) -> Result<RecordedWalk, OutOfMemory>
     ensures { IfOk result (λ walk. RunRecorded scope.now (system_tree program.now.run).statements (program_has_output (nameless_tree program.now)) (place_of_system program.now.run) walk) }
 {
-    let locations = all_on(scope.alloc, scope.numbers.locations.len())?;
+    let locations = LocationSet::all(scope.alloc, scope.numbers.locations.len());
     let mut walk = RecordedWalk::new(scope.alloc, locations);
     walk_system(scope, &mut walk, &program.run)?;
     walk.end(scope.alloc)?;
@@ -242,7 +243,8 @@ fn failing_in_walks(
     if let Some(read) = failing(first.reads.as_slice(), dirty) {
         return Ok(Some(read));
     }
-    let left = common(alloc, dirty, first.onward.as_slice())?;
+    let past = first.onward.values(alloc)?;
+    let left = common(alloc, dirty, past.as_slice())?;
     let dirty_later = united(alloc, left.as_slice(), flags)?;
     Ok(failing(later.reads.as_slice(), dirty_later.as_slice()))
 }

@@ -18,7 +18,7 @@ use crate::parts::number_at;
 use ds2_base::{List, OutOfMemory};
 use ds2_deeds::{MethodName, NumberedDeed};
 use ds2_meaning::ByVariable;
-use ds2_recorded_walk::{CallEffect, is_on};
+use ds2_recorded_walk::{CallEffect, LocationSet, is_on};
 use std::alloc::Global;
 
 // What stands for a method at first: its effect where it is on a cycle.
@@ -28,7 +28,7 @@ fn first_effect(alloc: Global, cycle: &Option<CallEffect>) -> Result<CallEffect,
     match cycle {
         None => Ok(CallEffect {
             reads: List::new(alloc),
-            keeps: List::new(alloc),
+            keeps: LocationSet::new(alloc),
         }),
         Some(effect) => {
             let copy = copy_effect(alloc, effect)?;

@@ -8,7 +8,8 @@ use Rattle.ds2_recorded_walk.specs.declared.record.CallEffect.{CallEffect}
 use Rattle.ds2_recorded_walk.specs.declared.record.RecordedWalk.{RecordedWalk}
 use Rattle.ds2_recorded_walk.specs.LocationBits.{is_on, both_on, set_of_bits}
 use Rattle.ds2_deeds.specs.NamedLocations.{AreDistinct}
-use Rattle.ds2_recorded_walk.specs.RecordedWalks.{is_read_in, with_read, with_reads, with_effect, of_those, FailingRead, failing_at, first_failing_of, first_failing, walk_ending, ways_recorded, told, onward_by, walked_on, reads_at, past_effect}
+use Rattle.ds2_recorded_walk.specs.MarkedReads.{is_read_in}
+use Rattle.ds2_recorded_walk.specs.RecordedWalks.{with_read, with_reads, with_effect, of_those, FailingRead, failing_at, first_failing_of, first_failing, walk_ending, ways_recorded, told, onward_by, walked_on, reads_at, past_effect}
 use Rattle.ds2_recorded_walk.proofs.BitLemmas.{set_both}
 use Rattle.ds2_recorded_walk.proofs.ReadLemmas.{first_none, first_of_more, told_read, told_onward}
 use Rattle.ds2_recorded_walk.proofs.WalkLemmas.{same_sets, same_tellings, walked_twice, nothing_walked}

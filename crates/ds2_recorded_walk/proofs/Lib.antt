@@ -1,5 +1,6 @@
 pub mod WalkLemmas
 pub mod BitLemmas
+pub mod SetLemmas
 pub mod ReadLemmas
 pub mod CallLemmas
 pub mod EffectLemmas

@@ -197,15 +197,15 @@ module _ (s : RecordScope) where
   rest_walked {a} d rest e p = record { by = λ calls tells. p.by calls tells ∙ sym (ap (λ x. rest_walk (walk_scope s calls) x rest (told (locations_of s) a)) e) }
 
   -- an `if`: its condition, its first part, the others and the last one, and then its ways meet
-  pub if_walked : {a b c d r : RecordedWalk} {old x y : WalkedBranches} (f : RecordedWalk) (ends : List Bool) (place : Place) (condition : TypedExpression) (truth : Truth) (on : TypedStatement) (chain last : ElsePart)
+  pub if_walked : {a b c d r : RecordedWalk} {old x y : WalkedBranches} (f : RecordedWalk) (place : Place) (condition : TypedExpression) (truth : Truth) (on : TypedStatement) (chain last : ElsePart)
       → GoesOnBy s a b (λ w. walk_expression w condition place) → truth ≡ decided (first_flags s.known.now) (code_home s.body.home) condition
       → old.ends ≡ [] → old.is_decided ≡ false → BranchWalked s b c old x truth on → ArmsLeft s c d x y last chain → RestWalked s d r y.is_decided last
-      → ends ≡ y.ends → f ≡ record r { onward = either_on r.onward ends } → GoesPastBy s a f (λ w. walk w (if_tree place condition on chain))
-  if_walked {a} {b} {c} {d} {r} {old} {x} {y} f ends place condition truth on chain last tested e none undecided branch arms rest ends_is is = record {
+      → f ≡ record r { onward = either_on r.onward y.ends } → GoesPastBy s a f (λ w. walk w (if_tree place condition on chain))
+  if_walked {a} {b} {c} {d} {r} {old} {x} {y} f place condition truth on chain last tested e none undecided branch arms rest is = record {
     by = λ calls tells.
         let w = walk_scope s calls in
         let ls = locations_of s in
-        ap (λ z. told ls z) (is ∙ ap (λ z. record r { onward = either_on r.onward z }) ends_is) ∙ told_met ls r y.ends
+        ap (λ z. told ls z) is ∙ told_met ls r y.ends
         ∙ ap (λ t. met (set_of_bits ls y.ends) t) (rest.by calls tells)
         ∙ arms.by calls tells ∙ branch.by chain calls tells undecided
         ∙ ap (λ z. met (set_of_bits ls z) (walked_past (branch_walk w truth on chain) (told ls b))) none
@@ -261,10 +261,10 @@ module _ (s : RecordScope) where
     }
 
     -- a test that always holds: none behind it is walked
-    pub test_holds : {a b c : RecordedWalk} {held : List Bool} (tests : TypedExpressions) (m d : RecordedWalk) (others none holding : List Bool)
+    pub test_holds : {a b c : RecordedWalk} {held : List Bool} (tests : TypedExpressions) (m d : RecordedWalk) (none holding : List Bool)
         → decided (first_flags known) (code_home s.body.home) test ≡ Yes → TestsLeft s a b held (test_then known test place go) (λ w. walk_tests w (first_flags known) tests place) → GoesOnBy s b c (λ w. walk_expression w test place)
-        → others ≡ held → m ≡ record c { onward = either_on c.onward others } → none ≡ [] → holding ≡ m.onward → d ≡ record m { onward = none } → TestsRecorded s a d holding known tests place
-    test_holds {a} {b} {c} {held} tests m d others none holding e p q others_is m_is none_is out_is d_is = record {
+        → m ≡ record c { onward = either_on c.onward held } → none ≡ [] → holding ≡ m.onward → d ≡ record m { onward = none } → TestsRecorded s a d holding known tests place
+    test_holds {a} {b} {c} {held} tests m d none holding e p q m_is none_is out_is d_is = record {
       by = λ calls tells.
           let w = walk_scope s calls in
           let ls = locations_of s in
@@ -272,7 +272,7 @@ module _ (s : RecordScope) where
           tests_here (λ calls. ap (λ t. λ x. past_test t x (go (walk_scope s calls))) e)
           (test_walked (λ w. walk_expression w test place) (λ w x. past_test (decided (first_flags known) w.code.home test) x (go w)) p q) in
           let same_walk : d ≡ record c { onward = [] } = d_is ∙ ap (λ z. record m { onward = z }) none_is ∙ ap (λ (z : RecordedWalk). record z { onward = [] }) m_is in
-          let same_holding : holding ≡ either_on c.onward held = out_is ∙ ap (λ (z : RecordedWalk). z.onward) m_is ∙ ap (either_on c.onward) others_is in
+          let same_holding : holding ≡ either_on c.onward held = out_is ∙ ap (λ (z : RecordedWalk). z.onward) m_is in
           ap (λ x. told_parted ls x holding) same_walk ∙ ap (λ h. told_parted ls (record c { onward = [] }) h) same_holding ∙ sym (parting_held ls held (go w) c) ∙ past.by calls tells;
     }
 
@@ -326,13 +326,13 @@ module _ (s : RecordScope) where
   }
 
   -- a `select`: its parts and the last one, and then its ways meet
-  pub select_walked : {a b c : RecordedWalk} {ends : List Bool} {known : List ByVariable} {place : Place} {parts : TypedWhens} (d : RecordedWalk) (old others : List Bool) (last : TypedWhens) → old ≡ [] → WhensLeft s a b old ends known place last parts
-      → GoesPastBy s b c (λ w. walk_whens w (first_flags known) last place) → others ≡ ends → d ≡ record c { onward = either_on c.onward others } → GoesPastBy s a d (λ w. walk_whens w (first_flags known) parts place)
-  select_walked {a} {b} {c} {ends} {known} {place} {parts} d old others last none p q ends_is is = record {
+  pub select_walked : {a b c : RecordedWalk} {ends : List Bool} {known : List ByVariable} {place : Place} {parts : TypedWhens} (d : RecordedWalk) (old : List Bool) (last : TypedWhens) → old ≡ [] → WhensLeft s a b old ends known place last parts
+      → GoesPastBy s b c (λ w. walk_whens w (first_flags known) last place) → d ≡ record c { onward = either_on c.onward ends } → GoesPastBy s a d (λ w. walk_whens w (first_flags known) parts place)
+  select_walked {a} {b} {c} {ends} {known} {place} {parts} d old last none p q is = record {
     by = λ calls tells.
         let w = walk_scope s calls in
         let ls = locations_of s in
-        ap (λ z. told ls z) (is ∙ ap (λ z. record c { onward = either_on c.onward z }) ends_is) ∙ told_met ls c ends ∙ ap (λ t. met (set_of_bits ls ends) t) (q.by calls tells) ∙ p.by calls tells
+        ap (λ z. told ls z) is ∙ told_met ls c ends ∙ ap (λ t. met (set_of_bits ls ends) t) (q.by calls tells) ∙ p.by calls tells
         ∙ ap (λ z. met (set_of_bits ls z) (walked_past (walk_whens w (first_flags known) parts place) (told ls a))) none
         ∙ met_nothing ls (walked_past (walk_whens w (first_flags known) parts place) (told ls a));
   }
@@ -369,27 +369,27 @@ module _ (s : RecordScope) where
         ∙ test_loop ls (walk_expression w condition place) (walk_all w body) a head is;
   }
 
-  pub until_body_walked : {v : RecordedWalk} (a x y m : RecordedWalk) (none around inner : LoopWays) (others : List Bool) (body : TypedStatements) → none ≡ record { leaves = []; continues = [] }
+  pub until_body_walked : {v : RecordedWalk} (a x y m : RecordedWalk) (none around inner : LoopWays) (body : TypedStatements) → none ≡ record { leaves = []; continues = [] }
       → around ≡ record { leaves = a.leaves; continues = a.continues } → x ≡ record a { leaves = none.leaves; continues = none.continues } → GoesPastBy s x v (λ w. walk_all w body)
-      → inner ≡ record { leaves = v.leaves; continues = v.continues } → y ≡ record v { leaves = around.leaves; continues = around.continues } → others ≡ inner.continues
-      → m ≡ record y { onward = either_on y.onward others } → UntilWalked s a m inner.leaves body
-  until_body_walked {v} a x y m none around inner others body none_is around_is x_is p inner_is y_is others_is m_is = record {
+      → inner ≡ record { leaves = v.leaves; continues = v.continues } → y ≡ record v { leaves = around.leaves; continues = around.continues }
+      → m ≡ record y { onward = either_on y.onward inner.continues } → UntilWalked s a m inner.leaves body
+  until_body_walked {v} a x y m none around inner body none_is around_is x_is p inner_is y_is m_is = record {
     by = λ calls tells test.
         let w = walk_scope s calls in
         let ls = locations_of s in
         let met_is : m ≡ record v { onward = either_on v.onward v.continues; leaves = a.leaves; continues = a.continues } =
-        m_is ∙ ap (λ o. record y { onward = either_on y.onward o }) (others_is ∙ ap (λ (z : LoopWays). z.continues) inner_is)
+        m_is ∙ ap (λ o. record y { onward = either_on y.onward o }) (ap (λ (z : LoopWays). z.continues) inner_is)
         ∙ ap (λ (z : RecordedWalk). record z { onward = either_on z.onward v.continues }) (again a v y around around_is y_is) in
         ap (λ (z : LoopWays). met (set_of_bits ls z.leaves) (walked_on test (told ls m))) inner_is
         ∙ ap (λ z. met (set_of_bits ls v.leaves) (walked_on test (told ls z))) met_is
         ∙ told_until ls a v (walk_all w body) test (p.by calls tells ∙ ap (λ z. walked_past (walk_all w body) (told ls z)) (apart a x none none_is x_is));
   }
 
-  pub until_walked : {a m t : RecordedWalk} {left : List Bool} {body : TypedStatements} (f : RecordedWalk) (others : List Bool) (place : Place) (condition : TypedExpression) → UntilWalked s a m left body
-      → GoesOnBy s m t (λ w. walk_expression w condition place) → others ≡ left → f ≡ record t { onward = either_on t.onward others } → GoesPastBy s a f (λ w. walk w (Until place condition body))
-  until_walked {a} {m} {t} {left} {body} f others place condition p q left_is f_is = record {
+  pub until_walked : {a m t : RecordedWalk} {left : List Bool} {body : TypedStatements} (f : RecordedWalk) (place : Place) (condition : TypedExpression) → UntilWalked s a m left body
+      → GoesOnBy s m t (λ w. walk_expression w condition place) → f ≡ record t { onward = either_on t.onward left } → GoesPastBy s a f (λ w. walk w (Until place condition body))
+  until_walked {a} {m} {t} {left} {body} f place condition p q f_is = record {
     by = λ calls tells.
         let w = walk_scope s calls in
         let ls = locations_of s in
-        ap (λ z. told ls z) (f_is ∙ ap (λ z. record t { onward = either_on t.onward z }) left_is) ∙ told_met ls t left ∙ ap (λ z. met (set_of_bits ls left) z) (q.by calls tells) ∙ p.by calls tells (walk_expression w condition place);
+        ap (λ z. told ls z) f_is ∙ told_met ls t left ∙ ap (λ z. met (set_of_bits ls left) z) (q.by calls tells) ∙ p.by calls tells (walk_expression w condition place);
   }

@@ -8,7 +8,8 @@ use Rattle.ds2_locality.specs.Walk.{DirtySet, all_cleaned, FailsAt, GoesOn, then
 use Rattle.ds2_recorded_walk.specs.declared.record.RecordedRead.{RecordedRead}
 use Rattle.ds2_recorded_walk.specs.declared.record.RecordedWalk.{RecordedWalk}
 use Rattle.ds2_recorded_walk.specs.LocationBits.{is_on, is_number_on, set_of_bits}
-use Rattle.ds2_recorded_walk.specs.RecordedWalks.{is_read_in, with_read, of_those, FailingRead, failing_at, first_failing_of, first_failing, walk_ending, ways_recorded, told, onward_by, walked_on}
+use Rattle.ds2_recorded_walk.specs.MarkedReads.{is_read_in}
+use Rattle.ds2_recorded_walk.specs.RecordedWalks.{with_read, of_those, FailingRead, failing_at, first_failing_of, first_failing, walk_ending, ways_recorded, told, onward_by, walked_on}
 use Rattle.ds2_deeds.proofs.NumberLemmas.{numbered}
 use Rattle.ds2_recorded_walk.proofs.BitLemmas.{set_cleaned, set_clean, those_cleaned}
 use Rattle.ds2_recorded_walk.proofs.WalkLemmas.{same_tellings}

@@ -1,4 +1,6 @@
 pub mod LocationBits
+pub mod MarkedSets
+pub mod MarkedReads
 pub mod ElseWalks
 pub mod KnownFlags
 pub mod RecordedWalks

@@ -1,6 +1,5 @@
 -- What a recorded walk tells of the walk from whichever locations are dirty.
-use Rattle.std.specs.List.{list_any}
-use Rattle.std.specs.Prelude.{◌≡◌, ℕ, ◌==◌, ◌&&◌, Bool, not, if◌then◌else◌, List, [], ◌∷◌, ◌++◌, map, slice_get, Option, Some, None}
+use Rattle.std.specs.Prelude.{◌≡◌, ℕ, ◌&&◌, Bool, not, if◌then◌else◌, List, [], ◌∷◌, ◌++◌, map, slice_get, Option, Some, None}
 use Rattle.ds2_base.specs.declared.place.Place.{Place}
 use Rattle.ds2_meaning.specs.Location.{Location}
 use Rattle.ds2_locality.specs.Deeds.{MethodAt}
@@ -9,6 +8,7 @@ use Rattle.ds2_recorded_walk.specs.declared.record.CallEffect.{CallEffect}
 use Rattle.ds2_recorded_walk.specs.declared.record.RecordedRead.{RecordedRead}
 use Rattle.ds2_recorded_walk.specs.declared.record.RecordedWalk.{RecordedWalk}
 use Rattle.ds2_recorded_walk.specs.LocationBits.{is_on, both_on, set_of_bits}
+use Rattle.ds2_recorded_walk.specs.MarkedReads.{is_read_in}
 use Rattle.ds2_deeds.specs.NamedMethods.{number_among_methods}
 use Rattle.ds2_deeds.specs.NumberedDeeds.{ProgramNumbers}
 
@@ -17,10 +17,6 @@ use Rattle.ds2_deeds.specs.NumberedDeeds.{ProgramNumbers}
 -- a walk that begins with these locations
 abbrev pub nothing_recorded : List Bool → RecordedWalk
 nothing_recorded locations = record { reads = []; onward = locations; leaves = []; continues = []; returns = [] }
-
--- a read of the location of this number is among reads
-abbrev pub is_read_in : ℕ → List RecordedRead → Bool
-is_read_in number reads = list_any (λ (r : RecordedRead). r.location == number) reads
 
 -- a read is recorded where nothing made its location clean, the first one of each location
 abbrev pub with_read : Place → ℕ → RecordedWalk → RecordedWalk

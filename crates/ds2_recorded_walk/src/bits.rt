@@ -1,5 +1,5 @@
 //! Sets of locations, as a truth value for each of the locations in order; those behind the last value are not in the set.
-ghost use Rattle.std.specs.Prelude.{◌≡◌, true, false, replicate, slice_set, IfOk};
+ghost use Rattle.std.specs.Prelude.{◌≡◌, false, IfOk};
 ghost use Rattle.ds2_recorded_walk.specs.LocationBits.{first_bit as bit_in_front, later_bits, is_on as is_on_at, either_on, both_on};
 
 use ds2_base::{List, OutOfMemory};
@@ -12,15 +12,6 @@ pub fn is_on(bits: &[bool], number: usize) -> bool
     match bits.get(number) {
         None => false,
         Some(bit) => *bit,
-    }
-}
-
-/// Takes the location of a number out of a set.
-pub fn take_out(bits: &mut List<bool>, number: usize)
-    ensures { bits.new ≡ slice_set bits.old number false }
-{
-    if number < bits.len() {
-        bits.replace(number, false);
     }
 }
 
@@ -60,17 +51,6 @@ pub fn common(alloc: Global, a: &[bool], b: &[bool]) -> Result<List<bool>, OutOf
         let (other, later) = first_bit(others);
         bits.push(*bit && other)?;
         others = later;
-    }
-    Ok(bits)
-}
-
-/// All of so many locations.
-pub fn all_on(alloc: Global, count: usize) -> Result<List<bool>, OutOfMemory>
-    ensures { IfOk result (λ bits. bits ≡ replicate count true) }
-{
-    let mut bits = List::new(alloc);
-    'locations: for _ in 0..count {
-        bits.push(true)?;
     }
     Ok(bits)
 }

@@ -1,13 +1,16 @@
 //! What a walk records: which locations it reads that nothing before made clean, and which of them nothing made clean on its ways out.
 //!
 //! A walk is recorded once, from all locations on, and tells how the walk goes from whichever of them are dirty.
-ghost use Rattle.std.specs.Prelude.{◌≡◌, [], false, slice_set, OnOk};
+ghost use Rattle.std.specs.Prelude.{◌≡◌, [], ◌∷◌, ◌++◌, false, slice_set, OnOk};
 ghost use Rattle.ds2_recorded_walk.specs.LocationBits.{either_on};
-ghost use Rattle.ds2_recorded_walk.specs.RecordedWalks.{nothing_recorded, is_read_in, with_read, with_reads, with_effect};
+ghost use Rattle.ds2_recorded_walk.specs.MarkedReads.{is_read_in};
+ghost use Rattle.ds2_recorded_walk.specs.RecordedWalks.{nothing_recorded, with_read, with_reads, with_effect};
 
-use crate::bits::{common, is_on, take_out, united};
+use crate::location_set::LocationSet;
+use crate::number_marks::NumberMarks;
 use ds2_base::{List, OutOfMemory, Place};
 use std::alloc::Global;
+use std::marker::Model;
 use std::mem;
 
 /// A read of a location, by its number, in the statement at a place.
@@ -17,23 +20,84 @@ pub struct RecordedRead {
     pub place: Place,
 }
 
+/// Reads in order, with marks of the locations that are read. A contract sees the reads.
+#[derive(Drop)]
+pub struct RecordedReads {
+    reads: List<RecordedRead>,
+    marks: NumberMarks,
+}
+
+impl Model for RecordedReads {
+    ghost use Rattle.std.specs.Prelude.{List as Items};
+    ghost use Rattle.ds2_recorded_walk.specs.declared.record.RecordedRead.{RecordedRead as RecordedReadModel};
+
+    ghost Value = { Items RecordedReadModel };
+
+    ghost use Rattle.ds2_recorded_walk.specs.MarkedReads.{AreMarkedReads};
+
+    ghost view = { λ r. r.reads };
+
+    ghost invariant = { λ r. AreMarkedReads r.reads r.marks };
+}
+
+impl RecordedReads {
+    /// No read yet.
+    pub fn new(alloc: Global) -> RecordedReads
+        ensures { result ≡ [] }
+    {
+        RecordedReads {
+            reads: List::new(alloc),
+            marks: NumberMarks::new(alloc),
+        }
+    }
+
+    /// The reads in order.
+    pub fn as_slice(&self) -> &[RecordedRead]
+        ensures { result.now ≡ self.now }
+    {
+        self.reads.as_slice()
+    }
+
+    // Whether a read of the location of a number is among them.
+    fn contains(&self, number: usize) -> bool
+        ensures { result ≡ is_read_in number self.now }
+    {
+        self.marks.contains(number)
+    }
+
+    // Adds a read.
+    fn add(&mut self, alloc: Global, read: RecordedRead) -> Result<(), OutOfMemory>
+        ensures { OnOk result (self.new ≡ self.old ++ read ∷ []) }
+    {
+        let count = self.reads.len();
+        self.reads.push(read)?;
+        match self.marks.mark(alloc, read.location) {
+            Ok(()) => Ok(()),
+            Err(refusal) => {
+                self.reads.truncate(count);
+                Err(refusal)
+            }
+        }
+    }
+}
+
 /// What a walk has recorded so far.
 #[derive(Drop)]
 pub struct RecordedWalk {
     /// The first read of each location that is read where nothing before made it clean, in order.
-    pub reads: List<RecordedRead>,
+    pub reads: RecordedReads,
     /// The locations that nothing made clean on the way on, and so on each other way out.
-    pub onward: List<bool>,
-    pub leaves: List<bool>,
-    pub continues: List<bool>,
-    pub returns: List<bool>,
+    pub onward: LocationSet,
+    pub leaves: LocationSet,
+    pub continues: LocationSet,
+    pub returns: LocationSet,
 }
 
 /// The locations that nothing made clean on the ways out of the body of a loop, by `leave` and to its next round.
 #[derive(Drop)]
 pub struct LoopWays {
-    pub leaves: List<bool>,
-    pub continues: List<bool>,
+    pub leaves: LocationSet,
+    pub continues: LocationSet,
 }
 
 impl LoopWays {
@@ -42,8 +106,8 @@ impl LoopWays {
         ensures { result ≡ record { leaves = []; continues = [] } }
     {
         LoopWays {
-            leaves: List::new(alloc),
-            continues: List::new(alloc),
+            leaves: LocationSet::new(alloc),
+            continues: LocationSet::new(alloc),
         }
     }
 }
@@ -54,64 +118,58 @@ pub struct CallEffect {
     /// The locations that it reads where it did not make them clean before, in order.
     pub reads: List<usize>,
     /// The locations that it does not make clean.
-    pub keeps: List<bool>,
-}
-
-// Whether a read of the location of a number is among reads.
-fn is_read(reads: &[RecordedRead], number: usize) -> bool
-    ensures { result ≡ is_read_in number reads.now }
-{
-    'reads: for read in reads {
-        if read.location == number {
-            return true;
-        }
-    }
-    false
+    pub keeps: LocationSet,
 }
 
 impl RecordedWalk {
     /// A walk that begins with these locations, and has recorded nothing.
-    pub fn new(alloc: Global, locations: List<bool>) -> RecordedWalk
+    pub fn new(alloc: Global, locations: LocationSet) -> RecordedWalk
         ensures { result ≡ nothing_recorded locations }
     {
         RecordedWalk {
-            reads: List::new(alloc),
+            reads: RecordedReads::new(alloc),
             onward: locations,
-            leaves: List::new(alloc),
-            continues: List::new(alloc),
-            returns: List::new(alloc),
+            leaves: LocationSet::new(alloc),
+            continues: LocationSet::new(alloc),
+            returns: LocationSet::new(alloc),
         }
     }
 
     /// The location of a number is read in the statement at a place.
-    pub fn read(&mut self, number: usize, place: Place) -> Result<(), OutOfMemory>
+    pub fn read(&mut self, alloc: Global, number: usize, place: Place) -> Result<(), OutOfMemory>
         ensures { OnOk result (self.new ≡ with_read place number self.old) }
     {
-        if !is_on(self.onward.as_slice(), number) {
+        if !self.onward.contains(number) {
             return Ok(());
         }
-        if is_read(self.reads.as_slice(), number) {
+        if self.reads.contains(number) {
             return Ok(());
         }
-        self.reads.push(RecordedRead {
+        let read = RecordedRead {
             location: number,
             place,
-        })
+        };
+        self.reads.add(alloc, read)
     }
 
     /// The location of a number is made clean.
-    pub fn clean(&mut self, number: usize)
-        ensures { self.new ≡ record self.old { onward = slice_set self.old.onward number false } }
+    pub fn clean(&mut self, alloc: Global, number: usize) -> Result<(), OutOfMemory>
+        ensures { OnOk result (self.new ≡ record self.old { onward = slice_set self.old.onward number false }) }
     {
-        take_out(&mut self.onward, number);
+        self.onward.take_out(alloc, number)
     }
 
     // The locations of these numbers are read, in order, in the statement at a place.
-    fn read_all(&mut self, numbers: &[usize], place: Place) -> Result<(), OutOfMemory>
+    fn read_all(
+        &mut self,
+        alloc: Global,
+        numbers: &[usize],
+        place: Place,
+    ) -> Result<(), OutOfMemory>
         ensures { OnOk result (self.new ≡ with_reads place numbers.now self.old) }
     {
         'numbers: for number in numbers {
-            self.read(*number, place)?;
+            self.read(alloc, *number, place)?;
         }
         Ok(())
     }
@@ -125,13 +183,13 @@ impl RecordedWalk {
     ) -> Result<(), OutOfMemory>
         ensures { OnOk result (self.new ≡ with_effect place effect.now self.old) }
     {
-        self.read_all(effect.reads.as_slice(), place)?;
-        self.onward = common(alloc, self.onward.as_slice(), effect.keeps.as_slice())?;
+        self.read_all(alloc, effect.reads.as_slice(), place)?;
+        self.onward = self.onward.common(alloc, &effect.keeps)?;
         Ok(())
     }
 
     /// The walk goes on from these locations; what was dirty on the way on is handed back.
-    pub fn go_on_from(&mut self, locations: List<bool>) -> List<bool>
+    pub fn go_on_from(&mut self, locations: LocationSet) -> LocationSet
         ensures before { result ≡ self.old.onward }
         ensures now { self.new ≡ record self.old { onward = locations } }
     {
@@ -139,10 +197,10 @@ impl RecordedWalk {
     }
 
     /// The way on meets others, on which these locations are dirty.
-    pub fn meet(&mut self, alloc: Global, others: &[bool]) -> Result<(), OutOfMemory>
+    pub fn meet(&mut self, alloc: Global, others: &LocationSet) -> Result<(), OutOfMemory>
         ensures { OnOk result (self.new ≡ record self.old { onward = either_on self.old.onward others.now }) }
     {
-        self.onward = united(alloc, self.onward.as_slice(), others)?;
+        self.onward = self.onward.united(alloc, others)?;
         Ok(())
     }
 
@@ -161,8 +219,8 @@ impl RecordedWalk {
     pub fn leave(&mut self, alloc: Global) -> Result<(), OutOfMemory>
         ensures { OnOk result (self.new ≡ record self.old { onward = []; leaves = either_on self.old.leaves self.old.onward }) }
     {
-        self.leaves = united(alloc, self.leaves.as_slice(), self.onward.as_slice())?;
-        self.onward = List::new(alloc);
+        self.leaves = self.leaves.united(alloc, &self.onward)?;
+        self.onward = LocationSet::new(alloc);
         Ok(())
     }
 
@@ -170,8 +228,8 @@ impl RecordedWalk {
     pub fn go_to_next_round(&mut self, alloc: Global) -> Result<(), OutOfMemory>
         ensures { OnOk result (self.new ≡ record self.old { onward = []; continues = either_on self.old.continues self.old.onward }) }
     {
-        self.continues = united(alloc, self.continues.as_slice(), self.onward.as_slice())?;
-        self.onward = List::new(alloc);
+        self.continues = self.continues.united(alloc, &self.onward)?;
+        self.onward = LocationSet::new(alloc);
         Ok(())
     }
 
@@ -179,8 +237,8 @@ impl RecordedWalk {
     pub fn return_from(&mut self, alloc: Global) -> Result<(), OutOfMemory>
         ensures { OnOk result (self.new ≡ record self.old { onward = []; returns = either_on self.old.returns self.old.onward }) }
     {
-        self.returns = united(alloc, self.returns.as_slice(), self.onward.as_slice())?;
-        self.onward = List::new(alloc);
+        self.returns = self.returns.united(alloc, &self.onward)?;
+        self.onward = LocationSet::new(alloc);
         Ok(())
     }
 
@@ -188,9 +246,9 @@ impl RecordedWalk {
     pub fn end(&mut self, alloc: Global) -> Result<(), OutOfMemory>
         ensures { OnOk result (self.new ≡ record self.old { onward = either_on (either_on (either_on self.old.onward self.old.returns) self.old.leaves) self.old.continues }) }
     {
-        let past_returns = united(alloc, self.onward.as_slice(), self.returns.as_slice())?;
-        let past_leaves = united(alloc, past_returns.as_slice(), self.leaves.as_slice())?;
-        self.onward = united(alloc, past_leaves.as_slice(), self.continues.as_slice())?;
+        let past_returns = self.onward.united(alloc, &self.returns)?;
+        let past_leaves = past_returns.united(alloc, &self.leaves)?;
+        self.onward = past_leaves.united(alloc, &self.continues)?;
         Ok(())
     }
 }

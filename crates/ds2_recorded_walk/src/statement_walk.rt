@@ -12,14 +12,14 @@ ghost use Rattle.ds2_recorded_walk.specs.KnownFlags.{first_flags};
 ghost use Rattle.ds2_recorded_walk.specs.RecordedParts.{BranchWalked, ArmsLeft, RestWalked, TestsRecorded, WhensLeft, count_head, LoopWalked, UntilWalked};
 ghost use Rattle.ds2_recorded_walk.specs.RecordedStatements.{GoesOnBy, GoesPastBy};
 
-use crate::bits::united;
 use crate::branches::WalkedBranches;
 use crate::decided::decided;
 use crate::expression_walk::{walk_call, walk_expression, walk_items, walk_step, walk_values};
+use crate::location_set::LocationSet;
 use crate::record::{LoopWays, RecordedWalk};
 use crate::walk_reads::{clean_variable, read_outputs};
 use crate::walk_scope::RecordScope;
-use ds2_base::{List, OutOfMemory, Place};
+use ds2_base::{OutOfMemory, Place};
 use ds2_meaning::{Arm, ByVariable, Expression, Reference, Statement, When};
 use ds2_value::Truth;
 
@@ -46,7 +46,7 @@ fn walk_branch(
             let before = walk.onward.copy(scope.alloc)?;
             walk_statement(scope, walk, then)?;
             let end = walk.go_on_from(before);
-            branches.ends = united(scope.alloc, branches.ends.as_slice(), end.as_slice())?;
+            branches.ends = branches.ends.united(scope.alloc, &end)?;
             Ok(())
         }
     }
@@ -112,20 +112,20 @@ fn walk_tests(
     known: &[ByVariable],
     tests: &[Expression],
     place: Place,
-) -> Result<List<bool>, OutOfMemory>
+) -> Result<LocationSet, OutOfMemory>
     ensures { IfOk result (λ holding. TestsRecorded scope.now walk.old walk.new holding known.now (all_expressions (map typed_expression tests.now)) place) }
 {
-    let mut holding = List::new(scope.alloc);
+    let mut holding = LocationSet::new(scope.alloc);
     'tests: for test in tests {
         walk_expression(scope, walk, test, place)?;
         match decided(known, scope.body.home, test) {
             Truth::Yes => {
-                walk.meet(scope.alloc, holding.as_slice())?;
-                return Ok(walk.go_on_from(List::new(scope.alloc)));
+                walk.meet(scope.alloc, &holding)?;
+                return Ok(walk.go_on_from(LocationSet::new(scope.alloc)));
             }
             Truth::No => {}
             Truth::Unknown => {
-                holding = united(scope.alloc, holding.as_slice(), walk.onward.as_slice())?;
+                holding = holding.united(scope.alloc, &walk.onward)?;
             }
         }
     }
@@ -137,7 +137,7 @@ fn walk_tests(
 fn walk_when(
     scope: &RecordScope<'_>,
     walk: &mut RecordedWalk,
-    ends: &mut List<bool>,
+    ends: &mut LocationSet,
     known: &[ByVariable],
     when: &When,
     place: Place,
@@ -148,7 +148,7 @@ fn walk_when(
     let failing = walk.go_on_from(holding);
     walk_statement(scope, walk, &when.then)?;
     let end = walk.go_on_from(failing);
-    *ends = united(scope.alloc, ends.as_slice(), end.as_slice())?;
+    *ends = ends.united(scope.alloc, &end)?;
     Ok(())
 }
 
@@ -165,7 +165,7 @@ fn walk_otherwise(
 {
     match otherwise {
         None => {
-            walk.onward = List::new(scope.alloc);
+            walk.onward = LocationSet::new(scope.alloc);
             Ok(())
         }
         Some(last) => walk_statement(scope, walk, last),
@@ -177,7 +177,7 @@ fn walk_otherwise(
 fn walk_whens(
     scope: &RecordScope<'_>,
     walk: &mut RecordedWalk,
-    ends: &mut List<bool>,
+    ends: &mut LocationSet,
     known: &[ByVariable],
     whens: &[When],
     place: Place,
@@ -198,7 +198,7 @@ fn walk_count_head(
     variable: &Reference,
     bounds: (&Expression, &Expression),
     step: &Option<Expression>,
-) -> Result<List<bool>, OutOfMemory>
+) -> Result<LocationSet, OutOfMemory>
     ensures head { IfOk result (λ head. head ≡ walk.new.onward) }
     ensures walked { IfOk result (λ head. GoesOnBy scope.now walk.old walk.new (count_head place variable.now (typed_expression bounds.entry.0.now) (typed_expression bounds.entry.1.now) (option_map typed_expression step.now))) }
 {
@@ -206,7 +206,7 @@ fn walk_count_head(
     walk_expression(scope, walk, start, place)?;
     walk_expression(scope, walk, end, place)?;
     walk_step(scope, walk, step, place)?;
-    clean_variable(scope, walk, variable);
+    clean_variable(scope, walk, variable)?;
     walk.onward.copy(scope.alloc)
 }
 
@@ -216,7 +216,7 @@ fn walk_test_head(
     walk: &mut RecordedWalk,
     condition: &Expression,
     place: Place,
-) -> Result<List<bool>, OutOfMemory>
+) -> Result<LocationSet, OutOfMemory>
     ensures head { IfOk result (λ head. head ≡ walk.old.onward) }
     ensures walked { IfOk result (λ head. GoesOnBy scope.now walk.old walk.new (λ s. expression_walk s (typed_expression condition.now) place)) }
 {
@@ -231,7 +231,7 @@ fn walk_test_head(
 fn walk_loop(
     scope: &RecordScope<'_>,
     walk: &mut RecordedWalk,
-    head: List<bool>,
+    head: LocationSet,
     body: &[Statement],
 ) -> Result<(), OutOfMemory>
     ensures { OnOk result (LoopWalked scope.now walk.old walk.new head (all_statements (map typed_statement body.now))) }
@@ -250,13 +250,13 @@ fn walk_until_body(
     scope: &RecordScope<'_>,
     walk: &mut RecordedWalk,
     body: &[Statement],
-) -> Result<List<bool>, OutOfMemory>
+) -> Result<LocationSet, OutOfMemory>
     ensures { IfOk result (λ left. UntilWalked scope.now walk.old walk.new left (all_statements (map typed_statement body.now))) }
 {
     let around = walk.change_loop(LoopWays::new(scope.alloc));
     walk_body(scope, walk, body)?;
     let LoopWays { leaves, continues } = walk.change_loop(around);
-    walk.meet(scope.alloc, continues.as_slice())?;
+    walk.meet(scope.alloc, &continues)?;
     Ok(leaves)
 }
 
@@ -292,8 +292,7 @@ fn walk_statement(
             value,
         } => {
             walk_expression(scope, walk, value, *place)?;
-            clean_variable(scope, walk, variable);
-            Ok(())
+            clean_variable(scope, walk, variable)
         }
         Statement::Invoke { place, call } => walk_call(scope, walk, call, *place),
         Statement::Evaluate { place, value } => walk_expression(scope, walk, value, *place),
@@ -321,7 +320,7 @@ fn walk_statement(
             otherwise,
         } => {
             let mut branches = WalkedBranches {
-                ends: List::new(scope.alloc),
+                ends: LocationSet::new(scope.alloc),
                 is_decided: false,
             };
             walk_expression(scope, walk, condition, *place)?;
@@ -329,14 +328,14 @@ fn walk_statement(
             walk_branch(scope, walk, &mut branches, truth, then)?;
             walk_arms(scope, walk, &mut branches, others.as_slice())?;
             walk_else(scope, walk, branches.is_decided, otherwise)?;
-            walk.meet(scope.alloc, branches.ends.as_slice())
+            walk.meet(scope.alloc, &branches.ends)
         }
         Statement::Select {
             place,
             whens,
             otherwise,
         } => {
-            let mut ends = List::new(scope.alloc);
+            let mut ends = LocationSet::new(scope.alloc);
             walk_whens(
                 scope,
                 walk,
@@ -346,7 +345,7 @@ fn walk_statement(
                 *place,
             )?;
             walk_otherwise(scope, walk, scope.known, otherwise, *place)?;
-            walk.meet(scope.alloc, ends.as_slice())
+            walk.meet(scope.alloc, &ends)
         }
         Statement::SelectValue {
             place,
@@ -355,10 +354,10 @@ fn walk_statement(
             otherwise,
         } => {
             walk_expression(scope, walk, value, *place)?;
-            let mut ends = List::new(scope.alloc);
+            let mut ends = LocationSet::new(scope.alloc);
             walk_whens(scope, walk, &mut ends, &[], whens.as_slice(), *place)?;
             walk_otherwise(scope, walk, &[], otherwise, *place)?;
-            walk.meet(scope.alloc, ends.as_slice())
+            walk.meet(scope.alloc, &ends)
         }
         Statement::Block { place: _, body } => walk_body(scope, walk, body.as_slice()),
         Statement::Count {
@@ -387,7 +386,7 @@ fn walk_statement(
         } => {
             let left = walk_until_body(scope, walk, body.as_slice())?;
             walk_expression(scope, walk, condition, *place)?;
-            walk.meet(scope.alloc, left.as_slice())
+            walk.meet(scope.alloc, &left)
         }
     }
 }

@@ -30,17 +30,21 @@ pub fn read_at(
 {
     match number_of(scope.numbers, at) {
         None => Ok(()),
-        Some(number) => walk.read(number, place),
+        Some(number) => walk.read(scope.alloc, number, place),
     }
 }
 
 /// A location is made clean.
-pub fn clean_at(scope: &RecordScope<'_>, walk: &mut RecordedWalk, at: LocationName<'_>)
-    ensures { GoesOnBy scope.now walk.old walk.new (λ s d. GoesOn (all_cleaned (location_named at.entry ∷ []) d)) }
+pub fn clean_at(
+    scope: &RecordScope<'_>,
+    walk: &mut RecordedWalk,
+    at: LocationName<'_>,
+) -> Result<(), OutOfMemory>
+    ensures { OnOk result (GoesOnBy scope.now walk.old walk.new (λ s d. GoesOn (all_cleaned (location_named at.entry ∷ []) d))) }
 {
     match number_of(scope.numbers, at) {
-        None => {}
-        Some(number) => walk.clean(number),
+        None => Ok(()),
+        Some(number) => walk.clean(scope.alloc, number),
     }
 }
 
@@ -62,12 +66,16 @@ pub fn read_variable(
 }
 
 /// A variable that a body names is made clean.
-pub fn clean_variable(scope: &RecordScope<'_>, walk: &mut RecordedWalk, variable: &Reference)
-    ensures { GoesOnBy scope.now walk.old walk.new (λ s d. GoesOn (all_cleaned (variable_at s.code.home variable.now) d)) }
+pub fn clean_variable(
+    scope: &RecordScope<'_>,
+    walk: &mut RecordedWalk,
+    variable: &Reference,
+) -> Result<(), OutOfMemory>
+    ensures { OnOk result (GoesOnBy scope.now walk.old walk.new (λ s d. GoesOn (all_cleaned (variable_at s.code.home variable.now) d))) }
 {
     match variable {
         Reference::At(global) => clean_at(scope, walk, global_location(scope.body.home, global)),
-        Reference::Local(_) => {}
+        Reference::Local(_) => Ok(()),
     }
 }
 
@@ -152,29 +160,40 @@ fn clean_iterator(
     walk: &mut RecordedWalk,
     iterator: &DeclaredIterator,
     hash: &Name,
-)
-    ensures { GoesOnBy scope.now walk.old walk.new (λ s d. GoesOn (all_cleaned (iterators_over s.code.home (iterator.now ∷ []) hash.now) d)) }
+) -> Result<(), OutOfMemory>
+    ensures { OnOk result (GoesOnBy scope.now walk.old walk.new (λ s d. GoesOn (all_cleaned (iterators_over s.code.home (iterator.now ∷ []) hash.now) d))) }
 {
     if iterator.hash == *hash {
-        clean_at(scope, walk, named_location(scope.body.home, &iterator.name));
+        clean_at(scope, walk, named_location(scope.body.home, &iterator.name))
+    } else {
+        Ok(())
     }
 }
 
 // The iterators of the hash object of a name are made clean.
-fn clean_iterators(scope: &RecordScope<'_>, walk: &mut RecordedWalk, hash: &Name)
-    ensures { GoesOnBy scope.now walk.old walk.new (λ s d. GoesOn (all_cleaned (iterators_over s.code.home s.code.objects.iterators hash.now) d)) }
+fn clean_iterators(
+    scope: &RecordScope<'_>,
+    walk: &mut RecordedWalk,
+    hash: &Name,
+) -> Result<(), OutOfMemory>
+    ensures { OnOk result (GoesOnBy scope.now walk.old walk.new (λ s d. GoesOn (all_cleaned (iterators_over s.code.home s.code.objects.iterators hash.now) d))) }
 {
     'iterators: for iterator in scope.body.iterators {
-        clean_iterator(scope, walk, iterator, hash);
+        clean_iterator(scope, walk, iterator, hash)?;
     }
+    Ok(())
 }
 
 // A hash object and its iterators are made clean.
-fn clean_items(scope: &RecordScope<'_>, walk: &mut RecordedWalk, hash: &DeclaredHash)
-    ensures { GoesOnBy scope.now walk.old walk.new (λ s d. GoesOn (all_cleaned (cleaned_by_hash s.code.home s.code.objects.iterators hash_function.Clear hash.now) d)) }
+fn clean_items(
+    scope: &RecordScope<'_>,
+    walk: &mut RecordedWalk,
+    hash: &DeclaredHash,
+) -> Result<(), OutOfMemory>
+    ensures { OnOk result (GoesOnBy scope.now walk.old walk.new (λ s d. GoesOn (all_cleaned (cleaned_by_hash s.code.home s.code.objects.iterators hash_function.Clear hash.now) d))) }
 {
-    clean_at(scope, walk, named_location(scope.body.home, &hash.name));
-    clean_iterators(scope, walk, &hash.name);
+    clean_at(scope, walk, named_location(scope.body.home, &hash.name))?;
+    clean_iterators(scope, walk, &hash.name)
 }
 
 // What a call of a hash object makes clean.
@@ -183,16 +202,16 @@ fn clean_for_hash_call(
     walk: &mut RecordedWalk,
     hash: &DeclaredHash,
     function: HashFunction,
-)
-    ensures { GoesOnBy scope.now walk.old walk.new (λ s d. GoesOn (all_cleaned (cleaned_by_hash s.code.home s.code.objects.iterators function hash.now) d)) }
+) -> Result<(), OutOfMemory>
+    ensures { OnOk result (GoesOnBy scope.now walk.old walk.new (λ s d. GoesOn (all_cleaned (cleaned_by_hash s.code.home s.code.objects.iterators function hash.now) d))) }
 {
     match function {
-        HashFunction::Find => {}
-        HashFunction::Check => {}
-        HashFunction::Remove => {}
-        HashFunction::Add => {}
-        HashFunction::Replace => {}
-        HashFunction::NumItems => {}
+        HashFunction::Find => Ok(()),
+        HashFunction::Check => Ok(()),
+        HashFunction::Remove => Ok(()),
+        HashFunction::Add => Ok(()),
+        HashFunction::Replace => Ok(()),
+        HashFunction::NumItems => Ok(()),
         HashFunction::Clear => clean_items(scope, walk, hash),
     }
 }
@@ -211,8 +230,7 @@ pub fn walk_hash_call(
         None => Ok(()),
         Some(hash) => {
             read_for_hash_call(scope, walk, hash, function, place)?;
-            clean_for_hash_call(scope, walk, hash, function);
-            Ok(())
+            clean_for_hash_call(scope, walk, hash, function)
         }
     }
 }

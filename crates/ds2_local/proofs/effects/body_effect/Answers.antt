@@ -14,4 +14,4 @@ returns c =
     let body = typed_statements c.args.method.now.body in
     let walked = subst (λ l. GoesPastBy s c.new-walk.result c.walk_body.new.walk (λ w. walk_all w (typed_statements l))) c.as_slice.ensures c.in_ok-walk_body.ensures in
     IfOk-weaker c.walked_effect.result (λ effect. effect ≡ effect_of_walk c.end.new.self) (λ effect. BodyTells s body effect)
-    (λ effect e. effect_told s body _ c.new-walk.result c.walk_body.new.walk c.end.new.self effect c.in_ok-locations.ensures c.new-walk.ensures walked c.in_ok-end.ensures e) c.walked_effect.ensures
+    (λ effect e. effect_told s body _ c.new-walk.result c.walk_body.new.walk c.end.new.self effect c.all-locations.ensures c.new-walk.ensures walked c.in_ok-end.ensures e) c.walked_effect.ensures

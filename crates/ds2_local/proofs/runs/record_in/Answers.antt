@@ -8,5 +8,5 @@ use Rattle.ds2_local.proofs.runs.record_in.Goals as goal
 pub returns : goal.returns
 returns c =
     let p = c.args.program.now in
-    run_recorded c.args.scope.now (system_tree p.run).statements (program_has_output (nameless_tree p)) (place_of_system p.run) _ _ _ _ _ c.in_ok-locations.ensures c.new-walk.ensures c.in_ok-walk_system.ensures c.in_ok-end.ensures
+    run_recorded c.args.scope.now (system_tree p.run).statements (program_has_output (nameless_tree p)) (place_of_system p.run) _ _ _ _ _ c.all-locations.ensures c.new-walk.ensures c.in_ok-walk_system.ensures c.in_ok-end.ensures
     c.in_ok-walk_implicit_output.ensures

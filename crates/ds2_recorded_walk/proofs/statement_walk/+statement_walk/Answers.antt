@@ -19,7 +19,6 @@ use Rattle.ds2_deeds.specs.ElseParts.{ElsePart}
 use Rattle.ds2_deeds.proofs.DeedLemmas.{drop_next}
 use Rattle.ds2_recorded_walk.specs.ElseWalks.{else_walk}
 use Rattle.ds2_recorded_walk.specs.KnownFlags.{first_flags}
-use Rattle.ds2_recorded_walk.specs.LocationBits.{either_on}
 use Rattle.ds2_recorded_walk.specs.RecordedStatements.{walk_scope}
 use Rattle.ds2_recorded_walk.proofs.GoesLemmas.{gone_by, goes_past, goes_past_nothing, goes_then_past, passes_here, passed_by, statement_as, passes_whole, passes_others, statement_gone, none_to_pass}
 use Rattle.ds2_recorded_walk.proofs.PartLemmas.{no_flags, leaves_loop, goes_to_next_round, returns_from, goes_no_way, branch_taken, branch_left, branch_open, arms_decided, arm_walked, arms_whole, arm_gone, no_arm_left, rest_decided, rest_walked, if_walked, when_walked, whens_whole, when_gone, no_when_left, select_walked, loop_walked, count_walked, while_walked, until_body_walked, until_walked}
@@ -35,7 +34,7 @@ pub walk_statement-returns-in_ok-walk_expression-in-Assign : goal.walk_statement
 walk_statement-returns-in_ok-walk_expression-in-Assign t c =
     let s = c.args.scope.now in
     let a = c.args.walk.now in
-    statement_as s (assign_is c.args.s.now _ _ _ c.in-Assign.is) (goes_then_past s c.in_ok-walk_expression-in-Assign.ensures (goes_past s c.clean_variable.ensures))
+    on_ok c.clean_variable.result c.clean_variable.ensures (λ p. statement_as s (assign_is c.args.s.now _ _ _ c.in-Assign.is) (goes_then_past s c.in_ok-walk_expression-in-Assign.ensures (goes_past s p)))
 
 pub walk_statement-returns-in-Invoke : goal.walk_statement-returns-in-Invoke
 walk_statement-returns-in-Invoke t c =
@@ -107,8 +106,8 @@ walk_statement-returns-in_ok-walk_else-in-If t c =
     ∙ ap (λ (l : List code_arm.Arm). if_tree place condition on (chain l)) (sym c.as_slice-in-If.ensures) in
     on_ok c.meet.result c.meet.ensures
     (λ e. statement_as s is
-    (if_walked s _ _ place condition _ on (chain c.as_slice-in-If.result.now) last c.in_ok-walk_expression-in-If.ensures c.decided-truth.ensures c.new.ensures refl c.in_ok-walk_branch-in-If.ensures
-    (c.in_ok-walk_arms-in-If.ensures last) c.in_ok-walk_else-in-If.ensures c.as_slice-in-If-2.ensures e))
+    (if_walked s _ place condition _ on (chain c.as_slice-in-If.result.now) last c.in_ok-walk_expression-in-If.ensures c.decided-truth.ensures c.new.ensures refl c.in_ok-walk_branch-in-If.ensures
+    (c.in_ok-walk_arms-in-If.ensures last) c.in_ok-walk_else-in-If.ensures e))
 
 pub walk_statement-returns-in_ok-walk_otherwise-in-Select : goal.walk_statement-returns-in_ok-walk_otherwise-in-Select
 walk_statement-returns-in_ok-walk_otherwise-in-Select t c =
@@ -117,7 +116,7 @@ walk_statement-returns-in_ok-walk_otherwise-in-Select t c =
     on_ok c.meet-in-Select.result c.meet-in-Select.ensures
     (λ e. statement_as s (select_is c.args.s.now _ _ _ c.in-Select.is) (passes_here s (λ calls. refl)
     (passed_by s (λ (l : List code_when.When) (w : WalkScope). walk_whens w (first_flags s.known.now) (in_a_row (map when_tree l) last) c.in-Select.place) _ _ c.as_slice-in-Select.ensures
-    (select_walked s _ _ _ last c.new-ends.ensures (c.in_ok-walk_whens-in-Select.ensures last) c.in_ok-walk_otherwise-in-Select.ensures c.as_slice-in-Select-2.ensures e))))
+    (select_walked s _ _ last c.new-ends.ensures (c.in_ok-walk_whens-in-Select.ensures last) c.in_ok-walk_otherwise-in-Select.ensures e))))
 
 pub walk_statement-returns-in_ok-walk_otherwise-in-SelectValue : goal.walk_statement-returns-in_ok-walk_otherwise-in-SelectValue
 walk_statement-returns-in_ok-walk_otherwise-in-SelectValue t c =
@@ -127,7 +126,7 @@ walk_statement-returns-in_ok-walk_otherwise-in-SelectValue t c =
     (λ e. statement_as s (select_value_is c.args.s.now _ _ _ _ c.in-SelectValue.is) (goes_then_past s c.in_ok-walk_expression-in-SelectValue.ensures
     (passes_here s (λ calls. ap (λ known. walk_whens (walk_scope s calls) known (in_a_row (map when_tree c.in-SelectValue.whens) last) c.in-SelectValue.place) no_flags)
     (passed_by s (λ (l : List code_when.When) (w : WalkScope). walk_whens w (first_flags []) (in_a_row (map when_tree l) last) c.in-SelectValue.place) _ _ c.as_slice-in-SelectValue.ensures
-    (select_walked s _ _ _ last c.new-ends-in-SelectValue.ensures (c.in_ok-walk_whens-in-SelectValue.ensures last) c.in_ok-walk_otherwise-in-SelectValue.ensures c.as_slice-in-SelectValue-2.ensures e)))))
+    (select_walked s _ _ last c.new-ends-in-SelectValue.ensures (c.in_ok-walk_whens-in-SelectValue.ensures last) c.in_ok-walk_otherwise-in-SelectValue.ensures e)))))
 
 pub walk_statement-returns-in-Block : goal.walk_statement-returns-in-Block
 walk_statement-returns-in-Block t c =
@@ -162,7 +161,7 @@ walk_statement-returns-in_ok-walk_expression-in-Until t c =
     on_ok c.meet-in-Until.result c.meet-in-Until.ensures
     (λ e. statement_as s (until_is c.args.s.now _ _ _ c.in-Until.is)
     (passed_by s (λ (l : List code_statement.Statement) (w : WalkScope). walk w (Until c.in-Until.place (typed_expression c.in-Until.condition) (body l))) _ _ c.as_slice-in-Until.ensures
-    (until_walked s _ _ c.in-Until.place (typed_expression c.in-Until.condition) c.in_ok-left-in-Until.ensures c.in_ok-walk_expression-in-Until.ensures c.as_slice-in-Until-2.ensures e)))
+    (until_walked s _ c.in-Until.place (typed_expression c.in-Until.condition) c.in_ok-left-in-Until.ensures c.in_ok-walk_expression-in-Until.ensures e)))
 
 -- ---- chains
 
@@ -176,10 +175,8 @@ walk_branch-returns-in-No t c = branch_left c.args.scope.now c.args.walk.now c.a
 pub walk_branch-returns-in_ok-branches-in-Unknown : goal.walk_branch-returns-in_ok-branches-in-Unknown
 walk_branch-returns-in_ok-branches-in-Unknown t c =
     let s = c.args.scope.now in
-    let old = c.args.branches.now in
-    let ends = c.in_ok-branches-in-Unknown.ensures ∙ ap (λ x. either_on x c.as_slice-in-Unknown.result.now) c.as_slice.ensures ∙ ap (either_on old.ends) c.as_slice-in-Unknown.ensures in
-    branch_open s _ old _ _ _ c.args.truth (typed_statement c.args.then.now) c.in-Unknown.is c.in_ok-walk_statement-in-Unknown.ensures
-    c.in_ok-before-in-Unknown.ensures c.go_on_from-end.ensures.before c.go_on_from-end.ensures.now ends
+    branch_open s _ c.args.branches.now _ _ _ c.args.truth (typed_statement c.args.then.now) c.in-Unknown.is c.in_ok-walk_statement-in-Unknown.ensures
+    c.in_ok-before-in-Unknown.ensures c.go_on_from-end.ensures.before c.go_on_from-end.ensures.now c.in_ok-branches-in-Unknown.ensures
 
 pub walk_arm-returns-then-branches : goal.walk_arm-returns-then-branches
 walk_arm-returns-then-branches t c rest = arms_decided c.args.scope.now c.args.walk.now c.args.branches.now rest _ c.if-branches.true
@@ -228,9 +225,8 @@ walk_when-returns t c rest =
     let on = typed_statement w.then in
     let tests : List code_expression.Expression → TypedExpressions = λ l. all_expressions (map typed_expression l) in
     let is = when_is w rest ∙ ap (λ (l : List code_expression.Expression). When (tests l) on rest) (sym c.as_slice.ensures) in
-    let ends = c.in_ok-ends.ensures ∙ ap (λ x. either_on x c.as_slice-3.result.now) c.as_slice-2.ensures ∙ ap (either_on c.args.ends.now) c.as_slice-3.ensures in
     when_walked s _ _ _ _ c.args.ends.now _ c.args.known.now c.args.place (tests c.as_slice.result.now) on rest _
-    c.in_ok-holding.ensures c.go_on_from-failing.ensures.before c.go_on_from-failing.ensures.now c.in_ok-walk_statement.ensures c.go_on_from-end.ensures.before c.go_on_from-end.ensures.now ends is
+    c.in_ok-holding.ensures c.go_on_from-failing.ensures.before c.go_on_from-failing.ensures.now c.in_ok-walk_statement.ensures c.go_on_from-end.ensures.before c.go_on_from-end.ensures.now c.in_ok-ends.ensures is
 
 pub walk_otherwise-returns-in-None : goal.walk_otherwise-returns-in-None
 walk_otherwise-returns-in-None t c =
@@ -265,8 +261,8 @@ walk_loop-returns t c =
 
 pub walk_until_body-returns : goal.walk_until_body-returns
 walk_until_body-returns t c =
-    until_body_walked c.args.scope.now c.args.walk.now _ _ _ _ _ _ _ (all_statements (map typed_statement c.args.body.now)) c.new.ensures c.change_loop-around.ensures.before c.change_loop-around.ensures.now
-    c.in_ok-walk_body.ensures c.change_loop-leaves.ensures.before c.change_loop-leaves.ensures.now c.as_slice.ensures c.in_ok-meet.ensures
+    until_body_walked c.args.scope.now c.args.walk.now _ _ _ _ _ _ (all_statements (map typed_statement c.args.body.now)) c.new.ensures c.change_loop-around.ensures.before c.change_loop-around.ensures.now
+    c.in_ok-walk_body.ensures c.change_loop-leaves.ensures.before c.change_loop-leaves.ensures.now c.in_ok-meet.ensures
 
 -- ---- statements in order
 

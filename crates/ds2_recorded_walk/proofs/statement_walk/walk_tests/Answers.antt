@@ -5,7 +5,6 @@ use Rattle.ds2_meaning.specs.View.{all_expressions, typed_expression}
 use Rattle.ds2_locality.specs.Walk.{DirtySet, WalkEnd, TestsEnd, WalkScope, walk_tests}
 use Rattle.ds2_deeds.proofs.DeedLemmas.{drop_next}
 use Rattle.ds2_recorded_walk.specs.KnownFlags.{first_flags}
-use Rattle.ds2_recorded_walk.specs.LocationBits.{either_on}
 use Rattle.ds2_recorded_walk.specs.RecordedStatements.{walk_scope}
 use Rattle.ds2_recorded_walk.proofs.PartLemmas.{tests_begun, tests_here, test_fails, test_may_hold, test_holds, tests_ended}
 use Rattle.ds2_recorded_walk.proofs.statement_walk.walk_tests.Goals as goal
@@ -26,9 +25,9 @@ returns-in-Yes c =
     let i = c.tests.test-index in
     let x = c.test-item.result in
     let of : List code_expression.Expression → WalkScope → DirtySet → WalkEnd TestsEnd = λ l w. walk_tests w (first_flags c.args.known.now) (all_expressions (map typed_expression l)) c.args.place in
-    test_holds s c.args.known.now (typed_expression x) c.args.place (of (drop (i + 1) tests)) (all_expressions (map typed_expression tests)) _ _ _ _ _ (sym c.decided.ensures ∙ c.in-Yes.is)
+    test_holds s c.args.known.now (typed_expression x) c.args.place (of (drop (i + 1) tests)) (all_expressions (map typed_expression tests)) _ _ _ _ (sym c.decided.ensures ∙ c.in-Yes.is)
     (tests_here s (λ calls. ap (λ l. of l (walk_scope s calls)) (drop_next tests i x c.tests-test.true c.test-item.is)) c.tests.invariant) c.in_ok-walk_expression.ensures
-    c.as_slice.ensures c.in_ok-meet-in-Yes.ensures c.new.ensures c.go_on_from.ensures.before c.go_on_from.ensures.now
+    c.in_ok-meet-in-Yes.ensures c.new.ensures c.go_on_from.ensures.before c.go_on_from.ensures.now
 
 pub tests-preserved : goal.tests-preserved
 tests-preserved c =
@@ -42,7 +41,6 @@ tests-preserved c =
     elim c.match-decided.branch [
       | in-No w ↦ test_fails s known (typed_expression x) c.args.place (of (drop (i + 1) tests)) _ (sym c.decided.ensures ∙ w.in-No.is) (tests_here s (λ calls. ap (λ l. of l (walk_scope s calls)) first) c.tests.invariant) c.in_ok-walk_expression.ensures w.holding-is
       | in-Unknown+in_ok-holding-in-Unknown w ↦
-          let held = c.tests.holding in
-          let grown = w.holding-is ∙ w.in_ok-holding-in-Unknown.ensures ∙ ap (λ b. either_on b w.as_slice-in-Unknown-2.result.now) w.as_slice-in-Unknown.ensures ∙ ap (either_on held) w.as_slice-in-Unknown-2.ensures in
+          let grown = w.holding-is ∙ w.in_ok-holding-in-Unknown.ensures in
           test_may_hold s known (typed_expression x) c.args.place (of (drop (i + 1) tests)) _ (sym c.decided.ensures ∙ w.in-Unknown.is) (tests_here s (λ calls. ap (λ l. of l (walk_scope s calls)) first) c.tests.invariant) c.in_ok-walk_expression.ensures grown
     ]

@@ -1,4 +1,5 @@
 use Rattle.std.proofs.Common.{sym}
+use Rattle.ds2_emitter.proofs.Appended.{on_ok}
 use Rattle.ds2_value.specs.declared.hash_function.HashFunction.{HashFunction}
 use Rattle.ds2_locality.specs.Walk.{WalkScope, DirtySet, GoesOn, all_cleaned, cleaned_by_hash}
 use Rattle.ds2_recorded_walk.proofs.GoesLemmas.{goes_nowhere, gone_by}
@@ -37,4 +38,5 @@ returns-in-NumItems c =
 pub returns-in-Clear : goal.returns-in-Clear
 returns-in-Clear c =
     let s = c.args.scope.now in
-    gone_by s (λ (f : HashFunction) (w : WalkScope) (d : DirtySet). GoesOn (all_cleaned (cleaned_by_hash w.code.home w.code.objects.iterators f c.args.hash.now) d)) _ _ (sym c.in-Clear.is) c.clean_items.ensures
+    on_ok c.clean_items.result c.clean_items.ensures
+    (λ p. gone_by s (λ (f : HashFunction) (w : WalkScope) (d : DirtySet). GoesOn (all_cleaned (cleaned_by_hash w.code.home w.code.objects.iterators f c.args.hash.now) d)) _ _ (sym c.in-Clear.is) p)

@@ -1,4 +1,5 @@
 use Rattle.std.proofs.Common.{[], ◌∷◌, refl}
+use Rattle.ds2_emitter.proofs.Appended.{on_ok}
 use Rattle.ds2_meaning.specs.HashObjects.{object_at}
 use Rattle.ds2_locality.specs.Deeds.{iterators_over}
 use Rattle.ds2_deeds.specs.NamedLocations.{code_home}
@@ -10,5 +11,6 @@ returns c =
     let s = c.args.scope.now in
     let home = code_home s.body.home in
     let name = c.args.hash.now.name in
-    goes_here s (λ calls. refl)
-    (clean_lists s (object_at home name ∷ []) (iterators_over home s.body.iterators.now name) (clean_one s c.named_location.ensures c.clean_at.ensures) (goes_here s (λ calls. refl) c.clean_iterators.ensures))
+    on_ok c.clean_iterators.result c.clean_iterators.ensures
+    (λ p. goes_here s (λ calls. refl)
+    (clean_lists s (object_at home name ∷ []) (iterators_over home s.body.iterators.now name) (clean_one s c.named_location.ensures c.in_ok-clean_at.ensures) (goes_here s (λ calls. refl) p)))

@@ -18,7 +18,7 @@ iterators-preserved c =
     let name = c.args.hash.now in
     cleans_gone s (λ (x : DeclaredIterator). iterators_over home (x ∷ []) name) (λ l. iterators_over home l name) (iterators_next home name) _ _ c.iterator-item.result
     (drop_next s.body.iterators.now c.iterators.iterator-index c.iterator-item.result c.iterators-test.true c.iterator-item.is) c.iterators.invariant
-    (goes_here s (λ calls. refl) c.clean_iterator.ensures)
+    (goes_here s (λ calls. refl) c.in_ok-clean_iterator.ensures)
 
 pub returns : goal.returns
 returns c =
