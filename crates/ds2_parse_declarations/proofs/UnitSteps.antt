@@ -1,13 +1,13 @@
 -- Steps of the code of lists of declarations and units against their rules.
-use Rattle.std.proofs.Common.{◌≡◌, ℕ, zero, suc, ◌<◌, Bool, true, false, codes, List, [], ◌∷◌, ◌++◌, length, map, Option, Some, None, refl, sym, ap, ◌∙◌, subst}
+use Rattle.std.proofs.Common.{◌≡◌, ℕ, zero, suc, Bool, true, false, codes, List, [], ◌∷◌, map, Option, Some, None, refl, sym, ap, ◌∙◌, subst}
 use Rattle.ds2_base.specs.declared.place.Place.{Place}
 use Rattle.ds2_base.specs.declared.place.Refusal.{Refusal}
 use Rattle.ds2_base.specs.declared.stop.Stop.{Stop}
 use Rattle.ds2_token.specs.declared.token.Token.{Token}
 use Rattle.ds2_tree.specs.declared.kind.ParseKind.{ParseKind}
-use Rattle.ds2_tree.specs.Parsers.{ParserOutcome, Read, Unexpected, TooDeep, Spent, Parser, and_then, pure, first, when, either, to, seq, many_of, optional}
+use Rattle.ds2_tree.specs.Parsers.{ParserOutcome, Read, Unexpected, TooDeep, Spent, Parser, and_then, pure, first, when, either, to, seq, many_of}
 use Rattle.ds2_tree.specs.Promise.{Fails}
-use Rattle.ds2_tree.proofs.Steps.{fails_on, both, to_seq, choose_yes, choose_no, many_step, many_fails, many_ends, and_same}
+use Rattle.ds2_tree.proofs.Steps.{fails_on, both, to_seq, choose_yes, choose_no, and_same}
 use Rattle.ds2_parse_rules.specs.GrammarTokens.{mark_rule, is_comma_mark, behind_commas, comma_list}
 use Rattle.ds2_parse_declarations.specs.UnitParts.{behind_comma}
 

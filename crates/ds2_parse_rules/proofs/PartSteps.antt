@@ -8,6 +8,12 @@ use Rattle.ds2_tree.specs.declared.kind.ParseKind.{ParseKind}
 use Rattle.ds2_tree.specs.Parsers.{ParserOutcome, Read, Unexpected, TooDeep, Spent, Parser, and_then, pure, first, when, to, many_of, optional}
 use Rattle.ds2_tree.specs.Promise.{Fails}
 use Rattle.ds2_tree.proofs.Steps.{fails_on, choose_yes, choose_no, many_step, many_fails, many_ends}
+use Rattle.ds2_parse_rules.specs.TreeViews.{TreeView}
+
+-- what is seen of a list with one more tree
+pub all_push : {A : Type 0} (v : TreeView A) (xs : List A) (x : A) → v.all (xs ++ x ∷ []) ≡ v.all xs ++ v.one x ∷ []
+all_push v [] x = v.first_is x [] ∙ ap (λ ys. v.one x ∷ ys) v.empty_is ∙ sym (ap (λ ys. ys ++ v.one x ∷ []) v.empty_is)
+all_push v (y ∷ xs) x = v.first_is y (xs ++ x ∷ []) ∙ ap (λ ys. v.one y ∷ ys) (all_push v xs x) ∙ sym (ap (λ ys. ys ++ v.one x ∷ []) (v.first_is y xs))
 
 -- ---- a loop: `whole` is what comes of all, and these are found
 

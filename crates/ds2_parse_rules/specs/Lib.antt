@@ -5,3 +5,4 @@ pub mod ReadingGrammar
 pub mod GlobalGrammar
 pub mod UnitGrammar
 pub mod TokenClasses
+pub mod TreeViews

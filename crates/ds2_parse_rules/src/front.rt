@@ -128,7 +128,8 @@ fn is_operator(token: &Token, kind: ChainKind) -> bool
     }
 }
 
-fn is_first_of_expression(token: &Token) -> bool
+/// Whether an expression begins with the token.
+pub fn is_first_of_expression(token: &Token) -> bool
     ensures { result ≡ expressions.begins_expression token.now }
 {
     is_constant(token)
@@ -328,33 +329,11 @@ pub fn text_at(tokens: &[Token]) -> Taken<'_>
     }
 }
 
-/// A table at the front.
-pub fn table_at(tokens: &[Token]) -> Taken<'_>
-    ensures { MatchOption result (when words.is_table (first tokens.now) ≡ false) (λ r. Fronted words.is_table tokens.now r.0.now r.1.now) }
-{
-    match tokens {
-        [] => None,
-        [token, rest @ ..] => match token.is_table() {
-            true => Some((token, rest)),
-            false => None,
-        },
-    }
-}
-
-fn is_first_of_item(token: &Token) -> bool
+/// Whether an item of `put` begins with the token.
+pub fn is_first_of_item(token: &Token) -> bool
     ensures { result ≡ statement_grammar.begins_item token.now }
 {
     token.is_text() || token.is_name()
-}
-
-/// Whether an item of `put` begins with the token at the front.
-pub fn begins_item(tokens: &[Token]) -> bool
-    ensures { result ≡ when statement_grammar.begins_item (first tokens.now) }
-{
-    match tokens {
-        [token, ..] => is_first_of_item(token),
-        [] => false,
-    }
 }
 
 /// The word.
@@ -399,7 +378,8 @@ fn is_statement_word(token: &Token) -> bool
         || token.is_word("do")
 }
 
-fn is_first_of_statement(token: &Token) -> bool
+/// Whether a statement begins with the token.
+pub fn is_first_of_statement(token: &Token) -> bool
     ensures { result ≡ statement_grammar.begins_statement token.now }
 {
     token.is_name() || token.is_mark(";") || is_statement_word(token)

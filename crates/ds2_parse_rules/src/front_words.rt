@@ -1,17 +1,19 @@
-//! The token at the front, by what it is to the grammar of readings, globals and units.
-ghost use Rattle.std.specs.Prelude.{◌≡◌, ◌∷◌, ◌<◌, ◌≤◌, [], IfOk, length};
-ghost use Rattle.ds2_tree.specs.Parsers.{first, when, kept, optional};
+//! The token at the front, by what it is to the grammar.
+ghost use Rattle.std.specs.Prelude.{◌≡◌, ◌∷◌, ◌<◌, [], IfOk, length};
+ghost use Rattle.ds2_tree.specs.Parsers.{first, when, kept};
 ghost use Rattle.ds2_tree.specs.Promise.{Gives};
 ghost use Rattle.ds2_token.specs.Words.{is_one_of};
 ghost use Rattle.ds2_tree.specs.Globals as globals;
 ghost use Rattle.ds2_tree.specs.Units as units;
-ghost use Rattle.ds2_parse_rules.specs.GrammarTokens.{mark_rule, word_rule, starts};
+ghost use Rattle.ds2_parse_rules.specs.GrammarTokens.{starts};
 ghost use Rattle.ds2_parse_rules.specs.ReadingGrammar as reading_grammar;
 ghost use Rattle.ds2_parse_rules.specs.GlobalGrammar as global_grammar;
 ghost use Rattle.ds2_parse_rules.specs.UnitGrammar as unit_grammar;
 ghost use Rattle.ds2_parse_rules.specs.TokenClasses.{is_in_class};
 
-use crate::front::{Parsed, mark, unexpected, word};
+use crate::front::{
+    Parsed, is_first_of_expression, is_first_of_item, is_first_of_statement, unexpected,
+};
 use ds2_base::Place;
 use ds2_token::Token;
 use std::alloc::Global;
@@ -19,6 +21,8 @@ use std::alloc::Global;
 /// A class of tokens: those that may stand at one place of the grammar.
 #[derive(Clone, Copy)]
 pub enum TokenClass {
+    /// A word, reserved or not.
+    AnyWord,
     /// A word that is not reserved.
     Table,
     /// A word that is not reserved, or a quoted token.
@@ -47,6 +51,12 @@ pub enum TokenClass {
     KeptOrDropped,
     /// `yes` or `no`.
     Answer,
+    /// What begins an expression.
+    Expression,
+    /// What begins an item of `put`.
+    PutItem,
+    /// What begins a statement.
+    Statement,
     /// What begins a variable of `by`.
     ByVariable,
     /// What begins a constant.
@@ -190,6 +200,7 @@ fn is_of(token: &Token, class: TokenClass) -> bool
     ensures { result ≡ is_in_class class token.now }
 {
     match class {
+        TokenClass::AnyWord => token.is_any_word(),
         TokenClass::Table => token.is_table(),
         TokenClass::Name => token.is_name(),
         TokenClass::PackageName => token.is_package_name(),
@@ -204,6 +215,9 @@ fn is_of(token: &Token, class: TokenClass) -> bool
         TokenClass::TextKeyword => is_text_keyword(token),
         TokenClass::KeptOrDropped => is_kept_or_dropped(token),
         TokenClass::Answer => is_answer(token),
+        TokenClass::Expression => is_first_of_expression(token),
+        TokenClass::PutItem => is_first_of_item(token),
+        TokenClass::Statement => is_first_of_statement(token),
         TokenClass::ByVariable => begins_by_variable(token),
         TokenClass::Constant => begins_constant(token),
         TokenClass::BracketedName => begins_bracketed_name(token),
@@ -264,37 +278,4 @@ pub fn token<'t>(
             false => Err(unexpected(tokens, end)),
         },
     }
-}
-
-/// The word, which is in lower case, where it stands at the front.
-pub fn optional_word<'t>(
-    alloc: Global,
-    tokens: &'t [Token],
-    end: Place,
-    spelling: &str,
-) -> Parsed<'t, Option<Token>>
-    ensures exact { Gives end (λ x. (x.0, x.1.now)) result (optional (starts spelling.now) (word_rule spelling.now) tokens.now) }
-    ensures shorter { IfOk result (λ r. length r.1.now ≤ length tokens.now) }
-{
-    if starts_with(tokens, spelling) {
-        let (word, rest) = word(alloc, tokens, end, spelling)?;
-        return Ok((Some(word), rest));
-    }
-    Ok((None, tokens))
-}
-
-/// The place of the mark, where it stands at the front.
-pub fn optional_mark<'t>(
-    tokens: &'t [Token],
-    end: Place,
-    spelling: &str,
-) -> Parsed<'t, Option<Place>>
-    ensures exact { Gives end (λ x. (x.0, x.1.now)) result (optional (is_one_of [] (spelling.now ∷ [])) (mark_rule spelling.now) tokens.now) }
-    ensures shorter { IfOk result (λ r. length r.1.now ≤ length tokens.now) }
-{
-    if begins_with(tokens, spelling) {
-        let (place, rest) = mark(tokens, end, spelling)?;
-        return Ok((Some(place), rest));
-    }
-    Ok((None, tokens))
 }

@@ -7,6 +7,7 @@ ghost use Rattle.ds2_token.specs.declared.token.Token.{Token};
 ghost use Rattle.ds2_token.specs.Words.{is_one_of};
 ghost use Rattle.ds2_parse_rules.specs.GrammarTokens.{mark_rule, word_rule, starts, one_or_more};
 ghost use Rattle.ds2_parse_rules.specs.TokenClasses.{is_in_class};
+ghost use Rattle.ds2_parse_rules.specs.TreeViews.{TreeView, seen_as_it_is, seen_through, both_seen};
 
 use crate::front::{Parsed, mark, word};
 use crate::front_words::{TokenClass, at, begins_with, starts_with, token};
@@ -29,12 +30,15 @@ pub trait Rule {
     /// What it is read as.
     type Tree: Drop;
 
+    /// What definitions see of it.
+    ghost view: { TreeView Self.Tree } = { seen_as_it_is Self.Tree };
+
     /// The rule; m bounds the turns of each list.
-    ghost grammar: { Self → ℕ → Parser Self.Tree };
+    ghost grammar: { Self → ℕ → Parser Self.view.Seen };
 
     /// Reads exactly what the rule does, but for want of memory.
     fn read<'t>(&self, alloc: Global, tokens: &'t [Token], end: Place) -> Parsed<'t, Self::Tree>
-        ensures exact { (m : ℕ) → length tokens.now < m → Gives end (λ x. (x.0, x.1.now)) result (grammar self.now m tokens.now) }
+        ensures exact { (m : ℕ) → length tokens.now < m → Gives end (λ x. (Self.view.one x.0, x.1.now)) result (grammar self.now m tokens.now) }
         ensures shorter { IfOk result (λ r. length r.1.now < length tokens.now) };
 }
 
@@ -112,7 +116,7 @@ pub fn optional_of<'t, F: Front, R: Rule>(
     tokens: &'t [Token],
     end: Place,
 ) -> Parsed<'t, Option<R::Tree>>
-    ensures exact { (m : ℕ) → length tokens.now < m → Gives end (λ x. (x.0, x.1.now)) result (optional (F.test begins.now) (R.grammar rule.now m) tokens.now) }
+    ensures exact { (m : ℕ) → length tokens.now < m → Gives end (λ x. (R.view.any x.0, x.1.now)) result (optional (F.test begins.now) (R.grammar rule.now m) tokens.now) }
     ensures shorter { IfOk result (λ r. length r.1.now ≤ length tokens.now) }
 {
     if begins.is_at(tokens) {
@@ -131,7 +135,7 @@ pub fn further_of<'t, F: Front, R: Rule>(
     tokens: &'t [Token],
     end: Place,
 ) -> Parsed<'t, List<R::Tree>>
-    ensures exact { (m : ℕ) → length tokens.now < m → Gives end (λ x. (x.0, x.1.now)) result (to (λ l. found ++ l) (many_of m (F.test begins.now) (R.grammar item.now m)) tokens.now) }
+    ensures exact { (m : ℕ) → length tokens.now < m → Gives end (λ x. (R.view.all x.0, x.1.now)) result (to (λ l. R.view.all found ++ l) (many_of m (F.test begins.now) (R.grammar item.now m)) tokens.now) }
     ensures shorter { IfOk result (λ r. length r.1.now ≤ length tokens.now) }
 {
     let mut found = found;
@@ -152,7 +156,7 @@ pub fn items_of<'t, F: Front, R: Rule>(
     tokens: &'t [Token],
     end: Place,
 ) -> Parsed<'t, List<R::Tree>>
-    ensures exact { (m : ℕ) → length tokens.now < m → Gives end (λ x. (x.0, x.1.now)) result (many_of m (F.test begins.now) (R.grammar item.now m) tokens.now) }
+    ensures exact { (m : ℕ) → length tokens.now < m → Gives end (λ x. (R.view.all x.0, x.1.now)) result (many_of m (F.test begins.now) (R.grammar item.now m) tokens.now) }
     ensures shorter { IfOk result (λ r. length r.1.now ≤ length tokens.now) }
 {
     let found = List::new(alloc);
@@ -165,6 +169,8 @@ pub struct SomeOf<F, R>(pub F, pub R);
 
 impl<F: Front, R: Rule> Rule for SomeOf<F, R> {
     type Tree = List<R::Tree>;
+
+    ghost view = { seen_through R.view.all };
 
     ghost grammar = { λ s m. one_or_more m (F.test s.0) (R.grammar s.1 m) };
 
@@ -190,6 +196,8 @@ pub struct Then<A, B>(pub A, pub B);
 impl<A: Rule, B: Rule> Rule for Then<A, B> {
     type Tree = (A::Tree, B::Tree);
 
+    ghost view = { seen_through (both_seen A.view.one B.view.one) };
+
     ghost grammar = { λ s m. seq (A.grammar s.0 m) (B.grammar s.1 m) };
 
     fn read<'t>(&self, alloc: Global, tokens: &'t [Token], end: Place) -> Parsed<'t, Self::Tree> {
@@ -205,6 +213,8 @@ pub struct OptionalThen<F, R, N>(pub F, pub R, pub N);
 
 impl<F: Front, R: Rule, N: Rule> Rule for OptionalThen<F, R, N> {
     type Tree = (Option<R::Tree>, N::Tree);
+
+    ghost view = { seen_through (both_seen R.view.any N.view.one) };
 
     ghost grammar = { λ s m. seq (optional (F.test s.0) (R.grammar s.1 m)) (N.grammar s.2 m) };
 
@@ -222,6 +232,8 @@ pub struct ThenOptional<A, F, R>(pub A, pub F, pub R);
 impl<A: Rule, F: Front, R: Rule> Rule for ThenOptional<A, F, R> {
     type Tree = (A::Tree, Option<R::Tree>);
 
+    ghost view = { seen_through (both_seen A.view.one R.view.any) };
+
     ghost grammar = { λ s m. seq (A.grammar s.0 m) (optional (F.test s.1) (R.grammar s.2 m)) };
 
     fn read<'t>(&self, alloc: Global, tokens: &'t [Token], end: Place) -> Parsed<'t, Self::Tree> {
@@ -237,6 +249,8 @@ pub struct ItemsThen<F, R, N>(pub F, pub R, pub N);
 
 impl<F: Front, R: Rule, N: Rule> Rule for ItemsThen<F, R, N> {
     type Tree = (List<R::Tree>, N::Tree);
+
+    ghost view = { seen_through (both_seen R.view.all N.view.one) };
 
     ghost grammar = { λ s m. seq (many_of m (F.test s.0) (R.grammar s.1 m)) (N.grammar s.2 m) };
 

@@ -8,6 +8,7 @@ ghost use Rattle.ds2_tree.specs.Expressions.{is_operator};
 ghost use Rattle.ds2_tree.specs.ExpressionViews.{expression_tree, arguments_of};
 ghost use Rattle.ds2_parse_rules.specs.GrammarTokens.{mark_rule, is_open_mark, is_comma_mark};
 ghost use Rattle.ds2_parse_rules.specs.ExpressionGrammar as grammar;
+ghost use Rattle.ds2_parse_rules.specs.TreeViews.{seen_through};
 ghost use Rattle.ds2_parse_statements.specs.StatementSymbols.{expression_symbol};
 ghost use Rattle.ds2_parse_statements.specs.ExpressionParts.{compared_rule, unary_rule, negation_rule, operand_rule, link_rule, parenthesis_rule, operand_pair, argument_parts, and_further};
 
@@ -17,6 +18,7 @@ use ds2_parse_rules::front::{
     Parsed, any_word, at_mark, at_operator, begins_expression, comparison_at, constant_at, deeper,
     mark, mark_at, name_at, not_at, null_at, operator_at, sign_at,
 };
+use ds2_parse_rules::rules::Rule;
 use ds2_token::Token;
 use ds2_tree::{Argument, Callee, ChainKind, Expression, Operand};
 use std::alloc::Global;
@@ -321,4 +323,47 @@ fn parenthesis(alloc: Global, tokens: &[Token], end: Place, levels: u64) -> Pars
     let (value, rest) = chain(alloc, rest, end, inner, ChainKind::Or)?;
     let (closing, rest) = mark(rest, end, ")")?;
     Ok((trees::parenthesis(alloc, opening, value, closing)?, rest))
+}
+
+// ---- as rules of the grammar
+
+/// An expression that opens at most these levels.
+#[derive(Clone, Copy)]
+pub struct ExpressionRule {
+    pub levels: u64,
+}
+
+impl Rule for ExpressionRule {
+    type Tree = Expression;
+
+    ghost view = { seen_through expression_tree };
+
+    ghost grammar = { λ s m. grammar.expression m s.levels };
+
+    fn read<'t>(&self, alloc: Global, tokens: &'t [Token], end: Place) -> Parsed<'t, Expression> {
+        expression(alloc, tokens, end, self.levels)
+    }
+}
+
+/// An argument list that opens at most these levels.
+#[derive(Clone, Copy)]
+pub struct ArgumentsRule {
+    pub levels: u64,
+}
+
+impl Rule for ArgumentsRule {
+    type Tree = CallArguments;
+
+    ghost view = { seen_through argument_parts };
+
+    ghost grammar = { λ s m. grammar.argument_list m s.levels };
+
+    fn read<'t>(
+        &self,
+        alloc: Global,
+        tokens: &'t [Token],
+        end: Place,
+    ) -> Parsed<'t, CallArguments> {
+        argument_list(alloc, tokens, end, self.levels)
+    }
 }

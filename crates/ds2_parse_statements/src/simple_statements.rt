@@ -1,26 +1,23 @@
 //! The parser of statements that hold no statement.
 ghost use Rattle.std.specs.Prelude.{ℕ, ◌<◌, ◌≤◌, codes, length, IfOk};
-ghost use Rattle.std.specs.Option.{option_map};
 ghost use Rattle.ds2_tree.specs.Parsers.{to, seq, many_of, optional, kept};
 ghost use Rattle.ds2_tree.specs.Promise.{Gives};
 ghost use Rattle.ds2_token.specs.Words.{is_table};
 ghost use Rattle.ds2_tree.specs.Statements as tree;
-ghost use Rattle.ds2_tree.specs.ExpressionViews.{expression_tree};
 ghost use Rattle.ds2_tree.specs.StatementViews.{statement_tree};
 ghost use Rattle.ds2_tree.specs.declared.expressions.Callee.TheVariants as kind_of_callee;
 ghost use Rattle.ds2_parse_rules.specs.GrammarTokens.{mark_rule, word_rule};
 ghost use Rattle.ds2_parse_rules.specs.ExpressionGrammar as expression_grammar;
 ghost use Rattle.ds2_parse_rules.specs.StatementGrammar as grammar;
 
-use crate::expressions::{argument_list, expression};
+use crate::expressions::{ArgumentsRule, ExpressionRule};
 use crate::trees;
-use ds2_base::{List, Place};
-use ds2_parse_rules::front::{
-    Parsed, any_word, at_mark, begins_expression, begins_item, mark, mark_at, name, table_at,
-    text_at, word,
-};
+use ds2_base::Place;
+use ds2_parse_rules::front::{Parsed, any_word, at_mark, mark, mark_at, name, text_at, word};
+use ds2_parse_rules::front_words::TokenClass;
+use ds2_parse_rules::rules::{ItemsThen, Mark, OptionalThen, Rule, Then, Word};
 use ds2_token::Token;
-use ds2_tree::{Callee, Expression, PutItem, Statement};
+use ds2_tree::{Callee, PutItem, Statement};
 use std::alloc::Global;
 
 /// What begins with a name, which was read: an assignment, or a call.
@@ -61,18 +58,16 @@ fn assignment(
     ensures exact { (m : ℕ) → length tokens.now < m → Gives end (λ x. (statement_tree x.0, x.1.now)) result (to (λ x. tree.Assignment target x.0 x.1.0 x.1.1) (seq (mark_rule (codes "=")) (seq (expression_grammar.expression m levels) (mark_rule (codes ";")))) tokens.now) }
     ensures shorter { IfOk result (λ r. length r.1.now < length tokens.now) }
 {
-    let (equals, rest) = mark(tokens, end, "=")?;
-    let (value, rest) = expression(alloc, rest, end, levels)?;
-    let (semicolon, rest) = mark(rest, end, ";")?;
-    Ok((
-        Statement::Assignment {
-            target,
-            equals,
-            value,
-            end: semicolon,
-        },
-        rest,
-    ))
+    let value = Then(ExpressionRule { levels }, Mark(";"));
+    let (parts, rest) = Then(Mark("="), value).read(alloc, tokens, end)?;
+    let (equals, (value, semicolon)) = parts;
+    let statement = Statement::Assignment {
+        target,
+        equals,
+        value,
+        end: semicolon,
+    };
+    Ok((statement, rest))
 }
 
 // An argument list and the end of a call, behind what is called.
@@ -86,8 +81,9 @@ fn ended_call(
     ensures exact { (m : ℕ) → length tokens.now < m → Gives end (λ x. (statement_tree x.0, x.1.now)) result (to (λ x. tree.Call callee x.0.0 x.0.1.0 x.0.1.1 x.1) (seq (expression_grammar.argument_list m levels) (mark_rule (codes ";"))) tokens.now) }
     ensures shorter { IfOk result (λ r. length r.1.now < length tokens.now) }
 {
-    let (arguments, rest) = argument_list(alloc, tokens, end, levels)?;
-    let (semicolon, rest) = mark(rest, end, ";")?;
+    let rule = Then(ArgumentsRule { levels }, Mark(";"));
+    let (parts, rest) = rule.read(alloc, tokens, end)?;
+    let (arguments, semicolon) = parts;
     Ok((trees::call_statement(callee, arguments, semicolon), rest))
 }
 
@@ -105,15 +101,13 @@ pub fn leave(alloc: Global, tokens: &[Token], end: Place) -> Parsed<'_, Statemen
     ensures exact { Gives end (λ x. (statement_tree x.0, x.1.now)) result (to (λ x. tree.Leave x.0 x.1) (grammar.plain_rule (codes "leave")) tokens.now) }
     ensures shorter { IfOk result (λ r. length r.1.now < length tokens.now) }
 {
-    let (keyword, rest) = word(alloc, tokens, end, "leave")?;
-    let (semicolon, rest) = mark(rest, end, ";")?;
-    Ok((
-        Statement::Leave {
-            keyword,
-            end: semicolon,
-        },
-        rest,
-    ))
+    let (parts, rest) = Then(Word("leave"), Mark(";")).read(alloc, tokens, end)?;
+    let (keyword, semicolon) = parts;
+    let statement = Statement::Leave {
+        keyword,
+        end: semicolon,
+    };
+    Ok((statement, rest))
 }
 
 /// `"continue" ";"`
@@ -121,15 +115,13 @@ pub fn continued(alloc: Global, tokens: &[Token], end: Place) -> Parsed<'_, Stat
     ensures exact { Gives end (λ x. (statement_tree x.0, x.1.now)) result (to (λ x. tree.Continue x.0 x.1) (grammar.plain_rule (codes "continue")) tokens.now) }
     ensures shorter { IfOk result (λ r. length r.1.now < length tokens.now) }
 {
-    let (keyword, rest) = word(alloc, tokens, end, "continue")?;
-    let (semicolon, rest) = mark(rest, end, ";")?;
-    Ok((
-        Statement::Continue {
-            keyword,
-            end: semicolon,
-        },
-        rest,
-    ))
+    let (parts, rest) = Then(Word("continue"), Mark(";")).read(alloc, tokens, end)?;
+    let (keyword, semicolon) = parts;
+    let statement = Statement::Continue {
+        keyword,
+        end: semicolon,
+    };
+    Ok((statement, rest))
 }
 
 /// `"return" [expr] ";"`
@@ -137,34 +129,16 @@ pub fn returned(alloc: Global, tokens: &[Token], end: Place, levels: u64) -> Par
     ensures exact { (m : ℕ) → length tokens.now < m → Gives end (λ x. (statement_tree x.0, x.1.now)) result (to (λ x. tree.Return x.0 x.1.0 x.1.1) (seq (word_rule (codes "return")) (seq (optional expression_grammar.begins_expression (expression_grammar.expression m levels)) (mark_rule (codes ";")))) tokens.now) }
     ensures shorter { IfOk result (λ r. length r.1.now < length tokens.now) }
 {
-    let (keyword, rest) = word(alloc, tokens, end, "return")?;
-    let (value, rest) = optional_value(alloc, rest, end, levels)?;
-    let (semicolon, rest) = mark(rest, end, ";")?;
-    Ok((
-        Statement::Return {
-            keyword,
-            value,
-            end: semicolon,
-        },
-        rest,
-    ))
-}
-
-// An expression where one begins, or else none.
-fn optional_value(
-    alloc: Global,
-    tokens: &[Token],
-    end: Place,
-    levels: u64,
-) -> Parsed<'_, Option<Expression>>
-    ensures exact { (m : ℕ) → length tokens.now < m → Gives end (λ x. (option_map expression_tree x.0, x.1.now)) result (optional expression_grammar.begins_expression (expression_grammar.expression m levels) tokens.now) }
-    ensures shorter { IfOk result (λ r. length r.1.now ≤ length tokens.now) }
-{
-    if begins_expression(tokens) {
-        let (value, rest) = expression(alloc, tokens, end, levels)?;
-        return Ok((Some(value), rest));
-    }
-    Ok((None, tokens))
+    let value = ExpressionRule { levels };
+    let behind = OptionalThen(TokenClass::Expression, value, Mark(";"));
+    let (parts, rest) = Then(Word("return"), behind).read(alloc, tokens, end)?;
+    let (keyword, (value, semicolon)) = parts;
+    let statement = Statement::Return {
+        keyword,
+        value,
+        end: semicolon,
+    };
+    Ok((statement, rest))
 }
 
 /// `"output" { table } ";"`
@@ -172,31 +146,15 @@ pub fn output(alloc: Global, tokens: &[Token], end: Place) -> Parsed<'_, Stateme
     ensures exact { (m : ℕ) → length tokens.now < m → Gives end (λ x. (statement_tree x.0, x.1.now)) result (to (λ x. tree.Output x.0 x.1.0 x.1.1) (seq (word_rule (codes "output")) (seq (many_of m is_table (kept is_table)) (mark_rule (codes ";")))) tokens.now) }
     ensures shorter { IfOk result (λ r. length r.1.now < length tokens.now) }
 {
-    let (keyword, rest) = word(alloc, tokens, end, "output")?;
-    let (tables, rest) = tables(alloc, rest, end)?;
-    let (semicolon, rest) = mark(rest, end, ";")?;
-    Ok((
-        Statement::Output {
-            keyword,
-            tables,
-            end: semicolon,
-        },
-        rest,
-    ))
-}
-
-// The tables at the front.
-fn tables(alloc: Global, tokens: &[Token], end: Place) -> Parsed<'_, List<Token>>
-    ensures exact { (m : ℕ) → length tokens.now < m → Gives end (λ x. (x.0, x.1.now)) result (many_of m is_table (kept is_table) tokens.now) }
-    ensures shorter { IfOk result (λ r. length r.1.now ≤ length tokens.now) }
-{
-    let mut found: List<Token> = List::new(alloc);
-    let mut rest = tokens;
-    while let Some((table, after)) = table_at(rest) {
-        found.push(table.copy(alloc)?)?;
-        rest = after;
-    }
-    Ok((found, rest))
+    let tables = ItemsThen(TokenClass::Table, TokenClass::Table, Mark(";"));
+    let (parts, rest) = Then(Word("output"), tables).read(alloc, tokens, end)?;
+    let (keyword, (tables, semicolon)) = parts;
+    let statement = Statement::Output {
+        keyword,
+        tables,
+        end: semicolon,
+    };
+    Ok((statement, rest))
 }
 
 /// `"put" { item } ";"`
@@ -204,44 +162,15 @@ pub fn put(alloc: Global, tokens: &[Token], end: Place) -> Parsed<'_, Statement>
     ensures exact { (m : ℕ) → length tokens.now < m → Gives end (λ x. (statement_tree x.0, x.1.now)) result (to (λ x. tree.Put x.0 x.1.0 x.1.1) (seq (word_rule (codes "put")) (seq (many_of m grammar.begins_item grammar.item_rule) (mark_rule (codes ";")))) tokens.now) }
     ensures shorter { IfOk result (λ r. length r.1.now < length tokens.now) }
 {
-    let (keyword, rest) = word(alloc, tokens, end, "put")?;
-    let (items, rest) = items(alloc, rest, end)?;
-    let (semicolon, rest) = mark(rest, end, ";")?;
-    Ok((
-        Statement::Put {
-            keyword,
-            items,
-            end: semicolon,
-        },
-        rest,
-    ))
-}
-
-// The items at the front.
-fn items(alloc: Global, tokens: &[Token], end: Place) -> Parsed<'_, List<PutItem>>
-    ensures exact { (m : ℕ) → length tokens.now < m → Gives end (λ x. (x.0, x.1.now)) result (many_of m grammar.begins_item grammar.item_rule tokens.now) }
-    ensures shorter { IfOk result (λ r. length r.1.now ≤ length tokens.now) }
-{
-    let mut found: List<PutItem> = List::new(alloc);
-    let mut rest = tokens;
-    while begins_item(rest) {
-        let (next, after) = item(alloc, rest, end)?;
-        found.push(next)?;
-        rest = after;
-    }
-    Ok((found, rest))
-}
-
-// An item of `put`.
-fn item(alloc: Global, tokens: &[Token], end: Place) -> Parsed<'_, PutItem>
-    ensures exact { Gives end (λ x. (x.0, x.1.now)) result (grammar.item_rule tokens.now) }
-    ensures shorter { IfOk result (λ r. length r.1.now < length tokens.now) }
-{
-    if let Some((text, rest)) = text_at(tokens) {
-        return Ok((PutItem::Text(text.copy(alloc)?), rest));
-    }
-    let (name, rest) = name(alloc, tokens, end)?;
-    named_item(alloc, name, rest, end)
+    let items = ItemsThen(TokenClass::PutItem, ItemRule, Mark(";"));
+    let (parts, rest) = Then(Word("put"), items).read(alloc, tokens, end)?;
+    let (keyword, (items, semicolon)) = parts;
+    let statement = Statement::Put {
+        keyword,
+        items,
+        end: semicolon,
+    };
+    Ok((statement, rest))
 }
 
 // What stands behind the name of an item, which was read.
@@ -271,5 +200,23 @@ fn named_item(alloc: Global, name: Token, tokens: &[Token], end: Place) -> Parse
             ))
         }
         None => Ok((PutItem::Variable { name, equals: None }, tokens)),
+    }
+}
+
+/// An item of `put`.
+#[derive(Clone, Copy)]
+pub struct ItemRule;
+
+impl Rule for ItemRule {
+    type Tree = PutItem;
+
+    ghost grammar = { λ s m. grammar.item_rule };
+
+    fn read<'t>(&self, alloc: Global, tokens: &'t [Token], end: Place) -> Parsed<'t, PutItem> {
+        if let Some((text, rest)) = text_at(tokens) {
+            return Ok((PutItem::Text(text.copy(alloc)?), rest));
+        }
+        let (name, rest) = name(alloc, tokens, end)?;
+        named_item(alloc, name, rest, end)
     }
 }

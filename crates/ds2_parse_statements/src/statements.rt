@@ -8,6 +8,7 @@ ghost use Rattle.ds2_parse_rules.specs.GrammarTokens.{starts};
 ghost use Rattle.ds2_parse_rules.specs.ExpressionGrammar as expression_grammar;
 ghost use Rattle.ds2_parse_statements.specs.StatementSymbols.{statement_symbol};
 ghost use Rattle.ds2_parse_rules.specs.StatementGrammar as grammar;
+ghost use Rattle.ds2_parse_rules.specs.TreeViews.{seen_through};
 ghost use Rattle.ds2_parse_statements.specs.StatementParts.{within_rule, arm_rule, else_rule, otherwise_rule, selection_body_rule, arm_parts, last_parts, later_statement, selection_of, listed_body, selection_body_tree, do_of};
 
 use crate::controls::{control, selector};
@@ -18,6 +19,7 @@ use ds2_base::{List, Place};
 use ds2_parse_rules::front::{
     Parsed, at_word, begins_statement, mark, mark_at, name_at, too_deep, unexpected, word,
 };
+use ds2_parse_rules::rules::Rule;
 use ds2_token::Token;
 use ds2_tree::{ElseIf, Otherwise, Statement, When};
 use std::alloc::Global;
@@ -315,4 +317,22 @@ fn otherwise(
         return Ok((Some(trees::otherwise(alloc, keyword, statement)?), rest));
     }
     Ok((None, tokens))
+}
+
+/// A statement that opens at most these levels.
+#[derive(Clone, Copy)]
+pub struct StatementRule {
+    pub levels: u64,
+}
+
+impl Rule for StatementRule {
+    type Tree = Statement;
+
+    ghost view = { seen_through statement_tree };
+
+    ghost grammar = { λ s m. grammar.statement_rule m s.levels };
+
+    fn read<'t>(&self, alloc: Global, tokens: &'t [Token], end: Place) -> Parsed<'t, Statement> {
+        statement(alloc, tokens, end, self.levels)
+    }
 }

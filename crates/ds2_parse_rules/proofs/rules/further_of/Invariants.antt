@@ -6,7 +6,7 @@ use Rattle.ds2_parse_rules.proofs.rules.further_of.Given as goal
 abbrev pub invariant-loop-alloc : goal.invariant-loop-alloc
 invariant-loop-alloc g l = record {
   same : (m : ℕ) → length l.tokens < m → (j : ℕ) × (length l.rest < j)
-      × (to (λ rs. l.fn.found ++ rs) (many_of m (g.F.Front.test l.begins) (g.R.Rule.grammar l.item m)) l.tokens ≡ to (λ rs. l.found ++ rs) (many_of j (g.F.Front.test l.begins) (g.R.Rule.grammar l.item m)) l.rest);
+      × (to (λ rs. g.R.Rule.view.all l.fn.found ++ rs) (many_of m (g.F.Front.test l.begins) (g.R.Rule.grammar l.item m)) l.tokens ≡ to (λ rs. g.R.Rule.view.all l.found ++ rs) (many_of j (g.F.Front.test l.begins) (g.R.Rule.grammar l.item m)) l.rest);
   shorter : length l.rest ≤ length l.tokens;
 }
 

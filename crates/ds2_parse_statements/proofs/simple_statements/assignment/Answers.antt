@@ -1,29 +1,17 @@
-use Rattle.std.proofs.Common.{codes, arith}
-use Rattle.ds2_tree.specs.Parsers.{to, seq}
+use Rattle.std.proofs.Common.{codes}
+use Rattle.ds2_tree.specs.Parsers.{seq}
 use Rattle.ds2_tree.specs.Statements.{Assignment}
 use Rattle.ds2_tree.specs.ExpressionViews.{expression_tree}
 use Rattle.ds2_tree.specs.StatementViews.{statement_tree}
 use Rattle.ds2_parse_rules.specs.GrammarTokens.{mark_rule}
 use Rattle.ds2_parse_rules.specs.ExpressionGrammar.{expression}
-use Rattle.ds2_parse_rules.proofs.RuleSteps.{exit}
-use Rattle.ds2_parse_statements.proofs.SimpleSteps.{middle_stops, third_stops, three_read}
+use Rattle.ds2_parse_rules.proofs.RuleSteps.{read_whole, read_stops}
 use Rattle.ds2_parse_statements.proofs.simple_statements.assignment.Goals as goal
 
-pub returns-in_err-value-clause-exact : goal.returns-in_err-value-clause-exact
-returns-in_err-value-clause-exact c m lt =
-    let end = c.args.end in let n = c.args.levels in let ts = c.args.tokens.now in
-    let e = c.in_err-value.field-0.0 in
-    exit end (λ x. (statement_tree x.0, x.1.now)) c.from_residual-in_err-value.result e (to (λ x. Assignment c.args.target x.0 x.1.0 x.1.1) (seq (mark_rule (codes "=")) (seq (expression m n) (mark_rule (codes ";")))) ts) c.from_residual-in_err-value.ensures.1
-    (middle_stops (λ x. Assignment c.args.target x.0 x.1.0 x.1.1) (mark_rule (codes "=")) (expression m n) (mark_rule (codes ";")) ts c.in_ok-equals.equals c.in_ok-equals.rest.now c.in_ok-equals.ensures.exact end e (c.in_err-value.ensures.exact m (omega (arith, lt, c.in_ok-equals.ensures.shorter))))
-
-pub returns-in_err-semicolon-clause-exact : goal.returns-in_err-semicolon-clause-exact
-returns-in_err-semicolon-clause-exact c m lt =
-    let end = c.args.end in let n = c.args.levels in let ts = c.args.tokens.now in
-    let e = c.in_err-semicolon.field-0.0 in
-    exit end (λ x. (statement_tree x.0, x.1.now)) c.from_residual-in_err-semicolon.result e (to (λ x. Assignment c.args.target x.0 x.1.0 x.1.1) (seq (mark_rule (codes "=")) (seq (expression m n) (mark_rule (codes ";")))) ts) c.from_residual-in_err-semicolon.ensures.1
-    (third_stops (λ x. Assignment c.args.target x.0 x.1.0 x.1.1) (mark_rule (codes "=")) (expression m n) (mark_rule (codes ";")) ts c.in_ok-equals.equals c.in_ok-equals.rest.now c.in_ok-equals.ensures.exact (expression_tree c.in_ok-value.value) c.in_ok-value.rest.now (c.in_ok-value.ensures.exact m (omega (arith, lt, c.in_ok-equals.ensures.shorter))) end e c.in_err-semicolon.ensures.exact)
+pub returns-in_err-parts-clause-exact : goal.returns-in_err-parts-clause-exact
+returns-in_err-parts-clause-exact c m lt =
+    read_stops c.args.end (λ x. (statement_tree x.0, x.1.now)) c.from_residual.result c.in_err-parts.field-0.0 (λ x. Assignment c.args.target x.0 x.1.0 x.1.1) (seq (mark_rule (codes "=")) (seq (expression m c.args.levels) (mark_rule (codes ";")))) c.args.tokens.now c.from_residual.ensures.1 (c.in_err-parts.ensures.exact m lt)
 
 pub returns-clause-exact : goal.returns-clause-exact
 returns-clause-exact c m lt =
-    let end = c.args.end in let n = c.args.levels in let ts = c.args.tokens.now in
-    three_read (λ x. Assignment c.args.target x.0 x.1.0 x.1.1) (mark_rule (codes "=")) (expression m n) (mark_rule (codes ";")) ts c.in_ok-equals.equals c.in_ok-equals.rest.now c.in_ok-equals.ensures.exact (expression_tree c.in_ok-value.value) c.in_ok-value.rest.now (c.in_ok-value.ensures.exact m (omega (arith, lt, c.in_ok-equals.ensures.shorter))) c.in_ok-semicolon.semicolon c.in_ok-semicolon.rest.now c.in_ok-semicolon.ensures.exact
+    read_whole (λ x. Assignment c.args.target x.0 x.1.0 x.1.1) (seq (mark_rule (codes "=")) (seq (expression m c.args.levels) (mark_rule (codes ";")))) c.args.tokens.now (c.in_ok-parts.parts.0, (expression_tree c.in_ok-parts.parts.1.0, c.in_ok-parts.parts.1.1)) c.in_ok-parts.rest.now (c.in_ok-parts.ensures.exact m lt)
