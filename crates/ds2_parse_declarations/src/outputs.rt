@@ -2,11 +2,9 @@
 ghost use Rattle.std.specs.Prelude.{ℕ, ◌<◌, length, IfOk};
 ghost use Rattle.ds2_tree.specs.Parsers.{One, Two, to};
 ghost use Rattle.ds2_tree.specs.Promise.{Gives};
-ghost use Rattle.ds2_token.specs.Words.{is_table};
-ghost use Rattle.ds2_parse_rules.specs.GrammarTokens.{one_or_more};
 ghost use Rattle.ds2_parse_rules.specs.UnitGrammar as grammar;
 
-use ds2_base::{List, Place};
+use ds2_base::Place;
 use ds2_parse_rules::front::Parsed;
 use ds2_parse_rules::front_words::{TokenClass, at, starts_with};
 use ds2_parse_rules::rules::{ItemsThen, Mark, Rule, SomeOf, Then, ThenOptional, Word};
@@ -151,12 +149,4 @@ impl Rule for OutputRule {
         let (table, options) = parts;
         Ok((OutputTable { table, options }, rest))
     }
-}
-
-/// output { output }
-pub fn outputs(alloc: Global, tokens: &[Token], end: Place) -> Parsed<'_, List<OutputTable>>
-    ensures exact { (m : ℕ) → length tokens.now < m → Gives end (λ x. (x.0, x.1.now)) result (one_or_more m is_table (grammar.output_rule m) tokens.now) }
-    ensures shorter { IfOk result (λ r. length r.1.now < length tokens.now) }
-{
-    SomeOf(TokenClass::Table, OutputRule).read(alloc, tokens, end)
 }

@@ -1,8 +1,8 @@
 //! The parser of parameters and of a method's result.
-ghost use Rattle.std.specs.Prelude.{ℕ, ◌<◌, ◌≤◌, codes, length, IfOk};
-ghost use Rattle.ds2_tree.specs.Parsers.{to, optional};
+ghost use Rattle.std.specs.Prelude.{ℕ, ◌<◌, ◌≤◌, length, IfOk};
+ghost use Rattle.ds2_tree.specs.Parsers.{to};
 ghost use Rattle.ds2_tree.specs.Promise.{Gives};
-ghost use Rattle.ds2_parse_rules.specs.GrammarTokens.{is_open_mark, starts, comma_list};
+ghost use Rattle.ds2_parse_rules.specs.GrammarTokens.{comma_list};
 ghost use Rattle.ds2_parse_rules.specs.GlobalGrammar as grammar;
 ghost use Rattle.ds2_parse_declarations.specs.UnitParts.{behind_comma};
 
@@ -10,7 +10,7 @@ use crate::types::TypeRule;
 use ds2_base::{List, Place};
 use ds2_parse_rules::front::{Parsed, mark};
 use ds2_parse_rules::front_words::{TokenClass, at};
-use ds2_parse_rules::rules::{Mark, OptionalThen, Rule, Then, Word, further_of, optional_of};
+use ds2_parse_rules::rules::{Mark, OptionalThen, Rule, Then, Word, further_of};
 use ds2_token::Token;
 use ds2_tree::{Parameter, Parameters, Returns};
 use std::alloc::Global;
@@ -71,22 +71,6 @@ fn parameter_list(alloc: Global, tokens: &[Token], end: Place) -> Parsed<'_, Lis
 }
 
 /// "(" [ param { "," param } ] ")"
-pub fn parameters(alloc: Global, tokens: &[Token], end: Place) -> Parsed<'_, Parameters>
-    ensures exact { (m : ℕ) → length tokens.now < m → Gives end (λ x. (x.0, x.1.now)) result (grammar.parameters_rule m tokens.now) }
-    ensures shorter { IfOk result (λ r. length r.1.now < length tokens.now) }
-{
-    let (opening, rest) = mark(tokens, end, "(")?;
-    let (list, rest) = parameter_list(alloc, rest, end)?;
-    let (closing, rest) = mark(rest, end, ")")?;
-    let parameters = Parameters {
-        opening,
-        list,
-        closing,
-    };
-    Ok((parameters, rest))
-}
-
-/// Parameters between parentheses.
 #[derive(Clone, Copy)]
 pub struct ParametersRule;
 
@@ -96,20 +80,16 @@ impl Rule for ParametersRule {
     ghost grammar = { λ s. grammar.parameters_rule };
 
     fn read<'t>(&self, alloc: Global, tokens: &'t [Token], end: Place) -> Parsed<'t, Parameters> {
-        parameters(alloc, tokens, end)
+        let (opening, rest) = mark(tokens, end, "(")?;
+        let (list, rest) = parameter_list(alloc, rest, end)?;
+        let (closing, rest) = mark(rest, end, ")")?;
+        let parameters = Parameters {
+            opening,
+            list,
+            closing,
+        };
+        Ok((parameters, rest))
     }
-}
-
-/// Parameters, where a parenthesis is at the front.
-pub fn optional_parameters(
-    alloc: Global,
-    tokens: &[Token],
-    end: Place,
-) -> Parsed<'_, Option<Parameters>>
-    ensures exact { (m : ℕ) → length tokens.now < m → Gives end (λ x. (x.0, x.1.now)) result (optional is_open_mark (grammar.parameters_rule m) tokens.now) }
-    ensures shorter { IfOk result (λ r. length r.1.now ≤ length tokens.now) }
-{
-    optional_of(alloc, &Mark("("), &ParametersRule, tokens, end)
 }
 
 /// "returns" type
@@ -127,12 +107,4 @@ impl Rule for ReturnsRule {
         let (keyword, ty) = parts;
         Ok((Returns { keyword, ty }, rest))
     }
-}
-
-/// The type of a result, where `returns` is at the front.
-pub fn optional_returns(alloc: Global, tokens: &[Token], end: Place) -> Parsed<'_, Option<Returns>>
-    ensures exact { Gives end (λ x. (x.0, x.1.now)) result (optional (starts (codes "returns")) grammar.returns_rule tokens.now) }
-    ensures shorter { IfOk result (λ r. length r.1.now ≤ length tokens.now) }
-{
-    optional_of(alloc, &Word("returns"), &ReturnsRule, tokens, end)
 }

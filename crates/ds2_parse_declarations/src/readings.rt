@@ -1,15 +1,13 @@
 //! The parser of reading statements.
-ghost use Rattle.std.specs.Prelude.{ℕ, ◌<◌, ◌≤◌, length, IfOk};
-ghost use Rattle.ds2_tree.specs.Parsers.{One, Two, to, optional};
+ghost use Rattle.std.specs.Prelude.{ℕ, ◌<◌, length, IfOk};
+ghost use Rattle.ds2_tree.specs.Parsers.{One, Two, to};
 ghost use Rattle.ds2_tree.specs.Promise.{Gives};
 ghost use Rattle.ds2_parse_rules.specs.ReadingGrammar as grammar;
 
 use ds2_base::Place;
 use ds2_parse_rules::front::{Parsed, word};
 use ds2_parse_rules::front_words::{TokenClass, starts_with};
-use ds2_parse_rules::rules::{
-    Mark, OptionalThen, Rule, SomeOf, Then, ThenOptional, Word, optional_of,
-};
+use ds2_parse_rules::rules::{Mark, OptionalThen, Rule, SomeOf, Then, ThenOptional, Word};
 use ds2_token::Token;
 use ds2_tree::{By, ByVariable, Input, InputFlag, MergeRetain, Reading, Threads};
 use std::alloc::Global;
@@ -226,12 +224,4 @@ impl Rule for ReadingRule {
         }
         merge(alloc, tokens, end)
     }
-}
-
-/// A reading statement, where one begins with the token at the front.
-pub fn optional_reading(alloc: Global, tokens: &[Token], end: Place) -> Parsed<'_, Option<Reading>>
-    ensures exact { (m : ℕ) → length tokens.now < m → Gives end (λ x. (x.0, x.1.now)) result (optional grammar.begins_reading (grammar.reading_rule m) tokens.now) }
-    ensures shorter { IfOk result (λ r. length r.1.now ≤ length tokens.now) }
-{
-    optional_of(alloc, &TokenClass::Reading, &ReadingRule, tokens, end)
 }

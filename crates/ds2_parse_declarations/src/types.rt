@@ -1,14 +1,13 @@
-//! The parser of types, of lists of names, and of declarations of variables.
-ghost use Rattle.std.specs.Prelude.{ℕ, ◌<◌, ◌≤◌, length, IfOk};
-ghost use Rattle.ds2_tree.specs.Parsers.{One, Two, to, many_of};
+//! The parser of types and of declarations of variables.
+ghost use Rattle.std.specs.Prelude.{ℕ, ◌<◌, length, IfOk};
+ghost use Rattle.ds2_tree.specs.Parsers.{One, Two, to};
 ghost use Rattle.ds2_tree.specs.Promise.{Gives};
-ghost use Rattle.ds2_tree.specs.Globals.{is_dcl};
 ghost use Rattle.ds2_parse_rules.specs.GlobalGrammar as grammar;
 
-use ds2_base::{List, Place};
+use ds2_base::Place;
 use ds2_parse_rules::front::{Parsed, word};
 use ds2_parse_rules::front_words::{TokenClass, at, starts_with, token};
-use ds2_parse_rules::rules::{Mark, OptionalThen, Rule, SomeOf, Then, items_of};
+use ds2_parse_rules::rules::{Mark, OptionalThen, Rule, SomeOf, Then};
 use ds2_token::Token;
 use ds2_tree::{Scale, TypeName, VariableDeclaration};
 use std::alloc::Global;
@@ -93,14 +92,6 @@ impl Rule for TypeRule {
     }
 }
 
-/// name { name }
-pub fn names(alloc: Global, tokens: &[Token], end: Place) -> Parsed<'_, List<Token>>
-    ensures exact { (m : ℕ) → length tokens.now < m → Gives end (λ x. (x.0, x.1.now)) result (grammar.names_rule m tokens.now) }
-    ensures shorter { IfOk result (λ r. length r.1.now < length tokens.now) }
-{
-    SomeOf(TokenClass::Name, TokenClass::Name).read(alloc, tokens, end)
-}
-
 /// Behind `dcl`: type name { name } ";"
 pub fn declared_variables(
     alloc: Global,
@@ -144,12 +135,4 @@ impl Rule for VariablesRule {
         let (keyword, rest) = token(alloc, tokens, end, TokenClass::Declare)?;
         declared_variables(alloc, keyword, rest, end)
     }
-}
-
-/// The declarations of a method.
-pub fn locals(alloc: Global, tokens: &[Token], end: Place) -> Parsed<'_, List<VariableDeclaration>>
-    ensures exact { (m : ℕ) → length tokens.now < m → Gives end (λ x. (x.0, x.1.now)) result (many_of m is_dcl (grammar.variables_rule m) tokens.now) }
-    ensures shorter { IfOk result (λ r. length r.1.now ≤ length tokens.now) }
-{
-    items_of(alloc, &TokenClass::Declare, &VariablesRule, tokens, end)
 }

@@ -8,4 +8,3 @@ pub mod SteadyUnitLaws
 pub mod SourceLaws
 pub mod SymbolPromises
 pub mod MethodSteps
-pub mod PackageSteps

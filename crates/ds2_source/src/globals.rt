@@ -1,23 +1,25 @@
 //! The parser of what a unit is made of: declarations, lists of variables, and methods.
-ghost use Rattle.std.specs.Prelude.{ℕ, ◌<◌, ◌≤◌, length, IfOk, map};
-ghost use Rattle.ds2_tree.specs.Parsers.{One, Two, to, many_of};
+ghost use Rattle.std.specs.Prelude.{ℕ, ◌<◌, length, IfOk};
+ghost use Rattle.ds2_tree.specs.Parsers.{One, Two, to};
 ghost use Rattle.ds2_tree.specs.Promise.{Gives, Promises};
 ghost use Rattle.ds2_tree.specs.UnitViews.{method_tree, global_tree};
 ghost use Rattle.ds2_parse_rules.specs.StatementGrammar.{statement_rule};
 ghost use Rattle.ds2_parse_rules.specs.GlobalGrammar as grammar;
+ghost use Rattle.ds2_parse_rules.specs.TreeViews.{seen_through};
 ghost use Rattle.ds2_source.specs.ParseAnswer.{global_symbol};
-ghost use Rattle.ds2_source.specs.MethodBodies.{method_body_parts, method_tail_rule, method_tail_parts};
+ghost use Rattle.ds2_source.specs.MethodBodies.{method_body_parts};
 
 use ds2_base::{List, Place};
 use ds2_parse_declarations::declarations::declaration;
-use ds2_parse_declarations::parameters::{optional_returns, parameters};
-use ds2_parse_declarations::readings::optional_reading;
-use ds2_parse_declarations::types::{locals, names};
-use ds2_parse_rules::front::{Parsed, mark, word};
-use ds2_parse_rules::front_words::{TokenClass, at, token};
-use ds2_parse_statements::statements::statements;
+use ds2_parse_declarations::parameters::{ParametersRule, ReturnsRule};
+use ds2_parse_declarations::readings::ReadingRule;
+use ds2_parse_declarations::types::VariablesRule;
+use ds2_parse_rules::front::Parsed;
+use ds2_parse_rules::front_words::{TokenClass, at};
+use ds2_parse_rules::rules::{ItemsThen, Mark, OptionalThen, Rule, SomeOf, Then, Word};
+use ds2_parse_statements::statements::StatementRule;
 use ds2_token::Token;
-use ds2_tree::{GlobalItem, Method, Parameters, Reading, Returns, Statement, VariableDeclaration};
+use ds2_tree::{GlobalItem, Method, Reading, Statement, VariableDeclaration};
 use std::alloc::Global;
 
 /// What stands behind the `;` of a method's first line.
@@ -30,72 +32,61 @@ pub struct MethodBody {
     pub end: Place,
 }
 
-// { variables } [ reading ] { stmt } "end" ";"
-fn method_body(alloc: Global, tokens: &[Token], end: Place, levels: u64) -> Parsed<'_, MethodBody>
-    ensures exact { (m : ℕ) → length tokens.now < m → Gives end (λ x. (method_body_parts x.0, x.1.now)) result (grammar.body_rule m (statement_rule m levels) tokens.now) }
-    ensures shorter { IfOk result (λ r. length r.1.now < length tokens.now) }
-{
-    let (locals, rest) = locals(alloc, tokens, end)?;
-    let (reading, rest) = optional_reading(alloc, rest, end)?;
-    let (statements, rest) = statements(alloc, rest, end, levels)?;
-    let (end_keyword, rest) = word(alloc, rest, end, "end")?;
-    let (semicolon, rest) = mark(rest, end, ";")?;
-    let body = MethodBody {
-        locals,
-        reading,
-        statements,
-        end_keyword,
-        end: semicolon,
-    };
-    Ok((body, rest))
+/// { variables } [ reading ] { stmt } "end" ";", where each statement opens at most these levels
+#[derive(Clone, Copy)]
+pub struct MethodBodyRule {
+    pub levels: u64,
 }
 
-/// What stands behind a method's name.
-#[derive(Drop)]
-pub struct MethodTail {
-    pub parameters: Parameters,
-    pub returns: Option<Returns>,
-    pub semicolon: Place,
-    pub body: MethodBody,
+impl Rule for MethodBodyRule {
+    type Tree = MethodBody;
+
+    ghost view = { seen_through method_body_parts };
+
+    ghost grammar = { λ s m. grammar.body_rule m (statement_rule m s.levels) };
+
+    fn read<'t>(&self, alloc: Global, tokens: &'t [Token], end: Place) -> Parsed<'t, MethodBody> {
+        let statement = StatementRule {
+            levels: self.levels,
+        };
+        let ending = Then(Word("end"), Mark(";"));
+        let statements = ItemsThen(TokenClass::Statement, statement, ending);
+        let reading = OptionalThen(TokenClass::Reading, ReadingRule, statements);
+        let rule = ItemsThen(TokenClass::Declare, VariablesRule, reading);
+        let (parts, rest) = rule.read(alloc, tokens, end)?;
+        let (locals, (reading, (statements, (end_keyword, semicolon)))) = parts;
+        let body = MethodBody {
+            locals,
+            reading,
+            statements,
+            end_keyword,
+            end: semicolon,
+        };
+        Ok((body, rest))
+    }
 }
 
-// parameters [ "returns" type ] ";", and the body
-fn method_tail(alloc: Global, tokens: &[Token], end: Place, levels: u64) -> Parsed<'_, MethodTail>
-    ensures exact { (m : ℕ) → length tokens.now < m → Gives end (λ x. (method_tail_parts x.0, x.1.now)) result (method_tail_rule m levels tokens.now) }
-    ensures shorter { IfOk result (λ r. length r.1.now < length tokens.now) }
-{
-    let (parameters, rest) = parameters(alloc, tokens, end)?;
-    let (returns, rest) = optional_returns(alloc, rest, end)?;
-    let (semicolon, rest) = mark(rest, end, ";")?;
-    let (body, rest) = method_body(alloc, rest, end, levels)?;
-    let tail = MethodTail {
-        parameters,
-        returns,
-        semicolon,
-        body,
-    };
-    Ok((tail, rest))
-}
-
-// "method" name, and what stands behind it
+// "method" name parameters [ "returns" type ] ";", and the body
 fn method(alloc: Global, tokens: &[Token], end: Place, levels: u64) -> Parsed<'_, Method>
     ensures exact { (m : ℕ) → length tokens.now < m → Gives end (λ x. (method_tree x.0, x.1.now)) result (grammar.method_rule m levels tokens.now) }
     ensures shorter { IfOk result (λ r. length r.1.now < length tokens.now) }
 {
-    let (keyword, rest) = word(alloc, tokens, end, "method")?;
-    let (name, rest) = token(alloc, rest, end, TokenClass::Name)?;
-    let (tail, rest) = method_tail(alloc, rest, end, levels)?;
+    let body = Then(Mark(";"), MethodBodyRule { levels });
+    let behind = OptionalThen(Word("returns"), ReturnsRule, body);
+    let named = Then(TokenClass::Name, Then(ParametersRule, behind));
+    let (parts, rest) = Then(Word("method"), named).read(alloc, tokens, end)?;
+    let (keyword, (name, (parameters, (returns, (semicolon, body))))) = parts;
     let method = Method {
         keyword,
         name,
-        parameters: tail.parameters,
-        returns: tail.returns,
-        semicolon: tail.semicolon,
-        locals: tail.body.locals,
-        reading: tail.body.reading,
-        body: tail.body.statements,
-        end_keyword: tail.body.end_keyword,
-        end: tail.body.end,
+        parameters,
+        returns,
+        semicolon,
+        locals: body.locals,
+        reading: body.reading,
+        body: body.statements,
+        end_keyword: body.end_keyword,
+        end: body.end,
     };
     Ok((method, rest))
 }
@@ -105,9 +96,10 @@ fn listed(alloc: Global, tokens: &[Token], end: Place) -> Parsed<'_, GlobalItem>
     ensures exact { (m : ℕ) → length tokens.now < m → Gives end (λ x. (global_tree x.0, x.1.now)) result (to (λ x. grammar.global_of_kind (Two (One x))) (grammar.listed_rule m) tokens.now) }
     ensures shorter { IfOk result (λ r. length r.1.now < length tokens.now) }
 {
-    let (keyword, rest) = token(alloc, tokens, end, TokenClass::ListKeyword)?;
-    let (names, rest) = names(alloc, rest, end)?;
-    let (semicolon, rest) = mark(rest, end, ";")?;
+    let names = SomeOf(TokenClass::Name, TokenClass::Name);
+    let rule = Then(TokenClass::ListKeyword, Then(names, Mark(";")));
+    let (parts, rest) = rule.read(alloc, tokens, end)?;
+    let (keyword, (names, semicolon)) = parts;
     let global = GlobalItem::Listed {
         keyword,
         names,
@@ -141,22 +133,20 @@ fn any_global(alloc: Global, tokens: &[Token], end: Place, levels: u64) -> Parse
     Ok((GlobalItem::Method(method), rest))
 }
 
-/// { global }
-pub fn globals(
-    alloc: Global,
-    tokens: &[Token],
-    end: Place,
-    levels: u64,
-) -> Parsed<'_, List<GlobalItem>>
-    ensures exact { (m : ℕ) → length tokens.now < m → Gives end (λ x. (map global_tree x.0, x.1.now)) result (many_of m grammar.begins_global (grammar.global_rule m levels) tokens.now) }
-    ensures shorter { IfOk result (λ r. length r.1.now ≤ length tokens.now) }
-{
-    let mut found = List::new(alloc);
-    let mut rest = tokens;
-    while at(rest, TokenClass::GlobalItem) {
-        let (global, after) = global(alloc, rest, end, levels)?;
-        found.push(global)?;
-        rest = after;
+/// A declaration, a list of variables, or a method; each statement opens at most these levels.
+#[derive(Clone, Copy)]
+pub struct GlobalRule {
+    pub levels: u64,
+}
+
+impl Rule for GlobalRule {
+    type Tree = GlobalItem;
+
+    ghost view = { seen_through global_tree };
+
+    ghost grammar = { λ s m. grammar.global_rule m s.levels };
+
+    fn read<'t>(&self, alloc: Global, tokens: &'t [Token], end: Place) -> Parsed<'t, GlobalItem> {
+        global(alloc, tokens, end, self.levels)
     }
-    Ok((found, rest))
 }

@@ -2,18 +2,20 @@
 ghost use Rattle.std.specs.Prelude.{ℕ, ◌<◌, ◌≤◌, codes, length, IfOk, map};
 ghost use Rattle.ds2_tree.specs.Parsers.{One, Two, to, seq};
 ghost use Rattle.ds2_tree.specs.Promise.{Gives, Promises};
-ghost use Rattle.ds2_tree.specs.UnitViews.{global_tree, package_tree, thread_tree, data_tree, part_tree};
+ghost use Rattle.ds2_tree.specs.UnitViews.{package_tree, thread_tree, data_tree, part_tree};
 ghost use Rattle.ds2_parse_rules.specs.GrammarTokens.{mark_rule, word_rule};
 ghost use Rattle.ds2_parse_rules.specs.UnitGrammar as grammar;
+ghost use Rattle.ds2_parse_rules.specs.TreeViews.{seen_through};
 ghost use Rattle.ds2_source.specs.ParseAnswer.{part_symbol};
 ghost use Rattle.ds2_source.specs.UnitBodies.{unit_body_parts};
 
-use crate::globals::globals;
+use crate::globals::GlobalRule;
 use ds2_base::{List, Place};
-use ds2_parse_declarations::outputs::outputs;
-use ds2_parse_declarations::parameters::optional_parameters;
-use ds2_parse_rules::front::{Parsed, mark, word};
-use ds2_parse_rules::front_words::{TokenClass, at, starts_with, token};
+use ds2_parse_declarations::outputs::OutputRule;
+use ds2_parse_declarations::parameters::ParametersRule;
+use ds2_parse_rules::front::Parsed;
+use ds2_parse_rules::front_words::{TokenClass, starts_with};
+use ds2_parse_rules::rules::{ItemsThen, Mark, OptionalThen, Rule, SomeOf, Then, Word, items_of};
 use ds2_token::Token;
 use ds2_tree::{DataProgram, GlobalItem, Package, SourcePart, Thread};
 use std::alloc::Global;
@@ -26,26 +28,35 @@ pub struct UnitBody {
     pub end: Place,
 }
 
-// { global }, the word that ends the unit, and ";"
-fn unit_body<'t>(
-    alloc: Global,
-    tokens: &'t [Token],
-    end: Place,
-    levels: u64,
-    end_word: &str,
-) -> Parsed<'t, UnitBody>
-    ensures exact { (m : ℕ) → length tokens.now < m → Gives end (λ x. (unit_body_parts x.0, x.1.now)) result (grammar.unit_body_rule m levels end_word.now tokens.now) }
-    ensures shorter { IfOk result (λ r. length r.1.now < length tokens.now) }
-{
-    let (globals, rest) = globals(alloc, tokens, end, levels)?;
-    let (end_keyword, rest) = word(alloc, rest, end, end_word)?;
-    let (semicolon, rest) = mark(rest, end, ";")?;
-    let body = UnitBody {
-        globals,
-        end_keyword,
-        end: semicolon,
-    };
-    Ok((body, rest))
+/// { global }, the word that ends the unit, and ";"; each statement opens at most these levels
+#[derive(Clone, Copy)]
+pub struct UnitBodyRule<'s> {
+    pub levels: u64,
+    pub end_word: &'s str,
+}
+
+impl Rule for UnitBodyRule<'_> {
+    type Tree = UnitBody;
+
+    ghost view = { seen_through unit_body_parts };
+
+    ghost grammar = { λ s m. grammar.unit_body_rule m s.levels s.end_word.now };
+
+    fn read<'t>(&self, alloc: Global, tokens: &'t [Token], end: Place) -> Parsed<'t, UnitBody> {
+        let global = GlobalRule {
+            levels: self.levels,
+        };
+        let ending = Then(Word(self.end_word), Mark(";"));
+        let rule = ItemsThen(TokenClass::GlobalItem, global, ending);
+        let (parts, rest) = rule.read(alloc, tokens, end)?;
+        let (globals, (end_keyword, semicolon)) = parts;
+        let body = UnitBody {
+            globals,
+            end_keyword,
+            end: semicolon,
+        };
+        Ok((body, rest))
+    }
 }
 
 // "package" pname ";" { global } "endpackage" ";"
@@ -53,10 +64,13 @@ fn package(alloc: Global, tokens: &[Token], end: Place, levels: u64) -> Parsed<'
     ensures exact { (m : ℕ) → length tokens.now < m → Gives end (λ x. (package_tree x.0, x.1.now)) result (grammar.package_rule m levels tokens.now) }
     ensures shorter { IfOk result (λ r. length r.1.now < length tokens.now) }
 {
-    let (keyword, rest) = word(alloc, tokens, end, "package")?;
-    let (name, rest) = token(alloc, rest, end, TokenClass::PackageName)?;
-    let (semicolon, rest) = mark(rest, end, ";")?;
-    let (body, rest) = unit_body(alloc, rest, end, levels, "endpackage")?;
+    let body = UnitBodyRule {
+        levels,
+        end_word: "endpackage",
+    };
+    let named = Then(TokenClass::PackageName, Then(Mark(";"), body));
+    let (parts, rest) = Then(Word("package"), named).read(alloc, tokens, end)?;
+    let (keyword, (name, (semicolon, body))) = parts;
     let package = Package {
         keyword,
         name,
@@ -74,11 +88,14 @@ fn thread(alloc: Global, tokens: &[Token], end: Place, levels: u64) -> Parsed<'_
     ensures exact { (m : ℕ) → length tokens.now < m → Gives end (λ x. (thread_tree x.0, x.1.now)) result (grammar.thread_rule m levels tokens.now) }
     ensures shorter { IfOk result (λ r. length r.1.now < length tokens.now) }
 {
-    let (keyword, rest) = word(alloc, tokens, end, "thread")?;
-    let (name, rest) = token(alloc, rest, end, TokenClass::Name)?;
-    let (parameters, rest) = optional_parameters(alloc, rest, end)?;
-    let (semicolon, rest) = mark(rest, end, ";")?;
-    let (body, rest) = unit_body(alloc, rest, end, levels, "endthread")?;
+    let body = UnitBodyRule {
+        levels,
+        end_word: "endthread",
+    };
+    let behind = OptionalThen(Mark("("), ParametersRule, Then(Mark(";"), body));
+    let named = Then(TokenClass::Name, behind);
+    let (parts, rest) = Then(Word("thread"), named).read(alloc, tokens, end)?;
+    let (keyword, (name, (parameters, (semicolon, body)))) = parts;
     let thread = Thread {
         keyword,
         name,
@@ -96,10 +113,14 @@ fn data_program(alloc: Global, tokens: &[Token], end: Place, levels: u64) -> Par
     ensures exact { (m : ℕ) → length tokens.now < m → Gives end (λ x. (data_tree x.0, x.1.now)) result (grammar.data_rule m levels tokens.now) }
     ensures shorter { IfOk result (λ r. length r.1.now < length tokens.now) }
 {
-    let (keyword, rest) = word(alloc, tokens, end, "data")?;
-    let (outputs, rest) = outputs(alloc, rest, end)?;
-    let (semicolon, rest) = mark(rest, end, ";")?;
-    let (body, rest) = unit_body(alloc, rest, end, levels, "enddata")?;
+    let body = UnitBodyRule {
+        levels,
+        end_word: "enddata",
+    };
+    let outputs = SomeOf(TokenClass::Table, OutputRule);
+    let behind = Then(outputs, Then(Mark(";"), body));
+    let (parts, rest) = Then(Word("data"), behind).read(alloc, tokens, end)?;
+    let (keyword, (outputs, (semicolon, body))) = parts;
     let program = DataProgram {
         keyword,
         outputs,
@@ -133,9 +154,9 @@ fn proc(alloc: Global, tokens: &[Token], end: Place) -> Parsed<'_, SourcePart>
     ensures exact { Gives end (λ x. (part_tree x.0, x.1.now)) result (to (λ x. grammar.part_of_kind (One x)) (seq (word_rule (codes "proc")) (seq (word_rule (codes "ds2")) (mark_rule (codes ";")))) tokens.now) }
     ensures shorter { IfOk result (λ r. length r.1.now < length tokens.now) }
 {
-    let (keyword, rest) = word(alloc, tokens, end, "proc")?;
-    let (ds2, rest) = word(alloc, rest, end, "ds2")?;
-    let (semicolon, rest) = mark(rest, end, ";")?;
+    let rule = Then(Word("proc"), Then(Word("ds2"), Mark(";")));
+    let (parts, rest) = rule.read(alloc, tokens, end)?;
+    let (keyword, (ds2, semicolon)) = parts;
     let part = SourcePart::Proc {
         keyword,
         ds2,
@@ -149,8 +170,8 @@ fn run(alloc: Global, tokens: &[Token], end: Place) -> Parsed<'_, SourcePart>
     ensures exact { Gives end (λ x. (part_tree x.0, x.1.now)) result (to (λ x. grammar.part_of_kind (Two (One x))) (seq (word_rule (codes "run")) (mark_rule (codes ";"))) tokens.now) }
     ensures shorter { IfOk result (λ r. length r.1.now < length tokens.now) }
 {
-    let (keyword, rest) = word(alloc, tokens, end, "run")?;
-    let (semicolon, rest) = mark(rest, end, ";")?;
+    let (parts, rest) = Then(Word("run"), Mark(";")).read(alloc, tokens, end)?;
+    let (keyword, semicolon) = parts;
     let part = SourcePart::Run {
         keyword,
         end: semicolon,
@@ -163,8 +184,8 @@ fn quit(alloc: Global, tokens: &[Token], end: Place) -> Parsed<'_, SourcePart>
     ensures exact { Gives end (λ x. (part_tree x.0, x.1.now)) result (to (λ x. grammar.part_of_kind (Two (Two (One x)))) (seq (word_rule (codes "quit")) (mark_rule (codes ";"))) tokens.now) }
     ensures shorter { IfOk result (λ r. length r.1.now < length tokens.now) }
 {
-    let (keyword, rest) = word(alloc, tokens, end, "quit")?;
-    let (semicolon, rest) = mark(rest, end, ";")?;
+    let (parts, rest) = Then(Word("quit"), Mark(";")).read(alloc, tokens, end)?;
+    let (keyword, semicolon) = parts;
     let part = SourcePart::Quit {
         keyword,
         end: semicolon,
@@ -198,6 +219,24 @@ fn any_part(alloc: Global, tokens: &[Token], end: Place, levels: u64) -> Parsed<
     unit(alloc, tokens, end, levels)
 }
 
+/// A part of a source; each statement opens at most these levels.
+#[derive(Clone, Copy)]
+pub struct PartRule {
+    pub levels: u64,
+}
+
+impl Rule for PartRule {
+    type Tree = SourcePart;
+
+    ghost view = { seen_through part_tree };
+
+    ghost grammar = { λ s m. grammar.part_rule m s.levels };
+
+    fn read<'t>(&self, alloc: Global, tokens: &'t [Token], end: Place) -> Parsed<'t, SourcePart> {
+        part(alloc, tokens, end, self.levels)
+    }
+}
+
 /// The parts of a source, up to a token that begins none.
 pub fn parts(
     alloc: Global,
@@ -208,12 +247,6 @@ pub fn parts(
     ensures exact { (m : ℕ) → length tokens.now < m → Gives end (λ x. (map part_tree x.0, x.1.now)) result (grammar.parts_rule m levels tokens.now) }
     ensures shorter { IfOk result (λ r. length r.1.now ≤ length tokens.now) }
 {
-    let mut found = List::new(alloc);
-    let mut rest = tokens;
-    while at(rest, TokenClass::SourcePart) {
-        let (part, after) = part(alloc, rest, end, levels)?;
-        found.push(part)?;
-        rest = after;
-    }
-    Ok((found, rest))
+    let part = PartRule { levels };
+    items_of(alloc, &TokenClass::SourcePart, &part, tokens, end)
 }

@@ -1,15 +1,12 @@
-use Rattle.std.proofs.Common.{codes, arith}
-use Rattle.ds2_tree.specs.Parsers.{One, Two, kept, to, seq}
-use Rattle.ds2_tree.specs.Promise.{Fails}
-use Rattle.ds2_tree.specs.Globals.{is_list_keyword}
+use Rattle.ds2_tree.specs.Parsers.{One, Two}
 use Rattle.ds2_tree.specs.UnitViews.{global_tree}
-use Rattle.ds2_parse_rules.specs.GrammarTokens.{mark_rule}
-use Rattle.ds2_parse_rules.specs.GlobalGrammar.{names_rule, global_of_kind}
-use Rattle.ds2_parse_rules.proofs.RuleSteps.{exit, held, on_read, on_stop}
+use Rattle.ds2_parse_rules.specs.GlobalGrammar.{listed_rule, global_of_kind}
+use Rattle.ds2_parse_rules.proofs.RuleSteps.{read_whole, read_stops}
 use Rattle.ds2_source.proofs.globals.listed.Goals as goal
 
-pub returns-in_err-names-clause-exact : goal.returns-in_err-names-clause-exact
-returns-in_err-names-clause-exact c m lt =
-    exit c.args.end (λ x. (global_tree x.0, x.1.now)) c.from_residual-in_err-names.result c.in_err-names.field-0.0 (to (λ x. global_of_kind (Two (One x))) (seq (kept is_list_keyword) (seq (names_rule m) (mark_rule (codes ";")))) c.args.tokens.now) c.from_residual-in_err-names.ensures.1
-    (held (Fails c.args.end c.in_err-names.field-0.0) (λ x. global_of_kind (Two (One x))) (seq (kept is_list_keyword) (seq (names_rule m) (mark_rule (codes ";")))) c.args.tokens.now
-    (on_read (kept is_list_keyword) (seq (names_rule m) (mark_rule (codes ";"))) c.in_ok-keyword.ensures.exact (on_stop (names_rule m) (mark_rule (codes ";")) c.args.end c.in_err-names.field-0.0 (c.in_err-names.ensures.exact m (omega (arith, lt, c.in_ok-keyword.ensures.shorter))))))
+pub returns-in_err-parts-clause-exact : goal.returns-in_err-parts-clause-exact
+returns-in_err-parts-clause-exact c m lt =
+    read_stops c.args.end (λ x. (global_tree x.0, x.1.now)) c.from_residual.result c.in_err-parts.field-0.0 (λ x. global_of_kind (Two (One x))) (listed_rule m) c.args.tokens.now c.from_residual.ensures.1 (c.in_err-parts.ensures.exact m lt)
+
+pub returns-clause-exact : goal.returns-clause-exact
+returns-clause-exact c m lt = read_whole (λ x. global_of_kind (Two (One x))) (listed_rule m) c.args.tokens.now c.in_ok-parts.parts c.in_ok-parts.rest.now (c.in_ok-parts.ensures.exact m lt)

@@ -1,35 +1,4 @@
-use Rattle.std.proofs.Common.{map, sym, ap, ◌∙◌, arith}
-use Rattle.std.proofs.lemmas.List.{map_push}
-use Rattle.ds2_tree.specs.Parsers.{many_of}
-use Rattle.ds2_tree.specs.UnitViews.{part_tree}
-use Rattle.ds2_parse_rules.specs.UnitGrammar.{begins_part, part_rule}
-use Rattle.ds2_parse_rules.proofs.RuleSteps.{exit}
-use Rattle.ds2_parse_rules.proofs.PartSteps.{item_found, item_stops, no_item, nothing_found}
 use Rattle.ds2_source.proofs.units.parts.Goals as goal
 
-pub loop-alloc-init : goal.loop-alloc-init
-loop-alloc-init c =
-    record {
-      same = λ m lt. (m, lt, nothing_found (many_of m begins_part (part_rule m c.args.levels)) c.args.tokens.now (map part_tree c.new-found.result) (ap (map part_tree) c.new-found.ensures));
-      shorter = omega arith;
-    }
-
-pub returns-in_err-part-clause-exact : goal.returns-in_err-part-clause-exact
-returns-in_err-part-clause-exact c m lt =
-    let inv = c.loop-alloc.invariant.same m lt in
-    exit c.args.end (λ x. (map part_tree x.0, x.1.now)) c.from_residual.result c.in_err-part.field-0.0 (many_of m begins_part (part_rule m c.args.levels) c.args.tokens.now) c.from_residual.ensures.1
-    (item_stops begins_part (part_rule m c.args.levels) (many_of m begins_part (part_rule m c.args.levels) c.args.tokens.now) (map part_tree c.loop-alloc.found) c.loop-alloc.rest.now inv.0 inv.2 inv.1 (sym c.at.ensures ∙ c.loop-alloc-test.true) c.args.end c.in_err-part.field-0.0 (c.in_err-part.ensures.exact m (omega (arith, lt, c.loop-alloc.invariant.shorter))))
-
-pub loop-alloc-preserved : goal.loop-alloc-preserved
-loop-alloc-preserved c =
-    record {
-      same = λ m lt.
-          let inv = c.loop-alloc.invariant.same m lt in
-          item_found begins_part (part_rule m c.args.levels) (many_of m begins_part (part_rule m c.args.levels) c.args.tokens.now) (map part_tree c.loop-alloc.found) c.loop-alloc.rest.now inv.0 inv.2 inv.1 (sym c.at.ensures ∙ c.loop-alloc-test.true) (part_tree c.in_ok-part.part) c.in_ok-part.after.now (c.in_ok-part.ensures.exact m (omega (arith, lt, c.loop-alloc.invariant.shorter))) c.in_ok-part.ensures.shorter (map part_tree c.push.new.self) (ap (map part_tree) c.in_ok-push.ensures.ok ∙ map_push part_tree c.loop-alloc.found c.in_ok-part.part);
-      shorter = omega (arith, c.loop-alloc.invariant.shorter, c.in_ok-part.ensures.shorter);
-    }
-
 pub returns-clause-exact : goal.returns-clause-exact
-returns-clause-exact c m lt =
-    let inv = c.loop-alloc.invariant.same m lt in
-    no_item begins_part (part_rule m c.args.levels) (many_of m begins_part (part_rule m c.args.levels) c.args.tokens.now) (map part_tree c.loop-alloc.found) c.loop-alloc.rest.now inv.0 inv.2 inv.1 (sym c.at.ensures ∙ c.loop-alloc-test.false)
+returns-clause-exact c m lt = c.items_of.ensures.exact m lt
