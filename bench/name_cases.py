@@ -25,7 +25,7 @@ ITERATOR_CALLS = ("first", "next", "prev", "last")
 # How many arguments a function takes, at least and at most.
 FUNCTIONS = {
     "abs": (1, 1), "ceil": (1, 1), "coalesce": (1, 16), "floor": (1, 1), "length": (1, 1),
-    "max": (2, 16), "min": (2, 16), "mod": (2, 2), "substr": (2, 3), "trim": (1, 1),
+    "max": (2, 16), "min": (2, 16), "mod": (2, 2), "null": (1, 1), "substr": (2, 3), "trim": (1, 1),
 }
 
 

@@ -3,7 +3,8 @@ use Rattle.std.specs.Prelude.{ℕ, Bool, true, false, is_some, unwrap_or, length
 use Rattle.std.specs.Option.{option_map_or}
 use Rattle.ds2_tree.specs.declared.expressions.Callee.{Callee}
 use Rattle.ds2_tree.specs.declared.expressions.Callee.TheVariants as callee
-use Rattle.ds2_names.specs.NameRules.{function_counts, counts_under, hash_calls, iterator_calls, none_where, parameters_where}
+use Rattle.ds2_names.specs.Functions.{function_counts}
+use Rattle.ds2_names.specs.NameRules.{hash_calls, iterator_calls, none_where, parameters_where}
 use Rattle.ds2_names.specs.SourceUnit.{spelled_name}
 use Rattle.ds2_calls.specs.InstanceSorts.{SortsByName}
 use Rattle.ds2_calls.specs.KnownUnits.{UnitsByName}
@@ -14,7 +15,7 @@ use Rattle.ds2_calls.specs.declared.instances.Sort.TheVariants as sort
 -- the numbers of arguments that what a name calls takes: a method with these parameters, else a function
 abbrev pub counts_by : Option (List Bool) → List ℕ → Option (ℕ × ℕ)
 counts_by (Some flags) name = Some (length flags, length flags)
-counts_by None name = counts_under function_counts name
+counts_by None name = function_counts name
 
 -- as many arguments as parameters, where there is a method
 abbrev pub counts_of_parameters : Option (List Bool) → Option (ℕ × ℕ)

@@ -17,7 +17,7 @@ mod statement_walk;
 mod unit_calls;
 mod use_walk;
 
-pub use functions::{Counts, counts_of, takes_count};
+pub use functions::{counts_of, takes_count};
 pub use instances::{Sort, SortTable, instance_sorts, spelled_text};
 pub use known_calls::KnownCalls;
 pub use methods::{MethodFlags, method_flags, parameters_of};

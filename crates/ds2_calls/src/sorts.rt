@@ -5,11 +5,11 @@ ghost use Rattle.ds2_names.specs.NameRules.{hash_calls, iterator_calls, paramete
 ghost use Rattle.ds2_calls.specs.KnownUnits.{units_in_tables};
 ghost use Rattle.ds2_calls.specs.SortCalls.{parameters_under, counts_of_parameters, is_known_by, is_known_stage, counts_on_sort};
 
-use crate::functions::Counts;
 use crate::instances::Sort;
 use crate::known_calls::KnownCalls;
 use crate::methods::parameters_of;
 use ds2_base::Bytes;
+use ds2_names::Counts;
 
 // Whether hash objects have this method.
 #[tactic(auto, using(crate::proofs::SortLemmas::or_false))]

@@ -1,5 +1,5 @@
 -- Functions of several values, and functions by their names, become typed nodes where their arguments break no rule.
-use Rattle.std.proofs.Common.{◌≡◌, ℕ, suc, ◌≤◌, max, nat_le, bytes_eq, codes, Bool, true, false, not, ◌||◌, List, [], ◌∷◌, ◌++◌, length, map, fold, if◌then◌else◌, refl, sym, ap, ◌∙◌, subst, arith}
+use Rattle.std.proofs.Common.{◌≡◌, ℕ, suc, ◌≤◌, max, nat_le, Bool, true, false, not, ◌||◌, List, [], ◌∷◌, ◌++◌, length, map, fold, if◌then◌else◌, Option, Some, refl, sym, ap, ◌∙◌, subst, arith}
 use Rattle.std.specs.List.{list_all, AllByRecursion}
 use Rattle.std.proofs.lemmas.Bool.{and_parts, and_from, leb-true, le-leb}
 use Rattle.ds2_base.specs.declared.place.Place.{Place}
@@ -11,9 +11,17 @@ use Rattle.ds2_meaning.specs.IsTyped.{NamesInScope, type_scale, type_width, deci
 use Rattle.ds2_meaning.specs.TypedExpression.{TypedExpression, TypedExpressions}
 use Rattle.ds2_meaning.specs.declared.expressions.Function.{Function}
 use Rattle.ds2_meaning.specs.declared.expressions.Function.TheVariants as function
+use Rattle.ds2_names.proofs.FunctionRows.{and_others, of_function_named}
+use Rattle.ds2_names.specs.Functions.{takes_so_many}
+use Rattle.ds2_names.specs.declared.functions.FunctionOfMany.TheVariants as many
+use Rattle.ds2_names.specs.declared.functions.FunctionOfOne.{FunctionOfOne}
+use Rattle.ds2_names.specs.declared.functions.FunctionOfOne.TheVariants as one
+use Rattle.ds2_names.specs.declared.functions.FunctionRow.{FunctionRow}
+use Rattle.ds2_names.specs.declared.functions.NamedFunction.{NamedFunction}
+use Rattle.ds2_names.specs.declared.functions.NamedFunction.TheVariants as named
 use Rattle.ds2_names.specs.NameRules.{from_each}
 use Rattle.ds2_names.specs.SourceUnit.{spelled_name}
-use Rattle.ds2_elaboration.specs.FunctionTypes.{ElaboratedArgument, nodes_in_order, refusals_in, argument_refusals, elaborated_absolute, elaborated_whole, known_types, is_null_argument, common_type, common_node, elaborated_coalesce, elaborated_extreme, elaborated_length, elaborated_trim, elaborated_substring, elaborated_null_test, form_of_one, elaborated_many, form_of_two, elaborated_part, form_of_several, elaborated_function}
+use Rattle.ds2_elaboration.specs.FunctionTypes.{ElaboratedArgument, nodes_in_order, refusals_in, argument_refusals, known_types, is_null_argument, common_type, common_node, elaborated_coalesce, elaborated_extreme, elaborated_substring, elaborated_null_test, form_of_one, form_of_function, form_of_row, elaborated_function, elaborated_null_call}
 use Rattle.ds2_elaboration.specs.TypedForms.{IsOfTyping, IsSoundlyElaborated, IsSoundArgument, IsInType}
 use Rattle.ds2_elaboration.specs.Typings.{TypeRefusals, clash_unless, Typing, Known, NullAt, Unknown, ElaboratedExpression, elaborated_nameless, is_numeric_type, is_characters, is_integer_type, is_assigned_from, where_known, null_clash, operand_clash, assigned_node}
 use Rattle.ds2_elaboration.proofs.Functions.{absolute_typed, floor_typed, ceiling_typed, remainder_typed, length_typed, width_bounds, trim_typed}
@@ -232,12 +240,10 @@ module _ (names : NamesInScope) where
   any_of_typing (NullAt place) node h = subst (IsTypedExpression names) (sym h) (refl, refl)
   any_of_typing Unknown node h = absurd h
 
-  pub null_test_typed : (word : Place) (xs : List ElaboratedArgument) → AllByRecursion (IsSoundArgument names) xs → IsSoundlyElaborated names (elaborated_null_test word xs)
-  null_test_typed word [] f = nameless_typed word
-  null_test_typed word (x ∷ []) f =
+  null_test_typed : (name : Place) (x : ElaboratedArgument) → IsSoundArgument names x → IsSoundlyElaborated names (elaborated_null_test name x)
+  null_test_typed name x f =
       λ h. let p = both_empty x.value.refusals (null_clash x.value.typing) h in
-      (((any_typing x.value.typing x.value.node (f.0 p.0) p.1, tt), refl), refl, refl)
-  null_test_typed word (x ∷ (y ∷ more)) f = nameless_typed word
+      (((any_typing x.value.typing x.value.node (f p.0) p.1, tt), refl), refl, refl)
 
   substring_of_two : (name : Place) (x n : ElaboratedArgument) → IsSoundArgument names x → IsSoundArgument names n
       → IsSoundlyElaborated names (elaborated_substring name x (n ∷ []))
@@ -275,66 +281,65 @@ module _ (names : NamesInScope) where
   either true x y f g = f
   either false x y f g = g
 
-  one_argument : (word : List ℕ) (name : Place) (x : ElaboratedArgument) → IsSoundArgument names x → IsSoundlyElaborated names (form_of_one word name x)
-  one_argument word name x f =
-      let none = elaborated_nameless name in
-      let coalesce = if bytes_eq word (codes "coalesce") then elaborated_coalesce name (x ∷ []) else none in
-      let trim = if bytes_eq word (codes "trim") then elaborated_trim name x else coalesce in
-      let length' = if bytes_eq word (codes "length") then elaborated_length name x else trim in
-      let floor = if bytes_eq word (codes "floor") then elaborated_whole function.Floor name x else length' in
-      let ceil = if bytes_eq word (codes "ceil") then elaborated_whole function.Ceiling name x else floor in
-      either (bytes_eq word (codes "abs")) (elaborated_absolute name x) ceil (absolute_typed names name x f)
-      (either (bytes_eq word (codes "ceil")) (elaborated_whole function.Ceiling name x) floor (ceiling_typed names name x f)
-      (either (bytes_eq word (codes "floor")) (elaborated_whole function.Floor name x) length' (floor_typed names name x f)
-      (either (bytes_eq word (codes "length")) (elaborated_length name x) trim (length_typed names name x f)
-      (either (bytes_eq word (codes "trim")) (elaborated_trim name x) coalesce (trim_typed names name x f)
-      (either (bytes_eq word (codes "coalesce")) (elaborated_coalesce name (x ∷ [])) none
-      (coalesce_typed name (x ∷ []) (omega arith) (omega arith) (f, tt)) (nameless_typed name))))))
+  one_typed : (f : FunctionOfOne) (name : Place) (x : ElaboratedArgument) → IsSoundArgument names x → IsSoundlyElaborated names (form_of_one f name x)
+  one_typed one.Absolute name x h = absolute_typed names name x h
+  one_typed one.Ceiling name x h = ceiling_typed names name x h
+  one_typed one.Floor name x h = floor_typed names name x h
+  one_typed one.Length name x h = length_typed names name x h
+  one_typed one.NullTest name x h = null_test_typed name x h
+  one_typed one.Trim name x h = trim_typed names name x h
 
-  many_if : (b : Bool) (name : Place) (form : ElaboratedExpression) → (b ≡ true → IsSoundlyElaborated names form)
+  of_one_typed : (f : FunctionOfOne) (name : Place) (xs : List ElaboratedArgument) → AllByRecursion (IsSoundArgument names) xs
+      → IsSoundlyElaborated names (form_of_function (named.OfOne f) name xs)
+  of_one_typed f name [] h = nameless_typed name
+  of_one_typed f name (x ∷ []) h = one_typed f name x h.0
+  of_one_typed f name (x ∷ (y ∷ more)) h = nameless_typed name
+
+  pub null_call_typed : (word : Place) (xs : List ElaboratedArgument) → AllByRecursion (IsSoundArgument names) xs → IsSoundlyElaborated names (elaborated_null_call word xs)
+  null_call_typed word xs h = of_one_typed one.NullTest word xs h
+
+  remainder_of : (name : Place) (xs : List ElaboratedArgument) → AllByRecursion (IsSoundArgument names) xs → IsSoundlyElaborated names (form_of_function named.Remainder name xs)
+  remainder_of name [] h = nameless_typed name
+  remainder_of name (x ∷ []) h = nameless_typed name
+  remainder_of name (x ∷ (y ∷ [])) h = remainder_typed names name x y h.0 h.1.0
+  remainder_of name (x ∷ (y ∷ (z ∷ more))) h = nameless_typed name
+
+  substring_of : (name : Place) (xs : List ElaboratedArgument) → 2 ≤ length xs → length xs ≤ 3 → AllByRecursion (IsSoundArgument names) xs
+      → IsSoundlyElaborated names (form_of_function named.Substring name xs)
+  substring_of name [] least most h = nameless_typed name
+  substring_of name (x ∷ []) least most h = absurd (omega (arith, least))
+  substring_of name (x ∷ (y ∷ [])) least most h = substring_of_two name x y h.0 h.1.0
+  substring_of name (x ∷ (y ∷ (z ∷ []))) least most h = substring_of_three name x y z h.0 h.1.0 h.1.1.0
+  substring_of name (x ∷ (y ∷ (z ∷ (w ∷ more)))) least most h = absurd (omega (arith, most))
+
+  taken_if : (b : Bool) (name : Place) (form : ElaboratedExpression) → (b ≡ true → IsSoundlyElaborated names form)
       → IsSoundlyElaborated names (if b then form else elaborated_nameless name)
-  many_if true name form f = f refl
-  many_if false name form f = nameless_typed name
+  taken_if true name form f = f refl
+  taken_if false name form f = nameless_typed name
 
-  many : (name : Place) (xs : List ElaboratedArgument) (form : ElaboratedExpression) → (length xs ≤ 16 → IsSoundlyElaborated names form)
-      → IsSoundlyElaborated names (elaborated_many name xs form)
-  many name xs form f = many_if (nat_le (length xs) 16) name form (λ e. f (leb-true (length xs) 16 e))
-
-  two_arguments : (name : Place) (x y : ElaboratedArgument) (more : List ElaboratedArgument) → IsSoundArgument names x → IsSoundArgument names y
-      → IsSoundlyElaborated names (form_of_two name x y more)
-  two_arguments name x y [] f g = remainder_typed names name x y f g
-  two_arguments name x y (z ∷ more) f g = nameless_typed name
-
-  part : (name : Place) (x y : ElaboratedArgument) (more : List ElaboratedArgument) → AllByRecursion (IsSoundArgument names) (x ∷ (y ∷ more))
-      → IsSoundlyElaborated names (elaborated_part name x y more)
-  part name x y [] f = substring_of_two name x y f.0 f.1.0
-  part name x y (z ∷ []) f = substring_of_three name x y z f.0 f.1.0 f.1.1.0
-  part name x y (z ∷ (w ∷ more)) f = nameless_typed name
-
-  two_at_least : {A : Type 0} (x y : A) (more : List A) → 2 ≤ length (x ∷ (y ∷ more))
-  two_at_least x y more = omega arith
-
-  several_arguments : (word : List ℕ) (name : Place) (x y : ElaboratedArgument) (more : List ElaboratedArgument) → AllByRecursion (IsSoundArgument names) (x ∷ (y ∷ more))
-      → IsSoundlyElaborated names (form_of_several word name x y more)
-  several_arguments word name x y more f =
-      let xs : List ElaboratedArgument = x ∷ (y ∷ more) in
-      let least = two_at_least x y more in
-      let none = elaborated_nameless name in
-      let substr = if bytes_eq word (codes "substr") then elaborated_part name x y more else none in
-      let remainder = if bytes_eq word (codes "mod") then form_of_two name x y more else substr in
-      let coalesce = elaborated_many name xs (elaborated_coalesce name xs) in
-      let minimum = elaborated_many name xs (elaborated_extreme function.Least name xs) in
-      let maximum = elaborated_many name xs (elaborated_extreme function.Greatest name xs) in
-      let from_max = if bytes_eq word (codes "max") then maximum else remainder in
-      let from_min = if bytes_eq word (codes "min") then minimum else from_max in
-      either (bytes_eq word (codes "coalesce")) coalesce from_min
-      (many name xs (elaborated_coalesce name xs) (λ most. coalesce_typed name xs (omega (arith, least)) most f))
-      (either (bytes_eq word (codes "min")) minimum from_max (many name xs (elaborated_extreme function.Least name xs) (λ most. least_typed name xs least most f))
-      (either (bytes_eq word (codes "max")) maximum remainder (many name xs (elaborated_extreme function.Greatest name xs) (λ most. greatest_typed name xs least most f))
-      (either (bytes_eq word (codes "mod")) (form_of_two name x y more) substr (two_arguments name x y more f.0 f.1.0)
-      (either (bytes_eq word (codes "substr")) (elaborated_part name x y more) none (part name x y more f) (nameless_typed name)))))
+  -- a function that takes at least and at most so many arguments
+  taken : (f : NamedFunction) (least most : ℕ) (name : Place) (xs : List ElaboratedArgument)
+      → (least ≤ length xs → length xs ≤ most → IsSoundlyElaborated names (form_of_function f name xs))
+      → IsSoundlyElaborated names (form_of_row (Some (record { function = f; counts = (least, most) })) name xs)
+  taken f least most name xs h =
+      taken_if (takes_so_many (least, most) (length xs)) name (form_of_function f name xs) (λ e.
+      let p = and_parts (nat_le least (length xs)) (nat_le (length xs) most) e in
+      h (leb-true least (length xs) p.0) (leb-true (length xs) most p.1))
 
   pub function_typed : (t : Token) (xs : List ElaboratedArgument) → AllByRecursion (IsSoundArgument names) xs → IsSoundlyElaborated names (elaborated_function t xs)
-  function_typed t [] f = nameless_typed t.place
-  function_typed t (x ∷ []) f = one_argument (spelled_name t) t.place x f.0
-  function_typed t (x ∷ (y ∷ more)) f = several_arguments (spelled_name t) t.place x y more f
+  function_typed t xs h =
+      let name = t.place in
+      let single : (f : FunctionOfOne) → IsSoundlyElaborated names (form_of_row (Some (record { function = named.OfOne f; counts = (1, 1) })) name xs) =
+      λ f. taken (named.OfOne f) 1 1 name xs (λ least most. of_one_typed f name xs h) in
+      of_function_named (λ (o : Option FunctionRow). IsSoundlyElaborated names (form_of_row o name xs)) (nameless_typed name) (spelled_name t)
+      (and_others (single one.Absolute)
+      (and_others (single one.Ceiling)
+      (and_others (taken (named.OfMany many.Coalesce) 1 16 name xs (λ least most. coalesce_typed name xs least most h))
+      (and_others (single one.Floor)
+      (and_others (single one.Length)
+      (and_others (taken (named.OfMany many.Greatest) 2 16 name xs (λ least most. greatest_typed name xs least most h))
+      (and_others (taken (named.OfMany many.Least) 2 16 name xs (λ least most. least_typed name xs least most h))
+      (and_others (taken named.Remainder 2 2 name xs (λ least most. remainder_of name xs h))
+      (and_others (single one.NullTest)
+      (and_others (taken named.Substring 2 3 name xs (λ least most. substring_of name xs least most h))
+      (and_others (single one.Trim) tt)))))))))))

@@ -33,7 +33,7 @@ use Rattle.ds2_elaboration.specs.TypedForms.{IsOfTyping, IsSoundlyElaborated, Is
 use Rattle.ds2_elaboration.specs.TypedScopes.{IsBoundedIfAny, MethodStands, ObjectStands, ScopeStands, ExpressionsAreTyped}
 use Rattle.ds2_elaboration.specs.Typings.{TypeRefusals, clash_unless, Typing, Known, NullAt, Unknown, ElaboratedExpression, form_of_type, typing_behind, form_of_operands, elaborated_nameless, truth_refusals}
 use Rattle.ds2_elaboration.proofs.Arguments.{method_arguments}
-use Rattle.ds2_elaboration.proofs.Choices.{nameless_typed, any_of_typing, null_test_typed, either, function_typed}
+use Rattle.ds2_elaboration.proofs.Choices.{nameless_typed, any_of_typing, null_call_typed, either, function_typed}
 use Rattle.ds2_elaboration.proofs.Comparisons.{comparison_typed}
 use Rattle.ds2_elaboration.proofs.Constants.{constant_typed}
 use Rattle.ds2_elaboration.proofs.Links.{sign_typed, not_typed, next_link}
@@ -181,7 +181,7 @@ module _ (scope : TypeScope) (names : NamesInScope) (stands : ScopeStands scope 
 
   pub call_typed : (f : Callee) (xs : List ElaboratedArgument) → AllByRecursion (IsSoundArgument names) xs → IsSoundlyElaborated names (elaborated_call scope f xs)
   call_typed (callee.Function name) xs f = named_call name xs (method_named scope.methods (spelled_name name)) refl f
-  call_typed (callee.Null keyword) xs f = null_test_typed names keyword.place xs f
+  call_typed (callee.Null keyword) xs f = null_call_typed names keyword.place xs f
   call_typed (callee.Method object dot method) xs f = object_call object method xs f (object_in_scope scope (spelled_name object)) refl
 
   -- ---- chains

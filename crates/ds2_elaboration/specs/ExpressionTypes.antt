@@ -37,7 +37,7 @@ use Rattle.ds2_names.specs.SourceUnit.{PlacedName, spelled_name, is_system_name}
 use Rattle.ds2_meaning.specs.TypedExpression as tree
 use Rattle.ds2_meaning.specs.TypedStatement.{ParameterValue}
 use Rattle.ds2_names.specs.Uses.{first_place, method_named}
-use Rattle.ds2_elaboration.specs.FunctionTypes.{ElaboratedArgument, elaborated_null_test, elaborated_function}
+use Rattle.ds2_elaboration.specs.FunctionTypes.{ElaboratedArgument, elaborated_null_call, elaborated_function}
 use Rattle.ds2_elaboration.specs.OperatorTypes.{is_operand_type, pair_refusals, ElaboratedLink, elaborated_link, elaborated_comparison, elaborated_sign, elaborated_not}
 use Rattle.ds2_elaboration.specs.SourceTypes.{elaborated_parameters, returned_type}
 use Rattle.ds2_elaboration.specs.Typings.{TypeRefusals, type_refusal_at, clash_unless, Typing, ElaboratedExpression, form_of_type, typing_behind, form_of_operands, elaborated_null, elaborated_nameless, where_known, where_both_known, operand_clash, truth_refusals, assigned_refusals, assigned_node}
@@ -353,7 +353,7 @@ elaborated_object_call object method xs (Some (ParameterCalls parameters)) =
 -- a call
 abbrev pub elaborated_call : TypeScope → Callee → List ElaboratedArgument → ElaboratedExpression
 elaborated_call scope (callee.Function name) xs = elaborated_named_call scope name xs
-elaborated_call scope (callee.Null keyword) xs = elaborated_null_test keyword.place xs
+elaborated_call scope (callee.Null keyword) xs = elaborated_null_call keyword.place xs
 elaborated_call scope (callee.Method object dot method) xs = elaborated_object_call object method xs (object_in_scope scope (spelled_name object))
 
 -- ---- chains

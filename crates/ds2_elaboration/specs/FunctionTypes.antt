@@ -1,11 +1,19 @@
 -- The rules of functions: what arguments they take, and what they become.
-use Rattle.std.specs.Prelude.{ℕ, max, nat_le, length, Bool, true, false, ◌&&◌, ◌||◌, not, bytes_eq, codes, if◌then◌else◌, List, [], ◌∷◌, ◌++◌, map, fold}
+use Rattle.std.specs.Prelude.{max, length, Bool, true, false, ◌&&◌, ◌||◌, not, if◌then◌else◌, List, [], ◌∷◌, ◌++◌, map, fold, Option, Some, None}
 use Rattle.std.specs.List.{list_all}
 use Rattle.ds2_base.specs.declared.place.Place.{Place}
 use Rattle.ds2_token.specs.declared.token.Token.{Token}
 use Rattle.ds2_value.specs.declared.ty.Ty.{Ty}
 use Rattle.ds2_value.specs.declared.ty.Ty.TheVariants.{BigInt, Varchar}
 use Rattle.ds2_meaning.specs.IsTyped.{expression_type, type_scale, type_width, decimal_result}
+use Rattle.ds2_names.specs.Functions.{function_named, takes_so_many}
+use Rattle.ds2_names.specs.declared.functions.FunctionOfMany.{FunctionOfMany}
+use Rattle.ds2_names.specs.declared.functions.FunctionOfMany.TheVariants as many
+use Rattle.ds2_names.specs.declared.functions.FunctionOfOne.{FunctionOfOne}
+use Rattle.ds2_names.specs.declared.functions.FunctionOfOne.TheVariants as one
+use Rattle.ds2_names.specs.declared.functions.FunctionRow.{FunctionRow}
+use Rattle.ds2_names.specs.declared.functions.NamedFunction.{NamedFunction}
+use Rattle.ds2_names.specs.declared.functions.NamedFunction.TheVariants as named
 use Rattle.ds2_names.specs.NameRules.{from_each}
 use Rattle.ds2_names.specs.SourceUnit.{spelled_name}
 use Rattle.ds2_meaning.specs.TypedExpression.{TypedExpression, TypedExpressions, NoExpression, Then, Applied}
@@ -123,51 +131,46 @@ elaborated_substring name x numbers =
     form_of_operands (argument_refusals is_characters name x ++ from_each (argument_refusals is_integer_type name) numbers)
     (Applied function.Substring (nodes_in_order (x.value.node ∷ map (λ (n : ElaboratedArgument). n.value.node) numbers)) (Varchar (type_width (expression_type x.value.node))))
 
--- ---- null(x), and the functions by their names
+-- ---- null(x)
 
 -- null(x): 1 or 0; the constant null itself may not stand there
-abbrev pub elaborated_null_test : Place → List ElaboratedArgument → ElaboratedExpression
-elaborated_null_test word (x ∷ []) = form_of_type BigInt (x.value.refusals ++ null_clash x.value.typing) (of_one_node function.IsNull x.value.node BigInt)
-elaborated_null_test word _ = elaborated_nameless word
+abbrev pub elaborated_null_test : Place → ElaboratedArgument → ElaboratedExpression
+elaborated_null_test name x = form_of_type BigInt (x.value.refusals ++ null_clash x.value.typing) (of_one_node function.IsNull x.value.node BigInt)
 
--- a function of one argument by its name; other names are refused by the rules of names
-abbrev pub form_of_one : List ℕ → Place → ElaboratedArgument → ElaboratedExpression
-form_of_one word name x =
-    if bytes_eq word (codes "abs") then elaborated_absolute name x
-    else if bytes_eq word (codes "ceil") then elaborated_whole function.Ceiling name x
-    else if bytes_eq word (codes "floor") then elaborated_whole function.Floor name x
-    else if bytes_eq word (codes "length") then elaborated_length name x
-    else if bytes_eq word (codes "trim") then elaborated_trim name x
-    else if bytes_eq word (codes "coalesce") then elaborated_coalesce name (x ∷ [])
-    else elaborated_nameless name
+-- ---- functions by their names
 
--- at most 16 values; more are refused by the rules of names
-abbrev pub elaborated_many : Place → List ElaboratedArgument → ElaboratedExpression → ElaboratedExpression
-elaborated_many name xs form = if nat_le (length xs) 16 then form else elaborated_nameless name
+-- a function of one value
+abbrev pub form_of_one : FunctionOfOne → Place → ElaboratedArgument → ElaboratedExpression
+form_of_one one.Absolute name x = elaborated_absolute name x
+form_of_one one.Ceiling name x = elaborated_whole function.Ceiling name x
+form_of_one one.Floor name x = elaborated_whole function.Floor name x
+form_of_one one.Length name x = elaborated_length name x
+form_of_one one.NullTest name x = elaborated_null_test name x
+form_of_one one.Trim name x = elaborated_trim name x
 
--- mod takes two arguments
-abbrev pub form_of_two : Place → ElaboratedArgument → ElaboratedArgument → List ElaboratedArgument → ElaboratedExpression
-form_of_two name x y [] = elaborated_remainder name x y
-form_of_two name x y (z ∷ more) = elaborated_nameless name
+-- a function of several values in one type
+abbrev pub form_of_many : FunctionOfMany → Place → List ElaboratedArgument → ElaboratedExpression
+form_of_many many.Coalesce name xs = elaborated_coalesce name xs
+form_of_many many.Greatest name xs = elaborated_extreme function.Greatest name xs
+form_of_many many.Least name xs = elaborated_extreme function.Least name xs
 
--- substr takes two or three arguments
-abbrev pub elaborated_part : Place → ElaboratedArgument → ElaboratedArgument → List ElaboratedArgument → ElaboratedExpression
-elaborated_part name x y [] = elaborated_substring name x (y ∷ [])
-elaborated_part name x y (z ∷ []) = elaborated_substring name x (y ∷ z ∷ [])
-elaborated_part name x y (z ∷ w ∷ more) = elaborated_nameless name
+-- a function of as many arguments as it takes
+abbrev pub form_of_function : NamedFunction → Place → List ElaboratedArgument → ElaboratedExpression
+form_of_function (named.OfOne f) name (x ∷ []) = form_of_one f name x
+form_of_function (named.OfMany f) name xs = form_of_many f name xs
+form_of_function named.Remainder name (x ∷ y ∷ []) = elaborated_remainder name x y
+form_of_function named.Substring name (x ∷ numbers) = elaborated_substring name x numbers
+form_of_function f name xs = elaborated_nameless name
 
--- a function of several arguments by its name
-abbrev pub form_of_several : List ℕ → Place → ElaboratedArgument → ElaboratedArgument → List ElaboratedArgument → ElaboratedExpression
-form_of_several word name x y more =
-    if bytes_eq word (codes "coalesce") then elaborated_many name (x ∷ y ∷ more) (elaborated_coalesce name (x ∷ y ∷ more))
-    else if bytes_eq word (codes "min") then elaborated_many name (x ∷ y ∷ more) (elaborated_extreme function.Least name (x ∷ y ∷ more))
-    else if bytes_eq word (codes "max") then elaborated_many name (x ∷ y ∷ more) (elaborated_extreme function.Greatest name (x ∷ y ∷ more))
-    else if bytes_eq word (codes "mod") then form_of_two name x y more
-    else if bytes_eq word (codes "substr") then elaborated_part name x y more
-    else elaborated_nameless name
+-- a call of a function; a name that none has, and another number of arguments than it takes, are refused by the rules of names
+abbrev pub form_of_row : Option FunctionRow → Place → List ElaboratedArgument → ElaboratedExpression
+form_of_row None name xs = elaborated_nameless name
+form_of_row (Some f) name xs = if takes_so_many f.counts (length xs) then form_of_function f.function name xs else elaborated_nameless name
 
 -- a function by its name
 abbrev pub elaborated_function : Token → List ElaboratedArgument → ElaboratedExpression
-elaborated_function t [] = elaborated_nameless t.place
-elaborated_function t (x ∷ []) = form_of_one (spelled_name t) t.place x
-elaborated_function t (x ∷ y ∷ more) = form_of_several (spelled_name t) t.place x y more
+elaborated_function t xs = form_of_row (function_named (spelled_name t)) t.place xs
+
+-- the word null, as a function
+abbrev pub elaborated_null_call : Place → List ElaboratedArgument → ElaboratedExpression
+elaborated_null_call word xs = form_of_function (named.OfOne one.NullTest) word xs

@@ -1,4 +1,4 @@
 pub mod FirstPlaces
-pub mod FunctionForms
+pub mod ArgumentForms
 pub mod ChainWalk
 pub mod Told

@@ -1,2 +1,1 @@
 pub mod ArgumentCounts
-pub mod FunctionNames

@@ -1,6 +1,7 @@
 pub mod SourceUnit
 pub mod Uses
 pub mod Refusals
+pub mod Functions
 pub mod NameRules
 pub mod UnitRules
 pub mod SourceLimits

@@ -1,5 +1,5 @@
 -- The rules of names of a unit of a source: for each rule on what a name means the places at which it is broken.
-use Rattle.std.specs.Prelude.{ℕ, zero, suc, ◌+◌, ◌-◌, ◌*◌, Bool, true, false, not, ◌&&◌, ◌||◌, nat_le, nat_eq, bytes_eq, codes, if◌then◌else◌, List, [], ◌∷◌, ◌++◌, length, map, filter, fold, is_some, is_none, unwrap_or, Option, Some, None}
+use Rattle.std.specs.Prelude.{ℕ, zero, suc, ◌+◌, ◌-◌, ◌*◌, Bool, true, false, not, ◌&&◌, ◌||◌, nat_eq, bytes_eq, codes, if◌then◌else◌, List, [], ◌∷◌, ◌++◌, length, map, filter, fold, is_some, is_none, unwrap_or, Option, Some, None}
 use Rattle.std.specs.List.{list_all, list_any, flat_map}
 use Rattle.std.specs.Option.{option_map_or}
 use Rattle.ds2_base.specs.declared.place.Place.{Place}
@@ -20,6 +20,7 @@ use Rattle.ds2_value.specs.Row.{Columns}
 use Rattle.ds2_value.specs.Schema.{has_column}
 use Rattle.ds2_meaning.specs.ProgramTree.{is_listed}
 use Rattle.ds2_names.specs.declared.placed.OutputName as placed
+use Rattle.ds2_names.specs.Functions.{function_counts, takes_so_many}
 use Rattle.ds2_names.specs.SourceUnit.{TableColumns, spelled_name, spelled_text, PlacedName, placed_name, names_alone, is_earlier, listed_tokens, is_system_name, local_names, UnitSource, is_package, InstanceOf, AnyPackage, HashObject, HashIterator, AnyThread, SourceInstance, instance_named, KnownPackage, KnownThread, KnownUnit, package_named, thread_named, known_names, tables_of_reading, stage_token, stage_read, SourceNames, vector_names, plain_globals, instance_names, all_globals, is_named}
 use Rattle.ds2_names.specs.Uses.{NameUse, Values, Members, HandsOver, CallsOn, Sets, WritesTo, first_place, method_named, in_out_of, statements_uses}
 
@@ -328,18 +329,7 @@ duplicate_names names =
 
 -- ---- UnknownMethod and WrongCount, at the method's name
 
--- the numbers of arguments that a function takes: at least and at most so many
-abbrev pub function_counts : List (List ℕ × (ℕ × ℕ))
-function_counts =
-    (codes "abs", (1, 1)) ∷ (codes "ceil", (1, 1)) ∷ (codes "coalesce", (1, 16)) ∷ (codes "floor", (1, 1)) ∷ (codes "length", (1, 1))
-    ∷ (codes "max", (2, 16)) ∷ (codes "min", (2, 16)) ∷ (codes "mod", (2, 2)) ∷ (codes "substr", (2, 3)) ∷ (codes "trim", (1, 1)) ∷ []
-
--- those of the function of this name, where there is one
-abbrev pub counts_under : List (List ℕ × (ℕ × ℕ)) → List ℕ → Option (ℕ × ℕ)
-counts_under [] name = None
-counts_under (f ∷ functions) name = if bytes_eq f.0 name then Some f.1 else counts_under functions name
-
--- those of a declared method, where there is one
+-- the numbers of arguments that a declared method takes, where there is one: at least and at most so many
 abbrev pub method_counts : Option Method → Option (ℕ × ℕ)
 method_counts None = None
 method_counts (Some m) = let n = length m.parameters.list in Some (n, n)
@@ -347,7 +337,7 @@ method_counts (Some m) = let n = length m.parameters.list in Some (n, n)
 -- those of what a name calls: a method of the unit, else a function
 abbrev pub counts_of : Option Method → List ℕ → Option (ℕ × ℕ)
 counts_of (Some m) name = method_counts (Some m)
-counts_of None name = counts_under function_counts name
+counts_of None name = function_counts name
 
 -- how many arguments there are
 abbrev pub argument_count : Arguments → ℕ
@@ -413,7 +403,7 @@ unknown_method_in_use names m _ = []
 -- a number of arguments that what is called does not take; what is not there takes any
 abbrev pub takes_count : Option (ℕ × ℕ) → ℕ → Bool
 takes_count None n = true
-takes_count (Some counts) n = nat_le counts.0 n && nat_le n counts.1
+takes_count (Some counts) n = takes_so_many counts n
 
 -- another number of arguments of a call on an instance
 abbrev pub wrong_count_on : SourceNames → Token → ℕ → Option SourceInstance → List Place

@@ -1,6 +1,6 @@
 -- Which expressions are variables that may be set.
 use Rattle.std.proofs.Common.{◌≡◌, ℕ, Bool, true, false, not, if◌then◌else◌, List, [], ◌∷◌, Option, Some, None, refl, sym, ap, ◌∙◌}
-use Rattle.std.specs.Prelude.{ℤ, max, ◌&&◌, bytes_eq, codes, nat_le, length, option_and_then}
+use Rattle.std.specs.Prelude.{ℤ, max, ◌&&◌, bytes_eq, codes, length, option_and_then}
 use Rattle.ds2_value.specs.declared.ty.Ty.TheVariants.{BigInt}
 use Rattle.ds2_meaning.specs.IsTyped.{expression_type, type_scale, decimal_result}
 use Rattle.ds2_meaning.specs.declared.expressions.Function.{Function}
@@ -23,11 +23,19 @@ use Rattle.ds2_meaning.specs.ProgramTree.{is_listed}
 use Rattle.ds2_meaning.specs.declared.expressions.Function.TheVariants as function
 use Rattle.ds2_meaning.specs.declared.location.Global.TheVariants.{First, Last}
 use Rattle.ds2_meaning.specs.declared.location.Reference.{Reference}
+use Rattle.ds2_names.specs.Functions.{function_named, takes_so_many}
+use Rattle.ds2_names.specs.declared.functions.FunctionOfMany.{FunctionOfMany}
+use Rattle.ds2_names.specs.declared.functions.FunctionOfMany.TheVariants as many
+use Rattle.ds2_names.specs.declared.functions.FunctionOfOne.{FunctionOfOne}
+use Rattle.ds2_names.specs.declared.functions.FunctionOfOne.TheVariants as one
+use Rattle.ds2_names.specs.declared.functions.FunctionRow.{FunctionRow}
+use Rattle.ds2_names.specs.declared.functions.NamedFunction.{NamedFunction}
+use Rattle.ds2_names.specs.declared.functions.NamedFunction.TheVariants as named
 use Rattle.ds2_names.specs.NameRules.{is_flag_word}
 use Rattle.ds2_names.specs.SourceUnit.{spelled_name}
 use Rattle.ds2_names.specs.Uses.{method_named}
 use Rattle.ds2_elaboration.specs.SourceTypes.{elaborated_parameters, returned_type}
-use Rattle.ds2_elaboration.specs.FunctionTypes.{ElaboratedArgument, nodes_in_order, of_one_node, elaborated_null_test, elaborated_function, form_of_one, form_of_several, form_of_two, elaborated_part, elaborated_absolute, elaborated_whole, elaborated_length, elaborated_trim, elaborated_coalesce, elaborated_extreme, elaborated_many}
+use Rattle.ds2_elaboration.specs.FunctionTypes.{ElaboratedArgument, nodes_in_order, of_one_node, elaborated_whole, remainder_node, form_of_one, form_of_many, form_of_function, form_of_row, elaborated_function}
 use Rattle.ds2_elaboration.specs.Typings.{ElaboratedExpression, elaborated_nameless, form_of_operands, form_of_type, is_integer_type, widened_node}
 use Rattle.ds2_elaboration.specs.ExpressionTypes.{TypeScope, KnownVariable, ElaboratedArguments, known_variable, value_of_variable, elaborated_variable, flag_node, elaborated_flag, is_settable_reference, reference_in, constant_node, integer_node, decimal_node, text_node, elaborated_call, method_or_function_call, result_of_method, elaborated, elaborated_arguments, arguments_for, number_of_method, text_within, ObjectCalls, InstanceCalls, HashCalls, IteratorCalls, ParameterCalls, object_in_scope, member_of_object, elaborated_member, hash_function_named, iterator_function_named, elaborated_hash_call, elaborated_iterator_call, elaborated_instance_call, elaborated_object_call}
 use Rattle.ds2_reference_types.specs.Scopes.{reference_of, known_in, IsKnownAs, IsScopeOf}
@@ -92,66 +100,52 @@ no_whole : (f : Function) (name : Place) (x : ElaboratedArgument) → IsNone (el
 no_whole f name x =
     node_either (is_integer_type (expression_type x.value.node)) (of_one_node function.Unchanged x.value.node BigInt) (of_one_node f x.value.node (decimal_result 0)) refl refl
 
-no_remainder : (name : Place) (x y : ElaboratedArgument) (more : List ElaboratedArgument) → IsNone (form_of_two name x y more)
-no_remainder name x y [] = by (is_integer_type left && is_integer_type right)
+no_remainder : (a b : tree.TypedExpression) → HasNone (remainder_node a b)
+no_remainder a b = by (is_integer_type left && is_integer_type right)
   where
     left : Ty
-    left = expression_type x.value.node
+    left = expression_type a
 
     right : Ty
-    right = expression_type y.value.node
+    right = expression_type b
 
-    by : (b : Bool)
-        → HasNone (if b then tree.Applied function.IntegerModulo (nodes_in_order (x.value.node ∷ y.value.node ∷ [])) BigInt
-        else tree.Applied function.DecimalModulo (nodes_in_order (widened_node x.value.node ∷ widened_node y.value.node ∷ [])) (decimal_result (max (type_scale left) (type_scale right))))
+    by : (c : Bool)
+        → HasNone (if c then tree.Applied function.IntegerModulo (nodes_in_order (a ∷ b ∷ [])) BigInt
+        else tree.Applied function.DecimalModulo (nodes_in_order (widened_node a ∷ widened_node b ∷ [])) (decimal_result (max (type_scale left) (type_scale right))))
     by true = refl
     by false = refl
-no_remainder name x y (z ∷ more) = refl
 
-no_part : (name : Place) (x y : ElaboratedArgument) (more : List ElaboratedArgument) → IsNone (elaborated_part name x y more)
-no_part name x y [] = refl
-no_part name x y (z ∷ []) = refl
-no_part name x y (z ∷ w ∷ more) = refl
+no_one : (f : FunctionOfOne) (name : Place) (x : ElaboratedArgument) → IsNone (form_of_one f name x)
+no_one one.Absolute name x = refl
+no_one one.Ceiling name x = no_whole function.Ceiling name x
+no_one one.Floor name x = no_whole function.Floor name x
+no_one one.Length name x = refl
+no_one one.NullTest name x = refl
+no_one one.Trim name x = refl
 
-no_one : (word : List ℕ) (name : Place) (x : ElaboratedArgument) → IsNone (form_of_one word name x)
-no_one word name x =
-    by (bytes_eq word (codes "abs")) (bytes_eq word (codes "ceil")) (bytes_eq word (codes "floor")) (bytes_eq word (codes "length")) (bytes_eq word (codes "trim"))
-    (bytes_eq word (codes "coalesce"))
-  where
-    by : (a b c d e f : Bool)
-        → IsNone (if a then elaborated_absolute name x else if b then elaborated_whole function.Ceiling name x else if c then elaborated_whole function.Floor name x
-        else if d then elaborated_length name x else if e then elaborated_trim name x else if f then elaborated_coalesce name (x ∷ []) else elaborated_nameless name)
-    by true b c d e f = refl
-    by false true c d e f = no_whole function.Ceiling name x
-    by false false true d e f = no_whole function.Floor name x
-    by false false false true e f = refl
-    by false false false false true f = refl
-    by false false false false false true = refl
-    by false false false false false false = refl
+no_many : (f : FunctionOfMany) (name : Place) (xs : List ElaboratedArgument) → IsNone (form_of_many f name xs)
+no_many many.Coalesce name xs = refl
+no_many many.Greatest name xs = refl
+no_many many.Least name xs = refl
 
-no_many : (name : Place) (xs : List ElaboratedArgument) (form : ElaboratedExpression) → IsNone form → IsNone (elaborated_many name xs form)
-no_many name xs form h = none_either (nat_le (length xs) 16) form (elaborated_nameless name) h refl
+no_form : (f : NamedFunction) (name : Place) (xs : List ElaboratedArgument) → IsNone (form_of_function f name xs)
+no_form (named.OfOne f) name [] = refl
+no_form (named.OfOne f) name (x ∷ []) = no_one f name x
+no_form (named.OfOne f) name (x ∷ y ∷ more) = refl
+no_form (named.OfMany f) name xs = no_many f name xs
+no_form named.Remainder name [] = refl
+no_form named.Remainder name (x ∷ []) = refl
+no_form named.Remainder name (x ∷ y ∷ []) = no_remainder x.value.node y.value.node
+no_form named.Remainder name (x ∷ y ∷ z ∷ more) = refl
+no_form named.Substring name [] = refl
+no_form named.Substring name (x ∷ numbers) = refl
 
-no_several : (word : List ℕ) (name : Place) (x y : ElaboratedArgument) (more : List ElaboratedArgument) → IsNone (form_of_several word name x y more)
-no_several word name x y more =
-    by (bytes_eq word (codes "coalesce")) (bytes_eq word (codes "min")) (bytes_eq word (codes "max")) (bytes_eq word (codes "mod")) (bytes_eq word (codes "substr"))
-  where
-    by : (a b c d e : Bool)
-        → IsNone (if a then elaborated_many name (x ∷ y ∷ more) (elaborated_coalesce name (x ∷ y ∷ more))
-        else if b then elaborated_many name (x ∷ y ∷ more) (elaborated_extreme function.Least name (x ∷ y ∷ more))
-        else if c then elaborated_many name (x ∷ y ∷ more) (elaborated_extreme function.Greatest name (x ∷ y ∷ more))
-        else if d then form_of_two name x y more else if e then elaborated_part name x y more else elaborated_nameless name)
-    by true b c d e = no_many name (x ∷ y ∷ more) (elaborated_coalesce name (x ∷ y ∷ more)) refl
-    by false true c d e = no_many name (x ∷ y ∷ more) (elaborated_extreme function.Least name (x ∷ y ∷ more)) refl
-    by false false true d e = no_many name (x ∷ y ∷ more) (elaborated_extreme function.Greatest name (x ∷ y ∷ more)) refl
-    by false false false true e = no_remainder name x y more
-    by false false false false true = no_part name x y more
-    by false false false false false = refl
+no_row : (f : Option FunctionRow) (name : Place) (xs : List ElaboratedArgument) → IsNone (form_of_row f name xs)
+no_row None name xs = refl
+no_row (Some f) name xs = none_either (takes_so_many f.counts (length xs)) (form_of_function f.function name xs) (elaborated_nameless name) (no_form f.function name xs) refl
 
 no_function : (t : Token) (xs : List ElaboratedArgument) → IsNone (elaborated_function t xs)
-no_function t [] = refl
-no_function t (x ∷ []) = no_one (spelled_name t) t.place x
-no_function t (x ∷ y ∷ more) = no_several (spelled_name t) t.place x y more
+no_function t xs = no_row (function_named (spelled_name t)) t.place xs
 
 no_result : (place : Place) (instance : Option (List ℕ)) (number : ℕ) (arguments : ElaboratedArguments) (ty : Option Ty)
     → IsNone (result_of_method place instance number arguments ty)
@@ -198,14 +192,9 @@ no_member types object member =
     none_either (is_flag_word object) (elaborated_flag types object member) (member_of_object object member (object_in_scope types (spelled_name object)))
     (no_flag_variable types object member) (no_object_member object member (object_in_scope types (spelled_name object)))
 
-no_null_test : (word : Place) (xs : List ElaboratedArgument) → IsNone (elaborated_null_test word xs)
-no_null_test word [] = refl
-no_null_test word (x ∷ []) = refl
-no_null_test word (x ∷ y ∷ xs) = refl
-
 no_call : (types : TypeScope) (f : Callee) (xs : List ElaboratedArgument) → IsNone (elaborated_call types f xs)
 no_call types (callee.Function name) xs = no_named types name xs (method_named types.methods (spelled_name name))
-no_call types (callee.Null keyword) xs = no_null_test keyword.place xs
+no_call types (callee.Null keyword) xs = no_form (named.OfOne one.NullTest) keyword.place xs
 no_call types (callee.Method object dot method) xs = no_object_value object method xs (object_in_scope types (spelled_name object))
 
 -- ---- expressions

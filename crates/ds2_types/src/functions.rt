@@ -1,5 +1,5 @@
 //! Functions: what arguments they take, and what they become.
-ghost use Rattle.std.specs.Prelude.{◌≡◌, ◌∷◌, [], IfOk, if◌then◌else◌};
+ghost use Rattle.std.specs.Prelude.{◌≡◌, IfOk, if◌then◌else◌};
 ghost use Rattle.ds2_elaboration.specs.FunctionTypes.{ElaboratedArgument, of_one_node, remainder_node, elaborated_absolute, elaborated_whole, elaborated_remainder, elaborated_length, elaborated_trim, elaborated_null_test};
 ghost use Rattle.ds2_elaboration.specs.Typings.{is_integer_type};
 ghost use Rattle.ds2_meaning.specs.IsTyped.{expression_type, type_scale, type_width, decimal_result};
@@ -204,7 +204,7 @@ pub fn trim(alloc: Global, name: Place, x: Judgement) -> Result<Judgement, OutOf
 
 /// `null(x)`: 1 or 0; the constant null itself may not stand there.
 pub fn null_test(alloc: Global, word: Place, x: Judgement) -> Result<Judgement, OutOfMemory>
-    ensures { (e : ElaboratedArgument) → IsJudged e.value x → Judges (elaborated_null_test word (e ∷ [])) result }
+    ensures { (e : ElaboratedArgument) → IsJudged e.value x → Judges (elaborated_null_test word e) result }
 {
     let clash = null_clash(x.typing);
     match ruled(x.outcome, clash) {
