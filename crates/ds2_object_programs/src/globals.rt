@@ -54,16 +54,18 @@ impl Globals {
     }
 }
 
+// The lists, one behind the other.
+type Lists = (
+    List<Slot>,
+    (List<Constant>, (List<HashPart>, (List<u32>, List<u32>))),
+);
+
 /// Takes them off the front of the bytes.
 #[tactic(auto, unfolding(crate::specs::ProgramSpelling::globals_part))]
 pub fn read_globals(alloc: Global, bytes: &mut Unread<'_>) -> Result<Globals, Stop<Flaw>>
     ensures { ReadsPart result (globals_part.read bytes.old) bytes.new }
 {
-    let slots = List::<Slot>::read(alloc, bytes)?;
-    let constants = List::<Constant>::read(alloc, bytes)?;
-    let hashes = List::<HashPart>::read(alloc, bytes)?;
-    let iterators = List::<u32>::read(alloc, bytes)?;
-    let parameters = List::<u32>::read(alloc, bytes)?;
+    let (slots, (constants, (hashes, (iterators, parameters)))) = Lists::read(alloc, bytes)?;
     Ok(Globals {
         slots,
         constants,

@@ -92,16 +92,14 @@ fn read_instrs(alloc: Global, bytes: &mut Unread<'_>) -> Result<Option<List<Inst
 
 // ---- readings of tables
 
+// Tables and BY variables, one behind the other.
+type Tables = (List<ReadPart>, List<ByPart>);
+
 // Tables and BY variables.
-fn read_tables(
-    alloc: Global,
-    bytes: &mut Unread<'_>,
-) -> Result<(List<ReadPart>, List<ByPart>), Stop<Flaw>>
+fn read_tables(alloc: Global, bytes: &mut Unread<'_>) -> Result<Tables, Stop<Flaw>>
     ensures { ReadsPart result (tables_part.read bytes.old) bytes.new }
 {
-    let tables = List::<ReadPart>::read(alloc, bytes)?;
-    let bys = List::<ByPart>::read(alloc, bytes)?;
-    Ok((tables, bys))
+    Tables::read(alloc, bytes)
 }
 
 // What stands behind the tag of a reading of tables; from the tag on so many bytes are left.

@@ -42,15 +42,15 @@ impl Units {
     }
 }
 
+// The outputs and the entries, one behind the other.
+type Parts = (List<OutputPart>, (u32, (u32, u32)));
+
 /// Takes them off the front of the bytes.
 #[tactic(auto, unfolding(crate::specs::ProgramSpelling::units_part))]
 pub fn read_units(alloc: Global, bytes: &mut Unread<'_>) -> Result<Units, Stop<Flaw>>
     ensures { ReadsPart result (units_part.read bytes.old) bytes.new }
 {
-    let outputs = List::<OutputPart>::read(alloc, bytes)?;
-    let init = bytes.number32()?;
-    let run = bytes.number32()?;
-    let term = bytes.number32()?;
+    let (outputs, (init, (run, term))) = Parts::read(alloc, bytes)?;
     Ok(Units {
         outputs,
         init,

@@ -54,9 +54,7 @@ impl Spelled for Slot {
 
     #[tactic(auto, unfolding(crate::specs::CodeParts::slot_line))]
     fn read(alloc: Global, bytes: &mut Unread<'_>) -> Result<Slot, Stop<Flaw>> {
-        let name = Name::read(alloc, bytes)?;
-        let ty = Ty::read(alloc, bytes)?;
-        let role = SlotRole::read(alloc, bytes)?;
+        let (name, (ty, role)) = <(Name, (Ty, SlotRole))>::read(alloc, bytes)?;
         Ok(Slot { name, ty, role })
     }
 
@@ -100,9 +98,9 @@ impl Spelled for HashTable {
 
     #[tactic(auto, unfolding(crate::specs::CodeParts::hash_table_line))]
     fn read(alloc: Global, bytes: &mut Unread<'_>) -> Result<HashTable, Stop<Flaw>> {
-        let table = TableReference::read(alloc, bytes)?;
-        let key_columns = List::<u32>::read(alloc, bytes)?;
-        let data_columns = List::<u32>::read(alloc, bytes)?;
+        let (table, (key_columns, data_columns)) = <(TableReference, (List<u32>, List<u32>))>::read(
+            alloc, bytes,
+        )?;
         Ok(HashTable {
             table,
             key_columns,
@@ -125,9 +123,9 @@ impl Spelled for HashPart {
 
     #[tactic(auto, unfolding(crate::specs::CodeParts::hash_line))]
     fn read(alloc: Global, bytes: &mut Unread<'_>) -> Result<HashPart, Stop<Flaw>> {
-        let key_slots = List::<u32>::read(alloc, bytes)?;
-        let data_slots = List::<u32>::read(alloc, bytes)?;
-        let loaded = Option::<HashTable>::read(alloc, bytes)?;
+        let (key_slots, (data_slots, loaded)) = <(List<u32>, (List<u32>, Option<HashTable>))>::read(
+            alloc, bytes,
+        )?;
         Ok(HashPart {
             key_slots,
             data_slots,
@@ -169,10 +167,10 @@ impl Spelled for MethodPart {
 
     #[tactic(auto, unfolding(crate::specs::CodeParts::method_line))]
     fn read(alloc: Global, bytes: &mut Unread<'_>) -> Result<MethodPart, Stop<Flaw>> {
-        let entry = bytes.number32()?;
-        let parameters = List::<ParameterPart>::read(alloc, bytes)?;
-        let locals = List::<Ty>::read(alloc, bytes)?;
-        let returns = Option::<Ty>::read(alloc, bytes)?;
+        let (entry, (parameters, (locals, returns))) = <(
+            u32,
+            (List<ParameterPart>, (List<Ty>, Option<Ty>)),
+        )>::read(alloc, bytes)?;
         Ok(MethodPart {
             entry,
             parameters,
@@ -197,9 +195,9 @@ impl Spelled for ReadPart {
 
     #[tactic(auto, unfolding(crate::specs::CodeParts::read_line))]
     fn read(alloc: Global, bytes: &mut Unread<'_>) -> Result<ReadPart, Stop<Flaw>> {
-        let table = TableReference::read(alloc, bytes)?;
-        let present = Option::<u32>::read(alloc, bytes)?;
-        let slots = List::<u32>::read(alloc, bytes)?;
+        let (table, (present, slots)) = <(TableReference, (Option<u32>, List<u32>))>::read(
+            alloc, bytes,
+        )?;
         Ok(ReadPart {
             table,
             present,
@@ -222,10 +220,9 @@ impl Spelled for ByPart {
 
     #[tactic(auto, unfolding(crate::specs::CodeParts::by_line))]
     fn read(alloc: Global, bytes: &mut Unread<'_>) -> Result<ByPart, Stop<Flaw>> {
-        let slot = bytes.number32()?;
-        let is_descending = bool::read(alloc, bytes)?;
-        let first = bytes.number32()?;
-        let last = bytes.number32()?;
+        let (slot, (is_descending, (first, last))) = <(u32, (bool, (u32, u32)))>::read(
+            alloc, bytes,
+        )?;
         Ok(ByPart {
             slot,
             is_descending,
