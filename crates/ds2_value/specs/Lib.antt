@@ -1,3 +1,4 @@
+pub mod Cell
 pub mod DecimalText
 pub mod Functions
 pub mod HashList

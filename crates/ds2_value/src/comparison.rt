@@ -1,8 +1,9 @@
 //! How two values stand to each other.
 ghost use Rattle.std.specs.Prelude.{◌≡◌};
+ghost use Rattle.ds2_value.specs.Cell.{lent_value};
 ghost use Rattle.ds2_value.specs.Value.{holds_for, compare_of, compared_of};
 
-use crate::{Value, key_compare};
+use crate::{Cell, Value};
 use std::cmp::Ordering;
 
 /// A comparison of two values.
@@ -32,16 +33,26 @@ impl Comparison {
     }
 }
 
-/// How two values stand, numbers by value and texts as if padded with blanks to one length; None exactly where one is null.
-#[tactic(auto, unfolding(crate::specs::Value::compare_of))]
+impl Cell<'_> {
+    /// How two values stand, numbers by value and texts as if padded with blanks to one length; None exactly where one is null.
+    #[inline]
+    #[tactic(auto, unfolding(crate::specs::Value::compare_of))]
+    pub fn compare(&self, other: &Cell<'_>) -> Option<Ordering>
+        ensures { result ≡ compare_of (lent_value self.now) (lent_value other.now) }
+    {
+        if self.is_null() || other.is_null() {
+            None
+        } else {
+            Some(self.key_compare(other))
+        }
+    }
+}
+
+/// [`Cell::compare`] of two values.
 pub fn compare(a: &Value, b: &Value) -> Option<Ordering>
     ensures { result ≡ compare_of a.now b.now }
 {
-    if a.is_null() || b.is_null() {
-        None
-    } else {
-        Some(key_compare(a, b))
-    }
+    a.as_cell().compare(&b.as_cell())
 }
 
 /// The BIGINT 1 where the comparison holds, 0 where it does not; null where one value is null.

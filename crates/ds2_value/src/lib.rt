@@ -9,6 +9,7 @@
 
 mod arithmetic;
 mod assignment;
+mod cell;
 mod choice;
 mod comparison;
 mod condition;
@@ -30,6 +31,7 @@ mod value;
 
 pub use arithmetic::{absolute, difference, negative, product, remainder, sum};
 pub use assignment::{assign, assign_owned};
+pub use cell::{Cell, cell_in};
 pub use choice::{coalesce, greatest, least};
 pub use comparison::{Comparison, compare, compared};
 pub use conversion::{decimal_value, fault_of, whole_decimal};

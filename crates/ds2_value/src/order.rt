@@ -1,9 +1,10 @@
 //! The order of values.
 ghost use Rattle.std.specs.Prelude.{◌≡◌, []};
+ghost use Rattle.ds2_value.specs.Cell.{lent_value};
 ghost use Rattle.ds2_value.specs.Order.{key_order};
 ghost use Rattle.ds2_value.specs.Texts.{padded_cmp, text_cmp};
 
-use crate::{Value, whole_decimal};
+use crate::{Cell, Value, whole_decimal};
 use std::cmp::Ordering;
 
 // How characters stand to blanks.
@@ -64,32 +65,42 @@ fn text_order(a: &str, b: &str) -> Ordering
     }
 }
 
-/// How two values stand as keys: null is least and equal to null, then come numbers by value, then texts, the shorter one
-/// as if followed by blanks. Takes no memory.
-#[tactic(auto, using(crate::proofs::OrderLemmas::key_orders), unfolding(crate::specs::Order::key_order))]
+impl Cell<'_> {
+    /// How two values stand as keys: null is least and equal to null, then come numbers by value, then texts, the shorter one
+    /// as if followed by blanks. Takes no memory.
+    #[inline]
+    #[tactic(auto, using(crate::proofs::OrderLemmas::key_orders), unfolding(crate::specs::Order::key_order))]
+    pub fn key_compare(&self, other: &Cell<'_>) -> Ordering
+        ensures { result ≡ key_order (lent_value self.now) (lent_value other.now) }
+    {
+        match self {
+            Cell::Null => match other {
+                Cell::Null => Ordering::Equal,
+                Cell::Int(_) | Cell::Dec(_) | Cell::Txt(_) => Ordering::Less,
+            },
+            Cell::Int(x) => match other {
+                Cell::Null => Ordering::Greater,
+                Cell::Int(y) => x.cmp(y),
+                Cell::Dec(y) => whole_decimal(*x).compare(*y),
+                Cell::Txt(_) => Ordering::Less,
+            },
+            Cell::Dec(x) => match other {
+                Cell::Null => Ordering::Greater,
+                Cell::Int(y) => x.compare(whole_decimal(*y)),
+                Cell::Dec(y) => x.compare(*y),
+                Cell::Txt(_) => Ordering::Less,
+            },
+            Cell::Txt(x) => match other {
+                Cell::Null | Cell::Int(_) | Cell::Dec(_) => Ordering::Greater,
+                Cell::Txt(y) => text_order(*x, *y),
+            },
+        }
+    }
+}
+
+/// [`Cell::key_compare`] of two values.
 pub fn key_compare(a: &Value, b: &Value) -> Ordering
     ensures { result ≡ key_order a.now b.now }
 {
-    match a {
-        Value::Null => match b {
-            Value::Null => Ordering::Equal,
-            Value::Int(_) | Value::Dec(_) | Value::Txt(_) => Ordering::Less,
-        },
-        Value::Int(x) => match b {
-            Value::Null => Ordering::Greater,
-            Value::Int(y) => x.cmp(y),
-            Value::Dec(y) => whole_decimal(*x).compare(*y),
-            Value::Txt(_) => Ordering::Less,
-        },
-        Value::Dec(x) => match b {
-            Value::Null => Ordering::Greater,
-            Value::Int(y) => x.compare(whole_decimal(*y)),
-            Value::Dec(y) => x.compare(*y),
-            Value::Txt(_) => Ordering::Less,
-        },
-        Value::Txt(x) => match b {
-            Value::Null | Value::Int(_) | Value::Dec(_) => Ordering::Greater,
-            Value::Txt(y) => text_order(x.as_str(), y.as_str()),
-        },
-    }
+    a.as_cell().key_compare(&b.as_cell())
 }

@@ -1,7 +1,9 @@
 //! Values and rows.
 ghost use Rattle.std.specs.Prelude.{◌≡◌, IfOk};
+ghost use Rattle.ds2_value.specs.Cell.{lent_value};
 ghost use Rattle.ds2_value.specs.Value.{is_null};
 
+use crate::Cell;
 use ds2_base::{List, OutOfMemory, Text};
 use ds2_decimal::Dec;
 use std::alloc::Global;
@@ -45,6 +47,19 @@ impl Value {
         match self {
             Value::Null => true,
             _ => false,
+        }
+    }
+
+    /// The value as a cell, which lends its text.
+    #[inline]
+    pub fn as_cell(&self) -> Cell<'_>
+        ensures { lent_value result ≡ self.now }
+    {
+        match self {
+            Value::Null => Cell::Null,
+            Value::Int(i) => Cell::Int(*i),
+            Value::Dec(d) => Cell::Dec(*d),
+            Value::Txt(t) => Cell::Txt(t.as_str()),
         }
     }
 

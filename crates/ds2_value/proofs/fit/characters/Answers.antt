@@ -2,4 +2,4 @@ use Rattle.std.proofs.lemmas.Str.{is_utf8-from_IsUtf8}
 use Rattle.ds2_value.proofs.fit.characters.Goals as goal
 
 pub returns-clause-utf8 : goal.returns-clause-utf8
-returns-clause-utf8 c = is_utf8-from_IsUtf8 c.args.t.now (rw (← c.as_str.ensures) c.as_str.utf8)
+returns-clause-utf8 c = is_utf8-from_IsUtf8 c.args.t.now c.utf8.t
