@@ -1,10 +1,11 @@
 -- Cells and rows that are written one after the other.
-use Rattle.std.proofs.Common.{◌==◌, suc, Bool, true, false, length-append, ◌≡◌, ◌≤◌, ◌<◌, ℕ, List, [], ◌∷◌, ◌++◌, ◌-◌, length, get_or, take, drop, map, refl, sym, ap, ◌∙◌, arith, append_assoc}
-use Rattle.std.proofs.lemmas.List.{append-nil}
+use Rattle.std.proofs.Common.{◌==◌, suc, ◌+◌, Bool, true, false, length-append, ◌≡◌, ◌≤◌, ◌<◌, ℕ, List, [], ◌∷◌, ◌++◌, ◌-◌, length, get_or, take, drop, map, refl, sym, ap, ◌∙◌, arith, append_assoc}
+use Rattle.std.proofs.lemmas.List.{append-nil, take_more}
 use Rattle.std.proofs.lemmas.Bool.{eq-eqb, ne_eqb}
 use Rattle.csv.specs.Writing.{default_writer, field_text, fields_text, is_blank, row_body, row_text}
 use Rattle.ds2_csv_cells.specs.CellText.{cell_text}
 use Rattle.ds2_csv_records.specs.Records.{field_of, record_end, separator}
+use Rattle.ds2_value.specs.Row.{Row}
 use Rattle.ds2_value.specs.declared.schema.Column.{Column}
 use Rattle.ds2_value.specs.declared.value.Value.{Value}
 use Rattle.ds2_csv.specs.Records.{text_of_rows}
@@ -189,3 +190,13 @@ text_after columns rows row =
     ∙ ap (λ (t : List ℕ). row_text default_writer header ++ t) (rows_after columns rows row)
     ∙ sym (append_assoc (row_text default_writer header) (rows_text columns rows) (row_text default_writer (cells_text columns row)))
     ∙ ap (λ (t : List ℕ). t ++ row_text default_writer (cells_text columns row)) (sym (header_and_rows header columns rows))
+
+-- ---- rows by number
+
+pub row_more : (rows : List Row) (i n : ℕ) (row : Row) → n ≡ length rows → i < n → row ≡ get_or rows i [] → take (i + 1) rows ≡ take i rows ++ row ∷ []
+row_more rows i n row e h is = take_more rows i [] (omega (arith, e, h)) ∙ ap (λ (r : Row). take i rows ++ r ∷ []) (sym is)
+
+pub all_taken : (rows : List Row) (n : ℕ) → n ≡ length rows → take n rows ≡ rows
+all_taken rows n e = ap (λ (k : ℕ). take k rows) e ∙ take_all rows
+
+pub ruleset rows_in_turn = (row_more, all_taken)

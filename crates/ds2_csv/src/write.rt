@@ -125,8 +125,16 @@ pub fn write_rows(alloc: Global, columns: &[Column], rows: &[Row]) -> Result<Byt
 }
 
 /// The bytes of a table, as [`write_rows`] gives them for its columns and rows.
+#[tactic(auto, using(crate::proofs::Writing::rows_in_turn))]
 pub fn write_table(alloc: Global, t: &Table) -> Result<Bytes, OutOfMemory>
     ensures { IfOk result (λ bytes. bytes ≡ text t.now) }
 {
-    write_rows(alloc, t.schema().columns().as_slice(), t.rows().as_slice())
+    let columns = t.schema().columns().as_slice();
+    let count = t.len();
+    let mut writer = TableWriter::new(alloc, columns)?;
+    'rows: for row in 0..count {
+        let values = t.row(alloc, row)?;
+        writer.add(alloc, columns, values.as_slice())?;
+    }
+    writer.into_bytes()
 }

@@ -1,13 +1,14 @@
 -- Settings one after the other, and the columns of a row from the last one on.
-use Rattle.std.proofs.Common.{◌≡◌, ℕ, zero, suc, ◌+◌, ◌<◌, min, List, [], ◌∷◌, ◌++◌, length, drop, get_or, refl, sym, ap, ◌∙◌, add-one, arith}
+use Rattle.std.proofs.Common.{◌≡◌, ℕ, zero, suc, ◌+◌, ◌<◌, ◌≤◌, min, List, [], ◌∷◌, ◌++◌, length, drop, get_or, Option, refl, sym, ap, ◌∙◌, add-one, arith}
 use Rattle.std.specs.Prelude.{slice_get, slice_set}
+use Rattle.std.proofs.lemmas.Option.{slice_get-get_or, slice_get_past}
 use Rattle.ds2_value.specs.Row.{Row}
 use Rattle.ds2_value.specs.declared.value.Value.{Value}
 use Rattle.ds2_value.specs.declared.value.Value.TheVariants.{Null}
 use Rattle.ds2_code.specs.declared.parts.Slot.{Slot}
 use Rattle.ds2_code.specs.CodeUnit.{assigned_to_slot, row_slot_settings}
 use Rattle.ds2_code.specs.Desk.{SlotSettings, with_slot_settings}
-use Rattle.ds2_code_answer.specs.CodeLoads.{column_nulls}
+use Rattle.ds2_code_answer.specs.CodeLoads.{column_nulls, settings_of_read}
 
 pub settings_in_turn : (xs ys : SlotSettings) (slots : Row) → with_slot_settings (xs ++ ys) slots ≡ with_slot_settings ys (with_slot_settings xs slots)
 settings_in_turn [] ys slots = refl
@@ -62,3 +63,15 @@ module _ (parts : List Slot) where
       ∙ ap (λ xs. with_slot_settings xs slots) (sym (column_more ns row i 0 v h k e))
 
 pub ruleset columns_in_turn = (columns_first, columns_next)
+
+-- ---- a row of a table, where there is one
+
+module _ (parts : List Slot) (ns : List ℕ) where
+  pub row_past : (rows : List Row) (i : ℕ) (slots : Row) → length rows ≤ i → slots ≡ with_slot_settings (settings_of_read parts ns (slice_get rows i)) slots
+  row_past rows i slots h = ap (λ (o : Option Row). with_slot_settings (settings_of_read parts ns o) slots) (sym (slice_get_past rows i h))
+
+  pub row_there : (rows : List Row) (i : ℕ) (before after : Row) → i < length rows → after ≡ with_slot_settings (row_slot_settings parts ns (get_or rows i [])) before
+      → after ≡ with_slot_settings (settings_of_read parts ns (slice_get rows i)) before
+  row_there rows i before after h set = set ∙ ap (λ (o : Option Row). with_slot_settings (settings_of_read parts ns o) before) (sym (slice_get-get_or rows i [] h))
+
+pub ruleset table_rows = (row_past, row_there)

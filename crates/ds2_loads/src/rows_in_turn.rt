@@ -15,7 +15,7 @@ fn row_count(tables: &Tables, read: &ReadTable) -> usize
 {
     match tables.get(read.table as usize) {
         None => 0,
-        Some(table) => table.rows().len(),
+        Some(table) => table.len(),
     }
 }
 

@@ -5,7 +5,7 @@ ghost use Rattle.ds2_code.specs.Desk.{with_slot_settings};
 ghost use Rattle.ds2_slots.specs.LoadedHashes.{AreSlotTypesInBounds};
 ghost use Rattle.ds2_code_answer.specs.CodeLoads.{slot_flag, column_nulls, table_nulls, row_of_table, settings_of_read, read_settings, in_flag_setting, in_flag_settings, by_flag_settings, first_flag_of, last_flag_of, load_settings};
 
-use crate::columns::set_columns;
+use crate::columns::set_table_row;
 use ds2_base::{List, OutOfMemory};
 use ds2_code::Slot;
 use ds2_reading::{ByKey, Load, ReadTable, Reading, Tables};
@@ -102,14 +102,12 @@ fn set_row(
     let Some(table) = tables.get(read.table as usize) else {
         return Ok(());
     };
-    let Some(values) = table.rows().get(row as usize) else {
-        return Ok(());
-    };
-    set_columns(
+    set_table_row(
         alloc,
         parts,
         read.slots.as_slice(),
-        values.as_slice(),
+        table,
+        row as usize,
         slots,
     )
 }

@@ -2,9 +2,9 @@
 
 use ds2_reading::{HashKey, Tables};
 use ds2_slots::HashTables;
-use ds2_value::Row;
+use ds2_value::Cell;
 
-/// The rows of tables: those of its hash objects are the first of a program's tables.
+/// The values of tables: those of its hash objects are the first of a program's tables.
 #[derive(Drop)]
 pub struct TableRows<'a> {
     pub tables: &'a Tables,
@@ -16,10 +16,18 @@ impl HashTables for TableRows<'_> {
     ghost tables = { λ t. rows_of_each t.tables.now };
 
     #[tactic(auto, using(crate::proofs::NumberedTables::numbered))]
-    fn rows(&self, number: usize) -> Option<&[Row]> {
-        match self.tables.get(number) {
+    fn row_count(&self, table: usize) -> Option<usize> {
+        match self.tables.get(table) {
             None => None,
-            Some(table) => Some(table.rows().as_slice()),
+            Some(found) => Some(found.len()),
+        }
+    }
+
+    #[tactic(auto, using(crate::proofs::NumberedTables::numbered_rows))]
+    fn cell(&self, table: usize, row: usize, column: usize) -> Cell<'_> {
+        match self.tables.get(table) {
+            None => Cell::Null,
+            Some(found) => found.cell(row, column),
         }
     }
 

@@ -6,17 +6,17 @@ use Rattle.std.specs.List.Sorted.{IsPermutation, IsSortedBy, IsStableBy, ties}
 use Rattle.std.specs.Ordering.{nat_cmp, is_lt, is_ne, ordering_reverse}
 use Rattle.std.specs.declared.cmp.Ordering.{Ordering}
 use Rattle.std.specs.declared.cmp.Ordering.TheVariants.{Less, Equal, Greater}
-use Rattle.std.proofs.lemmas.List.{length-append, length-map, map-append, get_or-map, get_or_default}
+use Rattle.std.proofs.lemmas.List.{length-append, length-map, map-append, get_or-map}
 use Rattle.std.proofs.lemmas.List.Elements.{All-head, All-tail, All-push}
 use Rattle.std.proofs.lemmas.List.FromFn.{length-range_with_len, get_or-range_with_len}
 use Rattle.std.proofs.lemmas.List.Sorted.{All-permutation, IsPermutation-map}
 use Rattle.ds2_value.specs.Order.{key_order}
 use Rattle.ds2_value.specs.Row.{Row}
-use Rattle.ds2_value.specs.Value.{or_null}
 use Rattle.ds2_value.specs.declared.value.Value.{Value}
 use Rattle.ds2_value.specs.declared.value.Value.TheVariants.{Null, Int}
 use Rattle.ds2_table.specs.LoadLaws.{AreKeys}
 use Rattle.ds2_table.specs.Loads.{value_order}
+use Rattle.ds2_table.specs.Table.{table_value}
 use Rattle.ds2_reading.specs.KeyHeads.{IsKeyHead, tells_all, AreKeyHeads, BeginsKey, number_in_table, AreHeadedRows, headed_directions, is_headed_before}
 use Rattle.ds2_reading.specs.KeyOrder.{part_of_key, parts_order, is_row_before, IsOrderOfRows}
 use Rattle.ds2_reading.specs.ReadingKeys.{key_in_columns, keys_in_columns}
@@ -45,16 +45,13 @@ head_there (first ∷ heads) (key ∷ keys) zero head h e =
 head_there (first ∷ heads) (key ∷ keys) (suc row) head h e = head_there heads keys row head h.1 e
 
 -- the head of the value that a row has in the first column
-pub head_read : (columns : List ℕ) (rows : List Row) (heads more : List ℕ) (row column head : ℕ) (values : Row) → (length heads ≡ row) × AreKeyHeads heads (keys_in_columns columns rows)
-    → row < length rows → slice_get columns 0 ≡ Some column → values ≡ get_or rows row values → IsKeyHead head (or_null (slice_get values column))
+pub head_read : (columns : List ℕ) (rows : List Row) (heads more : List ℕ) (row column head : ℕ) (value : Value) → (length heads ≡ row) × AreKeyHeads heads (keys_in_columns columns rows)
+    → row < length rows → slice_get columns 0 ≡ Some column → value ≡ table_value rows row column → IsKeyHead head value
     → more ≡ heads ++ head ∷ [] → (length more ≡ row + 1) × AreKeyHeads more (keys_in_columns columns rows)
-head_read columns rows heads more row column head values h l first is own new = (long, all)
+head_read columns rows heads more row column head value h l first is own new = (long, all)
   where
-    there : values ≡ get_or rows row []
-    there = is ∙ get_or_default rows row values [] l
-
-    key : part_of_key (get_or (keys_in_columns columns rows) row []) 0 ≡ or_null (slice_get values column)
-    key = part_is columns rows row 0 column first ∙ ap (λ (r : Row). or_null (slice_get r column)) (sym there)
+    key : part_of_key (get_or (keys_in_columns columns rows) row []) 0 ≡ value
+    key = part_is columns rows row 0 column first ∙ sym is
 
     long : length more ≡ row + 1
     long = omega (arith, ap length new, length-append heads (head ∷ []), h.0)

@@ -3,13 +3,13 @@ use Rattle.std.proofs.Common.{◌≡◌, ℕ, zero, suc, ◌+◌, ◌<◌, ◌�
 use Rattle.std.specs.Prelude.{slice_get, get_or, Option, Some, None}
 use Rattle.std.specs.Option.{option_map, option_map_or}
 use Rattle.std.proofs.lemmas.List.{length-map}
-use Rattle.std.proofs.lemmas.Option.{slice_get-map, slice_get-get_or, slice_get_past, get_or_from_slice_get}
+use Rattle.std.proofs.lemmas.Option.{slice_get-map, slice_get-get_or, slice_get_past}
 use Rattle.ds2_value.specs.Row.{Row}
 use Rattle.ds2_value.specs.Value.{or_null}
 use Rattle.ds2_value.specs.declared.value.Value.{Value}
 use Rattle.ds2_table.specs.LoadLaws.{AreKeys, HaveTableKeys}
 use Rattle.ds2_table.specs.Loads.{numbered_rows, in_by_order}
-use Rattle.ds2_table.specs.Table.{Contents}
+use Rattle.ds2_table.specs.Table.{Contents, table_value}
 use Rattle.ds2_reading.specs.declared.reading.ByKey.{ByKey}
 use Rattle.ds2_reading.specs.declared.reading.ReadTable.{ReadTable}
 use Rattle.ds2_reading.specs.declared.reading.Reading.{Reading}
@@ -47,7 +47,7 @@ one_has ds (keys ∷ tables) (suc t) h = one_has ds tables t h.1
 
 -- the value of a row in the column of a BY variable
 pub part_is : (columns : List ℕ) (rows : List Row) (row by column : ℕ) → slice_get columns by ≡ Some column
-    → part_of_key (get_or (keys_in_columns columns rows) row []) by ≡ or_null (slice_get (get_or rows row []) column)
+    → part_of_key (get_or (keys_in_columns columns rows) row []) by ≡ table_value rows row column
 part_is columns [] row by column e = refl
 part_is columns (r ∷ rows) zero by column e =
     ap or_null (slice_get-map (λ c. or_null (slice_get r c)) columns by ∙ ap (option_map (λ c. or_null (slice_get r c))) e)
@@ -60,12 +60,6 @@ part_past columns [] row by e = refl
 part_past columns (r ∷ rows) zero by e =
     ap or_null (slice_get-map (λ c. or_null (slice_get r c)) columns by ∙ ap (option_map (λ c. or_null (slice_get r c))) e)
 part_past columns (r ∷ rows) (suc row) by e = part_past columns rows row by e
-
--- nor has any in a row that is not there
-pub row_past : (rows : List Row) (row column : ℕ) → slice_get rows row ≡ None → or_null (slice_get (get_or rows row []) column) ≡ or_null None
-row_past [] row column e = refl
-row_past (r ∷ rows) zero column e = let k : Some r ≡ None = e in cc
-row_past (r ∷ rows) (suc row) column e = row_past rows row column e
 
 -- ---- orders of rows
 
@@ -111,24 +105,11 @@ row_beyond ds orders tables t place numbers xs h e same l =
     ap (option_map (numbered_row t (get_or tables t []))) (sym (slice_get_past xs place l) ∙ ap (λ ys. slice_get ys place) same)
     ∙ row_there ds (get_or tables t []) numbers t place (order_there ds orders tables t numbers h e)
 
--- the part of a row that is there, and of one that is not
-pub part_there : (columns : List ℕ) (rows : List Row) (row by column : ℕ) (values : Row) → slice_get columns by ≡ Some column → slice_get rows row ≡ Some values
-    → part_of_key (get_or (keys_in_columns columns rows) row []) by ≡ or_null (slice_get values column)
-part_there columns rows row by column values e f =
-    part_is columns rows row by column e ∙ ap (λ (r : Row). or_null (slice_get r column)) (get_or_from_slice_get rows row values [] f)
-
-pub part_nowhere : (columns : List ℕ) (rows : List Row) (row by column : ℕ) → slice_get columns by ≡ Some column → slice_get rows row ≡ None
-    → part_of_key (get_or (keys_in_columns columns rows) row []) by ≡ or_null None
-part_nowhere columns rows row by column e f = part_is columns rows row by column e ∙ row_past rows row column f
-
 -- a table that is not there has no rows
 pub no_rows : (tables : List (List (List Value))) (t : ℕ) → slice_get tables t ≡ None → 0 ≡ length (get_or tables t [])
 no_rows [] t e = refl
 no_rows (keys ∷ tables) zero e = let none : Some keys ≡ None = e in cc
 no_rows (keys ∷ tables) (suc t) e = no_rows tables t e
-
--- for the parts of a key
-pub ruleset key_parts = (part_is, part_past, row_past)
 
 -- for orders of rows
 pub ruleset orders = (order_there, order_past, row_there)

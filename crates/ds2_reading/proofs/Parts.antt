@@ -2,7 +2,7 @@
 use Rattle.std.proofs.Common.{◌≡◌, ℕ, zero, suc, ◌+◌, ◌-◌, ◌<◌, ◌≤◌, Bool, true, false, List, [], ◌∷◌, length, drop, refl, sym, ap, ◌∙◌, arith}
 use Rattle.std.specs.Prelude.{slice_get, get_or, Option, Some, None, if◌then◌else◌}
 use Rattle.std.specs.Cmp.{IsTotalOrder, tied_itself}
-use Rattle.std.specs.Ordering.{is_eq, is_ne, ordering_then, ordering_reverse}
+use Rattle.std.specs.Ordering.{is_eq, is_ne, ordering_then}
 use Rattle.std.specs.declared.cmp.Ordering.{Ordering}
 use Rattle.std.specs.declared.cmp.Ordering.TheVariants.{Less, Equal, Greater}
 use Rattle.std.proofs.lemmas.Cmp.{then_total, on_total}
@@ -18,9 +18,6 @@ use Rattle.ds2_table.proofs.ByOrder.{order_total, Fits}
 use Rattle.ds2_reading.specs.KeyOrder.{part_of_key, parts_order, parts_in_common}
 
 -- ---- null
-
-pub null_turned : (x : Value) → ordering_reverse (key_order x Null) ≡ key_order Null x
-null_turned x = let t = key_order_total in sym (t.antisymm Null x)
 
 pub null_itself : key_order Null Null ≡ Equal
 null_itself = tied_itself key_order_total Null
@@ -123,9 +120,6 @@ pub unequal_from_order : (r : Ordering) → is_ne r ≡ true → is_eq r ≡ fal
 unequal_from_order Less h = refl
 unequal_from_order Equal h = cc
 unequal_from_order Greater h = refl
-
--- for the null that stands for a part that is lacking
-pub ruleset nulls = (null_turned, null_itself)
 
 -- for the parts that two keys have in common
 pub ruleset common_parts = (common_equal, common_unequal, equal_from_order, unequal_from_order)

@@ -1,15 +1,15 @@
 //! The heads of keys: a whole number of each row that most comparisons of keys need alone.
-ghost use Rattle.std.specs.Prelude.{◌≡◌, [], ◌<◌, IfOk, IfSome, option_copied};
+ghost use Rattle.std.specs.Prelude.{◌≡◌, [], ◌<◌, IfOk, IfSome};
 ghost use Rattle.std.specs.Str.{chars};
+ghost use Rattle.ds2_value.specs.Cell.{lent_value};
 ghost use Rattle.ds2_value.specs.Texts.{padded_cmp};
-ghost use Rattle.ds2_value.specs.Value.{or_null};
 ghost use Rattle.ds2_value.specs.declared.value.Value.TheVariants.{Int};
 ghost use Rattle.ds2_reading.specs.KeyHeads.{first_digit, behind_digit, rest_digit, head_with_digits, tells_all, IsKeyHead, AreKeyHeads};
 ghost use Rattle.ds2_reading.specs.ReadingKeys.{keys_in_columns};
 
 use ds2_base::{List, OutOfMemory};
 use ds2_table::Table;
-use ds2_value::Value;
+use ds2_value::Cell;
 use std::alloc::Global;
 use std::cmp::Ordering;
 
@@ -99,18 +99,15 @@ fn text_head(text: &str) -> u128
     bytes_head(text.as_bytes())
 }
 
-// The head of a value, where one that is lacking counts as null; decimals have none.
-fn head_of(value: Option<&Value>) -> Option<u128>
-    ensures { IfSome result (λ head. IsKeyHead head (or_null (option_copied value.entry))) }
+// The head of a value; decimals have none.
+fn head_of(value: &Cell<'_>) -> Option<u128>
+    ensures { IfSome result (λ head. IsKeyHead head (lent_value value.now)) }
 {
     match value {
-        None => Some(NOTHING_LEFT_OUT),
-        Some(part) => match part {
-            Value::Null => Some(NOTHING_LEFT_OUT),
-            Value::Int(i) => Some(number_head(*i)),
-            Value::Dec(_) => None,
-            Value::Txt(t) => Some(text_head(t.as_str())),
-        },
+        Cell::Null => Some(NOTHING_LEFT_OUT),
+        Cell::Int(i) => Some(number_head(*i)),
+        Cell::Dec(_) => None,
+        Cell::Txt(t) => Some(text_head(*t)),
     }
 }
 
@@ -126,10 +123,11 @@ pub(crate) fn heads_of(
     let Some(column) = columns.get(0) else {
         return Ok(heads);
     };
-    let rows = table.rows().as_slice();
-    heads.reserve(rows.len())?;
-    'rows: for row in 0..rows.len() {
-        let Some(head) = head_of(rows[row].get(*column)) else {
+    let count = table.len();
+    heads.reserve(count)?;
+    'rows: for row in 0..count {
+        let value = table.cell(row, *column);
+        let Some(head) = head_of(&value) else {
             return Ok(List::new(alloc));
         };
         heads.push(head)?;

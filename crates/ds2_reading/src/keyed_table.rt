@@ -1,6 +1,6 @@
 //! A table with the columns of the BY variables.
-ghost use Rattle.std.specs.Prelude.{◌≡◌, [], IsTrue, IfOk, IfSome, length, get_or, option_copied, slice_get};
-ghost use Rattle.ds2_value.specs.Value.{or_null};
+ghost use Rattle.std.specs.Prelude.{◌≡◌, [], IsTrue, IfOk, IfSome, length, get_or};
+ghost use Rattle.ds2_value.specs.Cell.{lent_value};
 ghost use Rattle.ds2_reading.specs.KeyHeads.{IsKeyHead};
 ghost use Rattle.ds2_reading.specs.ReadingKeys.{keys_of_table};
 ghost use Rattle.ds2_reading.specs.KeyOrder.{part_of_key};
@@ -11,7 +11,7 @@ use crate::heads::heads_of;
 use crate::{ByKey, ReadTable, Tables};
 use ds2_base::{List, OutOfMemory};
 use ds2_table::Table;
-use ds2_value::Value;
+use ds2_value::Cell;
 use std::alloc::Global;
 use std::marker::Model;
 use std::sync::Arc;
@@ -68,16 +68,17 @@ impl KeyedTable {
     pub(crate) fn len(&self) -> usize
         ensures { result ≡ length self.now }
     {
-        self.table.rows().len()
+        self.table.len()
     }
 
-    /// The value of a BY variable in a row; null, or None, where there is none.
-    #[tactic(auto, using(crate::proofs::Keys::key_parts))]
-    pub(crate) fn part(&self, row: usize, by: usize) -> Option<&Value>
-        ensures { or_null (option_copied result) ≡ part_of_key (get_or self.now row []) by }
+    /// The value of a BY variable in a row; null where there is none.
+    pub(crate) fn part(&self, row: usize, by: usize) -> Cell<'_>
+        ensures { lent_value result ≡ part_of_key (get_or self.now row []) by }
     {
-        let column = *self.columns.get(by)?;
-        self.table.rows().get(row)?.get(column)
+        match self.columns.get(by) {
+            None => Cell::Null,
+            Some(column) => self.table.cell(row, *column),
+        }
     }
 
     /// The head of a row's key; None where heads are not kept, or there is no such row.

@@ -1,7 +1,7 @@
 //! How rows stand by their keys.
-ghost use Rattle.std.specs.Prelude.{◌≡◌, IfSome, drop, length, option_copied};
+ghost use Rattle.std.specs.Prelude.{◌≡◌, IfSome, drop, length};
+ghost use Rattle.ds2_value.specs.Cell.{lent_value};
 ghost use Rattle.ds2_value.specs.Order.{key_order};
-ghost use Rattle.ds2_value.specs.Value.{or_null};
 ghost use Rattle.ds2_table.specs.Loads.{value_order};
 ghost use Rattle.ds2_reading.specs.KeyHeads.{IsKeyHead};
 ghost use Rattle.ds2_reading.specs.KeyOrder.{row_in, part_of_key, parts_order, parts_in_common};
@@ -9,44 +9,17 @@ ghost use Rattle.ds2_reading.specs.KeyOrder.{row_in, part_of_key, parts_order, p
 use crate::TableRow;
 use crate::heads::tells_all;
 use crate::keyed_table::KeyedTable;
-use ds2_value::{Value, key_compare};
+use ds2_value::Cell;
 use std::cmp::Ordering;
 
-// How two parts of keys stand, where one that is lacking counts as null.
-#[tactic(auto, using(crate::proofs::Parts::nulls))]
-fn compare_parts(a: Option<&Value>, b: Option<&Value>) -> Ordering
-    ensures { result ≡ key_order (or_null (option_copied a.entry)) (or_null (option_copied b.entry)) }
+// The value of a BY variable in a row; null where there is none.
+fn part(tables: &[KeyedTable], row: TableRow, by: usize) -> Cell<'_>
+    ensures { lent_value result ≡ part_of_key (row_in tables.now row).key by }
 {
-    match a {
-        Some(x) => match b {
-            Some(y) => key_compare(x, y),
-            None => compare_to_null(x),
-        },
-        None => match b {
-            Some(y) => compare_to_null(y).reverse(),
-            None => Ordering::Equal,
-        },
+    match tables.get(row.table) {
+        None => Cell::Null,
+        Some(table) => table.part(row.row, by),
     }
-}
-
-// How a value stands to null.
-#[tactic(auto, unfolding(ds2_value::specs::Order::key_order))]
-fn compare_to_null(x: &Value) -> Ordering
-    ensures { result ≡ key_order x.now Value.Null }
-{
-    match x {
-        Value::Null => Ordering::Equal,
-        Value::Int(_) => Ordering::Greater,
-        Value::Dec(_) => Ordering::Greater,
-        Value::Txt(_) => Ordering::Greater,
-    }
-}
-
-// The value of a BY variable in a row; None where there is none.
-fn part(tables: &[KeyedTable], row: TableRow, by: usize) -> Option<&Value>
-    ensures { or_null (option_copied result) ≡ part_of_key (row_in tables.now row).key by }
-{
-    tables.get(row.table)?.part(row.row, by)
 }
 
 // The head of a row's key; None where there is none.
@@ -79,7 +52,9 @@ fn compare_by(tables: &[KeyedTable], a: TableRow, b: TableRow, by: usize) -> Ord
             return order;
         }
     }
-    compare_parts(part(tables, a, by), part(tables, b, by))
+    let first = part(tables, a, by);
+    let second = part(tables, b, by);
+    first.key_compare(&second)
 }
 
 // How two rows stand by a BY variable, in its direction.

@@ -2,6 +2,7 @@
 use Rattle.std.proofs.Common.{◌≡◌, ℕ, zero, suc, ◌+◌, ◌<◌, Bool, true, false, ◌&&◌, List, [], ◌∷◌, ◌++◌, Option, Some, None, length, drop, get_or, refl, sym, ap, ◌∙◌, subst, append_assoc, add-one, arith, IsTrue}
 use Rattle.std.specs.Prelude.{slice_get}
 use Rattle.std.specs.List.{list_all}
+use Rattle.std.specs.Option.{option_map}
 use Rattle.ds2_value.specs.HashList.{HashItems, hash_answer}
 use Rattle.ds2_value.specs.Row.{Row}
 use Rattle.ds2_value.specs.Types.{in_bounds}
@@ -74,15 +75,48 @@ module _ (slots : List Slot) (part : HashPart) (loaded : HashTable) where
   abbrev added : Row → HashItems → HashItems
   added row items = (hash_answer hash.Add (columns_for slots part.key_slots loaded.key_columns row) (columns_for slots part.data_slots loaded.data_columns row) items).items
 
-  rows_more : (rows : List Row) (items : HashItems) (i : ℕ) (row : Row) → i < length rows → row ≡ get_or rows i row
-      → with_rows_added slots part loaded (drop i rows) items ≡ with_rows_added slots part loaded (drop (suc i) rows) (added row items)
-  rows_more [] items i row h e = absurd (omega (arith, h))
-  rows_more (x ∷ rows) items zero row h e = let same : row ≡ x = cc in ap (λ (z : Row). with_rows_added slots part loaded rows (added z items)) (sym same)
-  rows_more (x ∷ rows) items (suc i) row h e = rows_more rows items i row (omega arith) e
+  rows_more : (rows : List Row) (items : HashItems) (i : ℕ) → i < length rows
+      → with_rows_added slots part loaded (drop i rows) items ≡ with_rows_added slots part loaded (drop (suc i) rows) (added (get_or rows i []) items)
+  rows_more [] items i h = absurd (omega (arith, h))
+  rows_more (x ∷ rows) items zero h = refl
+  rows_more (x ∷ rows) items (suc i) h = rows_more rows items i (omega arith)
 
-  pub rows_next : (rows : List Row) (items : HashItems) (i : ℕ) (row : Row) → i < length rows → row ≡ get_or rows i row
-      → with_rows_added slots part loaded (drop i rows) items ≡ with_rows_added slots part loaded (drop (i + 1) rows) (added row items)
-  rows_next rows items i row h e = rw (add-one i) (rows_more rows items i row h e)
+  pub rows_next : (rows : List Row) (items whole : HashItems) (i n : ℕ) → n ≡ length rows → i < n → with_rows_added slots part loaded (drop i rows) items ≡ whole
+      → with_rows_added slots part loaded (drop (i + 1) rows) (added (get_or rows i []) items) ≡ whole
+  rows_next rows items whole i n e h so_far =
+      ap (λ (k : ℕ). with_rows_added slots part loaded (drop k rows) (added (get_or rows i []) items)) (add-one i)
+      ∙ sym (rows_more rows items i (omega (arith, e, h))) ∙ so_far
+
+  pub rows_end : (rows : List Row) (items : HashItems) (n : ℕ) → n ≡ length rows → with_rows_added slots part loaded (drop n rows) items ≡ items
+  rows_end [] items zero e = refl
+  rows_end [] items (suc n) e = refl
+  rows_end (x ∷ rows) items zero e = absurd (omega (arith, e))
+  rows_end (x ∷ rows) items (suc n) e = rows_end rows items n (omega (arith, e))
+
+pub ruleset rows = (rows_next, rows_end)
+
+-- a value in a row and a column
+pub no_row : (rows : List Row) (i c : ℕ) → slice_get rows i ≡ None → or_null None ≡ or_null (slice_get (get_or rows i []) c)
+no_row [] i c h = refl
+no_row (row ∷ rows) zero c h = let none : Some row ≡ None = h in cc
+no_row (row ∷ rows) (suc i) c h = no_row rows i c h
+
+pub no_table_row : (tables : List (List Row)) (t i c : ℕ) → slice_get tables t ≡ None → or_null None ≡ or_null (slice_get (get_or (get_or tables t []) i []) c)
+no_table_row [] t i c h = refl
+no_table_row (rows ∷ tables) zero i c h = let none : Some rows ≡ None = h in cc
+no_table_row (rows ∷ tables) (suc t) i c h = no_table_row tables t i c h
+
+pub table_there : (tables : List (List Row)) (t : ℕ) (rows : List Row) → slice_get tables t ≡ Some rows → rows ≡ get_or tables t []
+table_there [] t rows h = let none : None ≡ Some rows = h in cc
+table_there (x ∷ tables) zero rows h = cc
+table_there (x ∷ tables) (suc t) rows h = table_there tables t rows h
+
+pub row_there : (rows : List Row) (i : ℕ) (row : Row) → slice_get rows i ≡ Some row → row ≡ get_or rows i []
+row_there [] i row h = let none : None ≡ Some row = h in cc
+row_there (x ∷ rows) zero row h = cc
+row_there (x ∷ rows) (suc i) row h = row_there rows i row h
+
+pub ruleset cells = (no_row, no_table_row, table_there, row_there)
 
 -- ---- one object
 
@@ -91,22 +125,30 @@ module _ (slots : List Slot) (part : HashPart) where
   not_loaded None tables h = refl
   not_loaded (Some loaded) tables h = absurd cc
 
-  pub no_table : (o : Option HashTable) (tables : List (List Row)) (n : ℕ) → slice_get tables n ≡ None → [] ≡ opening_items slots part o (drop n tables)
+  pub no_table : (o : Option HashTable) (tables : List (List Row)) (n : ℕ) → None ≡ option_map (λ (rows : List Row). length rows) (slice_get tables n) → [] ≡ opening_items slots part o (drop n tables)
   no_table None tables n h = refl
   no_table (Some loaded) [] zero h = refl
   no_table (Some loaded) [] (suc n) h = refl
-  no_table (Some loaded) (t ∷ tables) zero h = absurd cc
+  no_table (Some loaded) (t ∷ tables) zero h = let none : None ≡ Some (length t) = h in cc
   no_table (Some loaded) (t ∷ tables) (suc n) h = no_table (Some loaded) tables n h
 
-  from_rows : (loaded : HashTable) (tables : List (List Row)) (n : ℕ) (rows : List Row) → slice_get tables n ≡ Some rows → with_rows_added slots part loaded rows [] ≡ opening_items slots part (Some loaded) (drop n tables)
-  from_rows loaded [] n rows h = absurd cc
-  from_rows loaded (t ∷ tables) zero rows h = let same : rows ≡ t = cc in ap (λ (z : List Row). with_rows_added slots part loaded z []) same
-  from_rows loaded (t ∷ tables) (suc n) rows h = from_rows loaded tables n rows h
+  from_rows : (loaded : HashTable) (tables : List (List Row)) (n count : ℕ) → Some count ≡ option_map (λ (rows : List Row). length rows) (slice_get tables n)
+      → with_rows_added slots part loaded (get_or tables n []) [] ≡ opening_items slots part (Some loaded) (drop n tables)
+  from_rows loaded [] n count h = let none : Some count ≡ None = h in cc
+  from_rows loaded (t ∷ tables) zero count h = refl
+  from_rows loaded (t ∷ tables) (suc n) count h = from_rows loaded tables n count h
 
-  pub from_table : (o : Option HashTable) (loaded : HashTable) (tables : List (List Row)) (n : ℕ) (rows : List Row) → o ≡ Some loaded → slice_get tables n ≡ Some rows → with_rows_added slots part loaded rows [] ≡ opening_items slots part o (drop n tables)
-  from_table o loaded tables n rows is h = from_rows loaded tables n rows h ∙ ap (λ (z : Option HashTable). opening_items slots part z (drop n tables)) (sym is)
+  pub from_table : (o : Option HashTable) (loaded : HashTable) (tables : List (List Row)) (n count : ℕ) → o ≡ Some loaded → Some count ≡ option_map (λ (rows : List Row). length rows) (slice_get tables n)
+      → with_rows_added slots part loaded (get_or tables n []) [] ≡ opening_items slots part o (drop n tables)
+  from_table o loaded tables n count is h = from_rows loaded tables n count h ∙ ap (λ (z : Option HashTable). opening_items slots part z (drop n tables)) (sym is)
 
-pub ruleset object = (not_loaded, no_table, from_table)
+-- how many rows a table has
+pub counted : (tables : List (List Row)) (n count : ℕ) → Some count ≡ option_map (λ (rows : List Row). length rows) (slice_get tables n) → count ≡ length (get_or tables n [])
+counted [] n count h = let none : Some count ≡ None = h in cc
+counted (t ∷ tables) zero count h = let same : Some count ≡ Some (length t) = h in cc
+counted (t ∷ tables) (suc n) count h = counted tables n count h
+
+pub ruleset object = (not_loaded, no_table, from_table, counted)
 
 -- ---- all of them
 

@@ -1,19 +1,19 @@
 //! Hash objects that begin with the rows of tables.
-ghost use Rattle.std.specs.Prelude.{◌≡◌, ◌+◌, ◌<◌, ◌≤◌, ◌^◌, IsTrue, IfOk, OnOk, List as Items, drop, slice_get};
+ghost use Rattle.std.specs.Prelude.{◌≡◌, ◌+◌, ◌<◌, ◌≤◌, ◌^◌, [], IsTrue, IfOk, OnOk, List as Items, length, drop, get_or, slice_get};
+ghost use Rattle.ds2_value.specs.Cell.{lent_value};
 ghost use Rattle.ds2_value.specs.HashList.{hash_answer};
 ghost use Rattle.ds2_value.specs.Operations.{or_null_at_fault};
 ghost use Rattle.ds2_value.specs.Row.{Row as RowOf};
 ghost use Rattle.ds2_value.specs.Types.{in_bounds, assign_of};
-ghost use Rattle.ds2_value.specs.Value.{or_null};
 ghost use Rattle.ds2_value.specs.declared.hash_function.HashFunction.TheVariants as hash;
 ghost use Rattle.ds2_code.specs.CodeUnit.{assigned_to_slot, columns_for, with_rows_added, opening_items, opening_hashes, further_tables};
-ghost use Rattle.ds2_slots.specs.LoadedHashes.{AreSlotTypesInBounds};
+ghost use Rattle.ds2_slots.specs.LoadedHashes.{AreSlotTypesInBounds, row_in_table};
 
 use crate::tables::HashTables;
 use ds2_base::{List, OutOfMemory, Stop};
 use ds2_code::{HashPart, HashTable, Slot};
 use ds2_hash::HashObject;
-use ds2_value::{Row, Ty, Value, assign};
+use ds2_value::{Cell, Row, Ty, Value};
 use std::alloc::Global;
 
 /// The hash objects of a program before its first unit, in order: each with the rows of its table, where it names one.
@@ -56,58 +56,74 @@ fn load_object<T: HashTables>(
     slots: &[Slot],
     part: &HashPart,
     tables: &T,
-    number: usize,
+    table: usize,
 ) -> Result<HashObject, OutOfMemory>
     requires { AreSlotTypesInBounds slots.now }
-    ensures { IfOk result (λ object. object ≡ opening_items slots.now part.now part.now.loaded (drop number (T.tables tables.now))) }
+    ensures { IfOk result (λ object. object ≡ opening_items slots.now part.now part.now.loaded (drop table (T.tables tables.now))) }
 {
     let mut object = HashObject::open(alloc, tables.key());
     let Some(loaded) = &part.loaded else {
         return Ok(object);
     };
-    let Some(rows) = tables.rows(number) else {
+    let Some(count) = tables.row_count(table) else {
         return Ok(object);
     };
-    add_rows(alloc, slots, part, loaded, rows, &mut object)?;
+    add_rows(
+        alloc,
+        slots,
+        part,
+        loaded,
+        tables,
+        table,
+        count,
+        &mut object,
+    )?;
     Ok(object)
 }
 
-// Adds the items of rows of a table, in order; a row whose key is present adds none.
-#[tactic(auto, using(crate::proofs::LoadedSteps::rows_next))]
-fn add_rows(
+// Adds the items of the rows of a table, so many, in order; a row whose key is present adds none.
+#[tactic(auto, using(crate::proofs::LoadedSteps::rows))]
+fn add_rows<T: HashTables>(
     alloc: Global,
     slots: &[Slot],
     part: &HashPart,
     loaded: &HashTable,
-    rows: &[Row],
+    tables: &T,
+    table: usize,
+    count: usize,
     object: &mut HashObject,
 ) -> Result<(), OutOfMemory>
-    requires { AreSlotTypesInBounds slots.now }
-    ensures { OnOk result (object.new ≡ with_rows_added slots.now part.now loaded.now rows.now object.old) }
+    requires bounds { AreSlotTypesInBounds slots.now }
+    requires count { count ≡ length (get_or (T.tables tables.now) table []) }
+    ensures { OnOk result (object.new ≡ with_rows_added slots.now part.now loaded.now (get_or (T.tables tables.now) table []) object.old) }
 {
-    for row in rows {
-        add_row(alloc, slots, part, loaded, row.as_slice(), object)?;
+    'rows: for row in 0..count {
+        add_row(alloc, slots, part, loaded, tables, table, row, object)?;
     }
     Ok(())
 }
 
 // Adds the item of a row of a table; none where its key is present.
-fn add_row(
+fn add_row<T: HashTables>(
     alloc: Global,
     slots: &[Slot],
     part: &HashPart,
     loaded: &HashTable,
-    row: &[Value],
+    tables: &T,
+    table: usize,
+    row: usize,
     object: &mut HashObject,
 ) -> Result<(), OutOfMemory>
     requires { AreSlotTypesInBounds slots.now }
-    ensures { OnOk result (object.new ≡ (hash_answer hash.Add (columns_for slots.now part.now.key_slots loaded.now.key_columns row.now) (columns_for slots.now part.now.data_slots loaded.now.data_columns row.now) object.old).items) }
+    ensures { let values = row_in_table (T.tables tables.now) table row in OnOk result (object.new ≡ (hash_answer hash.Add (columns_for slots.now part.now.key_slots loaded.now.key_columns values) (columns_for slots.now part.now.data_slots loaded.now.data_columns values) object.old).items) }
 {
     let key = columns_for(
         alloc,
         slots,
         part.key_slots.as_slice(),
         loaded.key_columns.as_slice(),
+        tables,
+        table,
         row,
     )?;
     let item = columns_for(
@@ -115,6 +131,8 @@ fn add_row(
         slots,
         part.data_slots.as_slice(),
         loaded.data_columns.as_slice(),
+        tables,
+        table,
         row,
     )?;
     let _added = object.add(key, item)?;
@@ -123,43 +141,28 @@ fn add_row(
 
 // The columns of a row for slots, each value in the type of its slot.
 #[tactic(auto, using(crate::proofs::LoadedSteps::columns))]
-fn columns_for(
+fn columns_for<T: HashTables>(
     alloc: Global,
     slots: &[Slot],
     numbers: &[u32],
     columns: &[u32],
-    row: &[Value],
+    tables: &T,
+    table: usize,
+    row: usize,
 ) -> Result<Row, OutOfMemory>
     requires { AreSlotTypesInBounds slots.now }
-    ensures { IfOk result (λ list. list ≡ columns_for slots.now numbers.now columns.now row.now) }
+    ensures { IfOk result (λ list. list ≡ columns_for slots.now numbers.now columns.now (row_in_table (T.tables tables.now) table row)) }
 {
     let mut list = List::new(alloc);
     for (place, number) in numbers.iter().enumerate() {
         let Some(column) = columns.get(place) else {
             return Ok(list);
         };
-        let value = column_for(alloc, slots, *number as usize, *column as usize, row)?;
+        let cell = tables.cell(table, row, *column as usize);
+        let value = value_for(alloc, slots, *number as usize, &cell)?;
         list.push(value)?;
     }
     Ok(list)
-}
-
-// A column of a row in the type of a slot; null where the row has none of the number.
-fn column_for(
-    alloc: Global,
-    slots: &[Slot],
-    number: usize,
-    column: usize,
-    row: &[Value],
-) -> Result<Value, OutOfMemory>
-    requires { AreSlotTypesInBounds slots.now }
-    ensures { IfOk result (λ value. value ≡ assigned_to_slot (slice_get slots.now number) (or_null (slice_get row.now column))) }
-{
-    let none = Value::Null;
-    match row.get(column) {
-        None => value_for(alloc, slots, number, &none),
-        Some(value) => value_for(alloc, slots, number, value),
-    }
 }
 
 // A value in the type of a slot; as it is where there is no such slot.
@@ -168,23 +171,23 @@ fn value_for(
     alloc: Global,
     slots: &[Slot],
     number: usize,
-    value: &Value,
+    value: &Cell<'_>,
 ) -> Result<Value, OutOfMemory>
     requires { AreSlotTypesInBounds slots.now }
-    ensures { IfOk result (λ given. given ≡ assigned_to_slot (slice_get slots.now number) value.now) }
+    ensures { IfOk result (λ given. given ≡ assigned_to_slot (slice_get slots.now number) (lent_value value.now)) }
 {
     match slots.get(number) {
-        None => value.copy(alloc),
+        None => value.to_value(alloc),
         Some(slot) => assigned(alloc, value, slot.ty),
     }
 }
 
 // A value in a type to which it may be assigned; null where that faults.
-fn assigned(alloc: Global, value: &Value, ty: Ty) -> Result<Value, OutOfMemory>
+fn assigned(alloc: Global, value: &Cell<'_>, ty: Ty) -> Result<Value, OutOfMemory>
     requires { IsTrue (in_bounds ty) }
-    ensures { IfOk result (λ given. given ≡ or_null_at_fault (assign_of value.now ty)) }
+    ensures { IfOk result (λ given. given ≡ or_null_at_fault (assign_of (lent_value value.now) ty)) }
 {
-    match assign(alloc, value, ty) {
+    match value.assign(alloc, ty) {
         Ok(given) => Ok(given),
         Err(Stop::Refused(_fault)) => Ok(Value::Null),
         Err(Stop::OutOfMemory) => Err(OutOfMemory),

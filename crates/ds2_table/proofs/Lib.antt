@@ -3,3 +3,4 @@ pub mod Groups
 pub mod Parts
 pub mod Sorted
 pub mod LoadOrder
+pub mod FittingRows

@@ -1,8 +1,10 @@
 -- Tables: columns and the rows that fit them.
-use Rattle.std.specs.Prelude.{Bool, List, [], ◌∷◌, ◌++◌, IsTrue}
+use Rattle.std.specs.Prelude.{ℕ, Bool, List, [], ◌∷◌, ◌++◌, get_or, slice_get, IsTrue}
 use Rattle.std.specs.List.{list_all}
 use Rattle.ds2_value.specs.Row.{Row, Columns}
 use Rattle.ds2_value.specs.Schema.{row_fits, IsSchema}
+use Rattle.ds2_value.specs.Value.{or_null}
+use Rattle.ds2_value.specs.declared.value.Value.{Value}
 
 -- a table
 pub record Contents : Type 0 where
@@ -25,3 +27,7 @@ empty_table columns = record { columns = columns; rows = [] }
 -- the table with one more row at its end
 abbrev pub with_row : Contents → Row → Contents
 with_row table row = record { columns = table.columns; rows = table.rows ++ row ∷ [] }
+
+-- the value in a row and a column; null where there is no such row, or it has no such column
+abbrev pub table_value : List Row → ℕ → ℕ → Value
+table_value rows row column = or_null (slice_get (get_or rows row []) column)

@@ -1,10 +1,11 @@
 //! Tables.
-ghost use Rattle.std.specs.Prelude.{◌≡◌, IsTrue, OnOk, OnErr};
-ghost use Rattle.ds2_table.specs.Table.{rows_fit, IsTable, empty_table, with_row};
+ghost use Rattle.std.specs.Prelude.{◌≡◌, ◌<◌, [], ℕ, IsTrue, length, get_or, IfOk, OnOk, OnErr};
+ghost use Rattle.ds2_value.specs.Cell.{lent_value};
 ghost use Rattle.ds2_value.specs.Schema.{row_fits};
+ghost use Rattle.ds2_table.specs.Table.{IsTable, empty_table, with_row, table_value};
 
 use ds2_base::{List, OutOfMemory};
-use ds2_value::{Row, Schema};
+use ds2_value::{Cell, Row, Schema, cell_in, copy_row};
 use std::alloc::Global;
 use std::marker::Model;
 
@@ -53,12 +54,39 @@ impl Table {
         &self.schema
     }
 
-    /// The rows, in the order in which they were added.
-    pub fn rows(&self) -> &List<Row>
-        ensures value { result.now ≡ self.now.rows }
-        ensures fit { IsTrue (rows_fit self.now.rows self.now.columns) }
+    /// The number of rows.
+    #[inline]
+    pub fn len(&self) -> usize
+        ensures { result ≡ length self.now.rows }
     {
-        &self.rows
+        self.rows.len()
+    }
+
+    /// The number of columns, which is that of the values of each row.
+    #[inline]
+    pub fn width(&self) -> usize
+        ensures { (row : ℕ) → row < length self.now.rows → result ≡ length (get_or self.now.rows row []) }
+    {
+        self.schema.columns().len()
+    }
+
+    /// The value in a row and a column, both counted from 0; null where there is no such row or column.
+    #[inline]
+    pub fn cell(&self, row: usize, column: usize) -> Cell<'_>
+        ensures { lent_value result ≡ table_value self.now.rows row column }
+    {
+        match self.rows.get(row) {
+            None => Cell::Null,
+            Some(values) => cell_in(values.as_slice(), column),
+        }
+    }
+
+    /// The row of a number, in the order in which they were added, with values of its own.
+    pub fn row(&self, alloc: Global, row: usize) -> Result<Row, OutOfMemory>
+        requires { row < length self.now.rows }
+        ensures { IfOk result (λ values. values ≡ get_or self.now.rows row []) }
+    {
+        copy_row(alloc, self.rows.as_slice()[row].as_slice())
     }
 
     /// Nothing at run time: a contract learns here that the table's columns are those of a schema and that its rows fit them.

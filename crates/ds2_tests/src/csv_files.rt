@@ -28,7 +28,8 @@ fn written_by_rows(alloc: Global, file: &[u8]) -> Result<Bytes, OutOfMemory> {
     };
     let columns = table.schema().columns().as_slice();
     let mut writer = TableWriter::new(alloc, columns)?;
-    for row in table.rows().as_slice() {
+    for number in 0..table.len() {
+        let row = table.row(alloc, number)?;
         writer = writer.with_row(alloc, columns, row.as_slice())?;
     }
     writer.into_bytes()
