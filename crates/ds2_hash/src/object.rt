@@ -91,10 +91,18 @@ impl HashObject {
     }
 
     /// Takes all items out. Each iterator of the object has to be told, by [`Hiter::cleared`](crate::Hiter::cleared).
+    ///
+    /// It takes time for all that there is room for. Where that is much more than there are items, the room is given back, so that one who
+    /// clears the object again and again does not pay each time for the most that were ever in it.
     pub fn clear(&mut self)
         ensures { hash_answer hash.Clear [] [] self.old ≡ answer_of true self.new None Empties }
     {
+        let room = self.items.capacity();
+        let count = self.items.len();
         self.items.clear();
+        if count < room / 8 {
+            self.items.shrink_to_fit();
+        }
     }
 
     /// The number of items.
