@@ -1,5 +1,5 @@
 -- Steps of a place in the loads of a program.
-use Rattle.std.proofs.Common.{◌≡◌, ℕ, zero, suc, ◌+◌, ◌<◌, ◌≤◌, List, [], ◌∷◌, length, map, take, drop, get_or, Option, Some, None, refl, sym, ap, ◌∙◌, subst, arith}
+use Rattle.std.proofs.Common.{◌≡◌, ℕ, zero, suc, ◌+◌, ◌<◌, ◌≤◌, Bool, true, false, List, [], ◌∷◌, length, map, take, drop, get_or, Option, Some, None, refl, sym, ap, ◌∙◌, subst, arith}
 use Rattle.std.specs.Prelude.{slice_get, MatchOption}
 use Rattle.std.specs.Option.{option_map}
 use Rattle.std.proofs.lemmas.List.{length-append, length-map, drop-map}
@@ -13,9 +13,10 @@ use Rattle.ds2_reading.specs.declared.reading.ReadTable.{ReadTable}
 use Rattle.ds2_code.specs.Desk.{SlotSettings}
 use Rattle.ds2_loads.specs.declared.table_load.TableLoad.{TableLoad}
 use Rattle.ds2_loads.specs.RowsBehind.{rows_behind, IsRowGiven}
-use Rattle.ds2_loads.specs.StatementSource.{settings_of_statement, settings_left}
+use Rattle.ds2_loads.specs.Sources.{IsNextLoad}
+use Rattle.ds2_loads.specs.StatementSource.{settings_of_statement, current_settings, settings_left}
 use Rattle.ds2_loads.proofs.LoadsLeft.{none_set, first_set}
-use Rattle.ds2_loads.specs.LoadCursors.{settings_of_numbers, settings_of_keyed, settings_of_input_row, settings_of_rows, in_parts, group_lengths, settings_in_parts, cursor_groups, group_number, IsCursorOver, HasGivenNext, HasEntered}
+use Rattle.ds2_loads.specs.LoadCursors.{settings_of_numbers, settings_of_keyed, settings_of_input_row, settings_of_rows, in_parts, group_lengths, settings_in_parts, cursor_left, cursor_groups, group_number, load_gone_to, IsCursorOver, HasGivenNext, HasEntered}
 use Rattle.ds2_loads.specs.declared.kept_loads.KeptLoads.{KeptLoads}
 use Rattle.ds2_loads.specs.declared.load_cursor.LoadCursor.{LoadCursor}
 use Rattle.ds2_loads.specs.declared.load_cursor.LoadCursor.TheVariants as cursor
@@ -89,6 +90,34 @@ module _ (at : TableLoad) (tables : List Contents) (reads : List ReadTable) (sam
       → HasGivenNext at given (cursor.Rows before) (cursor.Rows after)
   rows_next None h = record { next = settings_there before ∙ ap (map (settings_of_input_row at)) h; groups = refl; over = over }
   rows_next (Some load) h = record { next = row_given load h; groups = refl; over = over }
+
+-- ---- the load at which a source stands
+
+-- a source at another load
+abbrev at_load : TableLoad → LoadInCode → TableLoad
+at_load at load = record { slots = at.slots; reading = at.reading; retains = at.retains; tables = at.tables; load = load; in_bounds = at.in_bounds }
+
+-- what is left does not depend on it
+same_left : (at : TableLoad) (load : LoadInCode) (c : LoadCursor) → cursor_left (at_load at load) c ≡ cursor_left at c
+same_left at load (cursor.Rows place) = refl
+same_left at load (cursor.SetWalk c) = refl
+same_left at load (cursor.MergeWalk c) = refl
+same_left at load (cursor.Set c) = refl
+same_left at load (cursor.Merge c) = refl
+same_left at load (cursor.Kept k) = refl
+
+pub groups_stay : (at : TableLoad) (load : LoadInCode) (c : LoadCursor) → cursor_groups (at_load at load) c ≡ cursor_groups at c
+groups_stay at load (cursor.Rows place) = refl
+groups_stay at load (cursor.SetWalk c) = refl
+groups_stay at load (cursor.MergeWalk c) = refl
+groups_stay at load (cursor.Set c) = refl
+groups_stay at load (cursor.Merge c) = refl
+groups_stay at load (cursor.Kept k) = refl
+
+pub goes_on : (at : TableLoad) (load : LoadInCode) (there : Bool) (before after : LoadCursor) → HasGivenNext at (load_gone_to there load) before after
+    → IsNextLoad there (cursor_left at before) (current_settings (at_load at load)) (cursor_left (at_load at load) after)
+goes_on at load true before after it = it.next ∙ ap (λ (xs : List SlotSettings). settings_of_numbers at load ∷ xs) (sym (same_left at load after))
+goes_on at load false before after it = it.next
 
 -- ---- a group
 

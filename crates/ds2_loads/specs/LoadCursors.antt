@@ -1,5 +1,5 @@
 -- Places in the loads of a program: which loads are left, and in which groups all of them are.
-use Rattle.std.specs.Prelude.{◌≡◌, ℕ, ◌≤◌, Bool, true, false, List, [], ◌∷◌, length, map, take, drop, Option, MatchOption, slice_get, Some}
+use Rattle.std.specs.Prelude.{◌≡◌, ℕ, ◌≤◌, Bool, true, false, List, [], ◌∷◌, length, map, take, drop, Option, MatchOption, slice_get, Some, None}
 use Rattle.ds2_table.specs.Loads.{InputRow, KeyedLoad, keyed_load, set_load, groups}
 use Rattle.ds2_table.specs.Table.{Contents}
 use Rattle.ds2_reading.specs.CursorState.{Cursor, group_count}
@@ -103,6 +103,11 @@ abbrev pub IsCursorOver : Reading → LoadCursor → Type 0
 IsCursorOver statement c =
     (tables_over (length statement.tables) c ≡ length statement.tables) × (bys_over (length statement.bys) c ≡ length statement.bys)
     × (tables_by_row (length statement.tables) c ≤ 16)
+
+-- the load to which a cursor has gone, where it has gone on
+abbrev pub load_gone_to : Bool → LoadInCode → Option LoadInCode
+load_gone_to true load = Some load
+load_gone_to false load = None
 
 -- a cursor has given the first of the loads that were left, and those behind it are left now; it gives none where none was left
 pub record HasGivenNext (at : TableLoad) (given : Option LoadInCode) (before after : LoadCursor) : Type 0 where

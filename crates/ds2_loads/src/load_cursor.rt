@@ -2,7 +2,7 @@
 ghost use Rattle.std.specs.Prelude.{◌≡◌, ◌+◌, ◌<◌, ◌≤◌, IfOk, length};
 ghost use Rattle.ds2_reading.specs.CursorState.{group_count, start_of_group};
 ghost use Rattle.ds2_loads.specs.declared.table_load.TableLoad.{TableLoad as LoadOf};
-ghost use Rattle.ds2_loads.specs.LoadCursors.{IsCursorOver, HasGivenNext, HasEntered, cursor_groups, group_number, tables_by_row};
+ghost use Rattle.ds2_loads.specs.LoadCursors.{IsCursorOver, HasGivenNext, HasEntered, cursor_groups, group_number, load_gone_to, tables_by_row};
 
 use crate::kept_loads::KeptLoads;
 use crate::row_place::RowPlace;
@@ -26,19 +26,25 @@ pub(crate) enum LoadCursor {
 }
 
 impl LoadCursor {
-    /// The next load of a statement over these tables; None exactly behind the last one. Takes no memory.
-    pub(crate) fn next_load(&mut self, tables: &Tables, reads: &[ReadTable]) -> Option<Load>
+    /// Goes to the next load of a statement over these tables, and makes `load` that one; false exactly behind the last one. Takes no
+    /// memory.
+    pub(crate) fn next_load(
+        &mut self,
+        tables: &Tables,
+        reads: &[ReadTable],
+        load: &mut Load,
+    ) -> bool
         requires { tables_by_row (length reads.now) self.old ≤ 16 }
         ensures { (at : LoadOf) → at.tables.now ≡ tables.now → at.reading.now.tables ≡ reads.now → IsCursorOver at.reading.now self.old
-            → HasGivenNext at result self.old self.new }
+            → HasGivenNext at (load_gone_to result load.new) self.old self.new }
     {
         match self {
-            LoadCursor::Rows(place) => next_row(tables, reads, place),
-            LoadCursor::SetWalk(walk) => walk.next_load(),
-            LoadCursor::MergeWalk(walk) => walk.next_load(),
-            LoadCursor::Set(cursor) => cursor.next_load(),
-            LoadCursor::Merge(cursor) => cursor.next_load(),
-            LoadCursor::Kept(loads) => loads.next_load(),
+            LoadCursor::Rows(place) => next_row(tables, reads, place, load),
+            LoadCursor::SetWalk(walk) => put(walk.next_load(), load),
+            LoadCursor::MergeWalk(walk) => put(walk.next_load(), load),
+            LoadCursor::Set(cursor) => put(cursor.next_load(), load),
+            LoadCursor::Merge(cursor) => put(cursor.next_load(), load),
+            LoadCursor::Kept(loads) => put(loads.next_load(), load),
         }
     }
 
@@ -93,6 +99,19 @@ impl LoadCursor {
             LoadCursor::Set(cursor) => Ok(LoadCursor::Set(cursor.copy(alloc)?)),
             LoadCursor::Merge(cursor) => Ok(LoadCursor::Merge(cursor.copy(alloc)?)),
             LoadCursor::Kept(loads) => Ok(LoadCursor::Kept(loads.copy(alloc)?)),
+        }
+    }
+}
+
+// Puts the next load in its place, where there is one, and tells whether there was.
+fn put(next: Option<Load>, load: &mut Load) -> bool
+    ensures { load_gone_to result load.new ≡ next }
+{
+    match next {
+        None => false,
+        Some(there) => {
+            *load = there;
+            true
         }
     }
 }

@@ -144,15 +144,11 @@ impl<'a> ProgramLoads<'a> {
         ensures groups { cursor_groups self.new.at self.new.cursor ≡ cursor_groups self.old.at self.old.cursor }
         ensures most { self.new.most ≡ self.old.most }
     {
-        let tables = self.at.tables;
-        let reads = self.at.reading.tables.as_slice();
-        match self.cursor.next_load(tables, reads) {
-            None => false,
-            Some(load) => {
-                self.at.load = load;
-                true
-            }
-        }
+        let ProgramLoads { at, cursor, .. } = self;
+        let tables = at.tables;
+        let reading = at.reading;
+        let reads = reading.tables.as_slice();
+        cursor.next_load(tables, reads, &mut at.load)
     }
 }
 

@@ -3,6 +3,7 @@ ghost use Rattle.std.specs.Prelude.{◌≡◌, ◌+◌, ◌^◌, ◌<◌, ◌≤
 ghost use Rattle.ds2_table.specs.Loads.{set_load};
 ghost use Rattle.ds2_reading.specs.LoadMeaning.{load_meaning};
 ghost use Rattle.ds2_reading.specs.ReadingKeys.{keys_of_table};
+ghost use Rattle.ds2_loads.specs.LoadCursors.{load_gone_to};
 ghost use Rattle.ds2_loads.specs.RowsBehind.{rows_behind, IsRowNext, IsRowGiven};
 
 use crate::row_place::RowPlace;
@@ -49,33 +50,37 @@ fn row_alone(place: RowPlace) -> [u64; 16]
     rows
 }
 
-// The load of a row alone, without flags of BY variables.
-fn load_of_row(place: RowPlace) -> Load
+// Makes a load that of a row alone, without flags of BY variables.
+fn set_row_load(place: RowPlace, load: &mut Load)
     requires table { place.table < 16 }
     requires row { place.row + 1 < 2 ^ 64 }
-    ensures { (count : ℕ) → count ≤ 16 → load_meaning count 0 result ≡ (set_load count (record { table = place.table; number = place.row; key = [] })).load }
+    ensures { (count : ℕ) → count ≤ 16 → load_meaning count 0 load.new ≡ (set_load count (record { table = place.table; number = place.row; key = [] })).load }
 {
-    Load {
-        rows: row_alone(place),
-        is_fresh: false,
-        first: 0,
-        last: 0,
-        present: flags::one(place.table),
-    }
+    load.rows = row_alone(place);
+    load.is_fresh = false;
+    load.first = 0;
+    load.last = 0;
+    load.present = flags::one(place.table);
 }
 
-/// The first row at a place or behind it, as a load, and goes behind that row; None exactly where there is none.
-pub(crate) fn next_row(tables: &Tables, reads: &[ReadTable], place: &mut RowPlace) -> Option<Load>
+/// Makes a load that of the first row at a place or behind it, and goes behind that row; false exactly where there is none.
+pub(crate) fn next_row(
+    tables: &Tables,
+    reads: &[ReadTable],
+    place: &mut RowPlace,
+    load: &mut Load,
+) -> bool
     requires { length reads.now ≤ 16 }
-    ensures { MatchOption result (rows_behind tables.now place.old.table place.old.row (drop place.old.table reads.now) ≡ [])
-        (λ load. IsRowGiven tables.now reads.now place.old place.new load) }
+    ensures { MatchOption (load_gone_to result load.new) (rows_behind tables.now place.old.table place.old.row (drop place.old.table reads.now) ≡ [])
+        (λ given. IsRowGiven tables.now reads.now place.old place.new given) }
 {
     match row_from(tables, reads, *place) {
-        None => None,
+        None => false,
         Some(here) => {
             place.table = here.table;
             place.row = here.row + 1;
-            Some(load_of_row(here))
+            set_row_load(here, load);
+            true
         }
     }
 }
