@@ -37,7 +37,7 @@ use Rattle.ds2_store_steps.specs.CodeReferences.{IsKeptName, known_behind_refere
 use Rattle.ds2_exec.specs.CodeRuns.{AreLinked, HasColumnsStored}
 use Rattle.ds2_exec.specs.OutputSinks.{HaveKept}
 use Rattle.ds2_exec.specs.StageEnds.{GrainFits, GrainsFit}
-use Rattle.ds2_staged.specs.Grains.{IsGrainOf, IsGrainOfReading}
+use Rattle.ds2_unit.specs.Grains.{IsGrainOf, IsGrainOfReading}
 use Rattle.ds2_verdicts.specs.ThreadVerdicts.{verdict_named}
 use Rattle.ds2_store_steps.specs.TableReads.{AreTablesRead, HasColumnsNamed, names_read}
 use Rattle.ds2_store_steps.proofs.ReferenceSteps.{both_hold}

@@ -13,7 +13,7 @@ use Rattle.ds2_program_code.specs.ProgramCode.{program_code}
 use Rattle.ds2_code_answer.specs.CodeTables.{hash_references, program_references, first_read_table, tables_of_stage, columns_named, columns_had, AreTablesOfCode}
 use Rattle.ds2_same_meaning.specs.SameAnswer.{staged_code, HaveRowsMentioned}
 use Rattle.ds2_same_meaning.proofs.OpeningsAlike.{loaded_count, drop_front}
-use Rattle.ds2_staged.specs.GroupedLoads.{loads_in_groups}
+use Rattle.ds2_unit.specs.GroupedLoads.{loads_in_groups}
 use Rattle.ds2_same_meaning.specs.CodeStates.{is_data_of_code, fixed_data}
 use Rattle.ds2_same_meaning.specs.LocalGroups.{HasIndependentGroups}
 use Rattle.ds2_group_job.specs.WhateverRan.{IsIndependentThread}

@@ -15,8 +15,8 @@ use Rattle.ds2_code_answer.specs.CodeAnswer.{code_opening, code_program, code_un
 use Rattle.ds2_code_answer.specs.CodeLoads.{code_group_count, code_loads, slots_of_stage}
 use Rattle.ds2_code_answer.specs.CodeTables.{tables_of_stage}
 use Rattle.ds2_same_meaning.specs.SameMeaning.{number_of_bys}
-use Rattle.ds2_staged.specs.Grains.{IsGrainOfReading}
-use Rattle.ds2_staged.specs.Threads.{AreGrainsOf}
+use Rattle.ds2_unit.specs.Grains.{IsGrainOfReading}
+use Rattle.ds2_unit.specs.Threads.{AreGrainsOf}
 use Rattle.ds2_unit.specs.ProgramRun.{grain_asked, note_of_stage}
 use Rattle.ds2_unit.specs.declared.program_end.StageNote.{StageNote}
 use Rattle.ds2_answer.specs.ObjectPlans.{stage_in_code}

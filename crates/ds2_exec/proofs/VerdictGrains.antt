@@ -6,7 +6,7 @@ use Rattle.ds2_meaning.specs.Reading.{bys_of}
 use Rattle.ds2_code.specs.declared.parts.ProgramParts.{ProgramParts}
 use Rattle.ds2_code.specs.declared.parts.ReadingPart.{ReadingPart}
 use Rattle.ds2_code.specs.declared.parts.ReadingPart.TheVariants as reading
-use Rattle.ds2_staged.specs.Grains.{IsGrainOf, IsGrainOfReading}
+use Rattle.ds2_unit.specs.Grains.{IsGrainOf, IsGrainOfReading}
 use Rattle.ds2_locality.specs.declared.locality.Verdict.{Verdict}
 use Rattle.ds2_locality.specs.declared.locality.Verdict.TheVariants.{Local, NotLocal}
 use Rattle.ds2_locality.specs.Verdict.{JudgedThread, LocalIsGreatest, coarsest, verdict_of}

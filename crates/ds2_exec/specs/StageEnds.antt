@@ -4,7 +4,7 @@ use Rattle.std.specs.List.{AllByRecursion, flat_map}
 use Rattle.ds2_code.specs.declared.parts.ProgramParts.{ProgramParts}
 use Rattle.ds2_code.specs.declared.parts.StagedParts.{StagedParts}
 use Rattle.ds2_same_meaning.specs.SameMeaning.{number_of_bys}
-use Rattle.ds2_staged.specs.Grains.{IsGrainOfReading}
+use Rattle.ds2_unit.specs.Grains.{IsGrainOfReading}
 use Rattle.ds2_unit.specs.declared.program_end.StageNote.{StageNote}
 use Rattle.ds2_answer.specs.Lines.{count_line, thread_line, verdict_text}
 use Rattle.ds2_answer.specs.Plan.{Plan, Logs}

@@ -7,7 +7,7 @@ ghost use Rattle.ds2_answer.specs.Lines.{count_line, thread_line, verdict_text};
 ghost use Rattle.ds2_answer.specs.ObjectPlans.{stage_in_code};
 ghost use Rattle.ds2_answer.specs.StagesLeft.{grain_of_stages, grain_told, name_of_stage};
 ghost use Rattle.ds2_same_meaning.specs.SameMeaning.{number_of_bys};
-ghost use Rattle.ds2_staged.specs.Threads.{AreGrainsOf};
+ghost use Rattle.ds2_unit.specs.Threads.{AreGrainsOf};
 ghost use Rattle.ds2_unit.specs.ProgramRun.{grain_asked};
 ghost use Rattle.ds2_verdicts.specs.ThreadVerdicts.{verdict_named};
 ghost use Rattle.ds2_exec.specs.LocalCodes.{IsToldLocal};

@@ -8,7 +8,7 @@ use Rattle.ds2_value.specs.declared.fault.Ending.TheVariants.{Normal}
 use Rattle.ds2_bags.specs.declared.group_end.GroupEnd.{GroupEnd}
 use Rattle.ds2_machine.specs.declared.record.OutRow.{OutRow}
 use Rattle.ds2_machine.specs.declared.record.UnitRecord.{UnitRecord}
-use Rattle.ds2_staged.specs.Threads.{rows_kept}
+use Rattle.ds2_unit.specs.Threads.{rows_kept}
 use Rattle.ds2_unit.specs.declared.units_end.UnitsEnd.{UnitsEnd}
 use Rattle.ds2_group_job.specs.GroupRuns.{last_ending, executed_together, given_together}
 use Rattle.ds2_group_job.specs.StageJobs.{HasKeptGroups}

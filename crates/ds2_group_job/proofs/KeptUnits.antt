@@ -20,8 +20,8 @@ use Rattle.ds2_machine.specs.Kept.{all_written}
 use Rattle.ds2_machine.specs.declared.record.OutRow.{OutRow}
 use Rattle.ds2_machine.specs.declared.record.UnitRecord.{UnitRecord}
 use Rattle.ds2_machine.specs.declared.unit_end.UnitEnd.{UnitEnd}
-use Rattle.ds2_staged.specs.Threads.{IsThreadEnd, rows_kept}
-use Rattle.ds2_staged.specs.declared.thread.ThreadEnd.{ThreadEnd}
+use Rattle.ds2_unit.specs.Threads.{IsThreadEnd, rows_kept}
+use Rattle.ds2_unit.specs.declared.thread.ThreadEnd.{ThreadEnd}
 use Rattle.ds2_unit.specs.declared.units_end.UnitsEnd.{UnitsEnd}
 use Rattle.ds2_group_job.specs.GroupRuns.{ending_of_reached, end_of_group}
 use Rattle.ds2_group_job.specs.KeptAnswers.{HasKeptTold}

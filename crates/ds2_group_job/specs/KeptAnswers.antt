@@ -3,7 +3,7 @@ use Rattle.std.specs.Prelude.{◌≡◌, ◌++◌, map, Some}
 use Rattle.ds2_value.specs.Run.{Written}
 use Rattle.ds2_code_answer.specs.StageTold.{StageTold}
 use Rattle.ds2_machine.specs.declared.record.UnitRecord.{UnitRecord}
-use Rattle.ds2_staged.specs.Threads.{rows_kept}
+use Rattle.ds2_unit.specs.Threads.{rows_kept}
 use Rattle.ds2_unit.specs.declared.units_end.UnitsEnd.{UnitsEnd}
 
 -- what units tell has been kept behind what was written before, and this is how they have ended

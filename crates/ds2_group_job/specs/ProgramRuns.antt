@@ -5,7 +5,7 @@ use Rattle.ds2_machine.specs.declared.machine.TheConstants.{MOST_BUDGET}
 use Rattle.ds2_code_answer.specs.CodeAnswer.{code_answer}
 use Rattle.ds2_code_answer.specs.CodeTables.{AreTablesOfCode}
 use Rattle.ds2_unit.specs.ProgramRun.{grain_asked}
-use Rattle.ds2_staged.specs.Threads.{AreGrainsOf}
+use Rattle.ds2_unit.specs.Threads.{AreGrainsOf}
 use Rattle.ds2_group_job.specs.WhateverRan.{AreIndependentStages}
 use Rattle.ds2_group_job.specs.declared.program_run.ProgramRun.{ProgramRun}
 

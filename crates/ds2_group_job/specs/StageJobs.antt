@@ -11,7 +11,7 @@ use Rattle.ds2_machine.specs.declared.machine.TheConstants.{MOST_BUDGET}
 use Rattle.ds2_machine.specs.declared.record.UnitRecord.{UnitRecord}
 use Rattle.ds2_code.specs.Scales.{AreSettingsScaled, IsDataScaled}
 use Rattle.ds2_loads.specs.GroupedLoads.{loads_of_groups}
-use Rattle.ds2_staged.specs.Threads.{rows_kept}
+use Rattle.ds2_unit.specs.Threads.{rows_kept}
 use Rattle.ds2_unit.specs.declared.units_end.UnitsEnd.{UnitsEnd}
 use Rattle.ds2_group_job.specs.GroupRuns.{run_of_group, end_of_group, group_at_number}
 use Rattle.ds2_group_job.specs.WhateverRan.{GivesWhateverRan}

@@ -6,8 +6,8 @@ use Rattle.ds2_table.specs.OneThread.{Answer}
 use Rattle.ds2_table.specs.Table.{Contents}
 use Rattle.ds2_code.specs.declared.parts.ProgramParts.{ProgramParts}
 use Rattle.ds2_code.specs.declared.parts.StagedParts.{StagedParts}
-use Rattle.ds2_staged.specs.Threads.{IsReadyThread, IsThreadEnd, thread_answer}
-use Rattle.ds2_staged.specs.declared.thread.ThreadEnd.{ThreadEnd}
+use Rattle.ds2_unit.specs.Threads.{IsReadyThread, IsThreadEnd, thread_answer}
+use Rattle.ds2_unit.specs.declared.thread.ThreadEnd.{ThreadEnd}
 use Rattle.ds2_group_job.specs.WhateverRan.{IsIndependentThread}
 
 -- a thread program of some code, the tables that it reads, the budget of each unit, the grain of its groups, and on how many workers these may

@@ -5,7 +5,7 @@ ghost use Rattle.ds2_code_answer.specs.CodeAnswer.{code_answer};
 ghost use Rattle.ds2_code_answer.specs.CodeTables.{AreTablesOfCode};
 ghost use Rattle.ds2_unit.specs.AloneEnd.{IsProgramEnd};
 ghost use Rattle.ds2_unit.specs.ProgramRun.{grain_asked};
-ghost use Rattle.ds2_staged.specs.Threads.{AreGrainsOf};
+ghost use Rattle.ds2_unit.specs.Threads.{AreGrainsOf};
 ghost use Rattle.ds2_group_job.specs.ProgramRuns.{IsProgramReady, answer_of_program};
 ghost use Rattle.ds2_group_job.specs.StageRuns.{RunsStages};
 
@@ -15,8 +15,7 @@ use crate::stage_run::StageRun;
 use ds2_base::{List, OutOfMemory};
 use ds2_outside::Gate;
 use ds2_reading::Tables;
-use ds2_staged::ThreadEnd;
-use ds2_unit::{ProgramEnd, sinks_of};
+use ds2_unit::{ProgramEnd, ThreadEnd, sinks_of};
 use ds2_valid_code::ProgramCode;
 use ds2_value::Value;
 use std::alloc::Global;

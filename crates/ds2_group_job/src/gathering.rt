@@ -1,7 +1,7 @@
 //! What groups gave, kept one after the other.
 ghost use Rattle.std.specs.Prelude.{◌≡◌, ◌++◌, IfOk, OnOk};
 ghost use Rattle.ds2_bags.specs.Endings.{ended_by_fault};
-ghost use Rattle.ds2_staged.specs.Threads.{rows_kept};
+ghost use Rattle.ds2_unit.specs.Threads.{rows_kept};
 ghost use Rattle.ds2_group_job.specs.GroupRuns.{given_together};
 ghost use Rattle.ds2_group_job.specs.StageJobs.{HasKeptGroups};
 

@@ -4,7 +4,7 @@ ghost use Rattle.ds2_machine.specs.AtRest.{staged_program};
 ghost use Rattle.ds2_machine.specs.declared.machine.TheConstants.{MOST_BUDGET};
 ghost use Rattle.ds2_code.specs.Scales.{IsDataScaled};
 ghost use Rattle.ds2_loads.specs.ProgramSources.{program_groups};
-ghost use Rattle.ds2_staged.specs.Threads.{rows_kept};
+ghost use Rattle.ds2_unit.specs.Threads.{rows_kept};
 ghost use Rattle.ds2_group_job.specs.WhateverRan.{GivesWhateverRan};
 ghost use Rattle.ds2_group_job.specs.StageJobs.{AreGroupsScaled, IsReadyJob, StageJob};
 

@@ -1,7 +1,7 @@
 //! The groups of a thread program as a job of a stage, and programs with the thread programs that they read from.
 //!
 //! A [`GroupJob`] stands on the machine on which `init` of the thread program was run once. Each worker has a copy of that machine, and a
-//! cursor of its own over the loads. [`run_thread_on`] gives what `ds2_staged::run_thread` gives, for every number of workers, where groups
+//! cursor of its own over the loads. [`run_thread_on`] gives what `ds2_unit::run_thread` gives, for every number of workers, where groups
 //! of the thread program give the same whatever groups ran before them. The laws in [`laws`] say which thread programs these are.
 //!
 //! A [`StageRun`] is a thread program that can be run in both ways. [`run_into`] runs a whole program ([`ProgramRun`]) and takes what runs
@@ -25,7 +25,7 @@ mod stage_run;
 mod thread_on;
 
 pub use alone::{run_alone, run_with};
-pub use ds2_staged::ThreadEnd;
+pub use ds2_unit::ThreadEnd;
 pub use group_worker::GroupWorker;
 pub use job::GroupJob;
 pub use program_run::ProgramRun;

@@ -2,7 +2,7 @@
 ghost use Rattle.std.specs.Prelude.{◌≡◌, [], ◌∷◌, false, length, IfOk};
 ghost use Rattle.ds2_code.specs.Scales.{IsDataScaled};
 ghost use Rattle.ds2_unit.specs.ProgramRun.{IsRunEnd};
-ghost use Rattle.ds2_staged.specs.Threads.{reader_answer, reader_answer_from};
+ghost use Rattle.ds2_unit.specs.Threads.{reader_answer, reader_answer_from};
 ghost use Rattle.ds2_group_job.specs.ProgramRuns.{IsProgramReady, answer_of_program};
 ghost use Rattle.ds2_group_job.specs.StageRuns.{RunsStages, answer_of_thread};
 
@@ -14,8 +14,9 @@ use ds2_code_answer::laws::readings_fit_tables;
 use ds2_loads::{TableRows, loaded_hashes};
 use ds2_machine::{Machine, UnitSink};
 use ds2_reading::Tables;
-use ds2_staged::{ThreadEnd, ended_at_init, ended_behind, first_grain, run_rows, tables_behind};
-use ds2_unit::RunEnd;
+use ds2_unit::{
+    RunEnd, ThreadEnd, ended_at_init, ended_behind, first_grain, run_rows, tables_behind,
+};
 use ds2_value::Value;
 use std::alloc::Global;
 

@@ -1,6 +1,6 @@
 //! A thread program that can be run, and the two ways to run it.
 ghost use Rattle.std.specs.Prelude.{◌≡◌, IfOk};
-ghost use Rattle.ds2_staged.specs.Threads.{IsThreadEnd};
+ghost use Rattle.ds2_unit.specs.Threads.{IsThreadEnd};
 ghost use Rattle.ds2_group_job.specs.StageRuns.{IsStageReady, answer_of_thread};
 
 use crate::thread_on::run_thread_on;
@@ -8,7 +8,7 @@ use ds2_base::OutOfMemory;
 use ds2_code::ProgramParts;
 use ds2_outside::Gate;
 use ds2_reading::Tables;
-use ds2_staged::{ThreadEnd, run_thread};
+use ds2_unit::{ThreadEnd, run_thread};
 use ds2_valid_code::ProgramCode;
 use ds2_value::Value;
 use std::alloc::Global;

@@ -8,7 +8,7 @@ ghost use Rattle.ds2_code_answer.specs.StageTold.{told_by_answer};
 ghost use Rattle.ds2_machine.specs.AtRest.{staged_program};
 ghost use Rattle.ds2_code.specs.Scales.{AreGivenScaled, IsDataScaled};
 ghost use Rattle.ds2_loads.specs.GroupedLoads.{loads_in_groups};
-ghost use Rattle.ds2_staged.specs.Threads.{IsReadyThread, IsThreadEnd, thread_answer};
+ghost use Rattle.ds2_unit.specs.Threads.{IsReadyThread, IsThreadEnd, thread_answer};
 ghost use Rattle.ds2_group_job.specs.KeptAnswers.{HasKeptTold};
 ghost use Rattle.ds2_group_job.specs.WhateverRan.{GivesWhateverRan, IsIndependentFrom, IsIndependentThread};
 
@@ -21,8 +21,9 @@ use ds2_loads::{LoadSource, ProgramLoads, TableRows, statement_of};
 use ds2_machine::{Machine, UnitRecord};
 use ds2_outside::Gate;
 use ds2_reading::{Reading, Tables};
-use ds2_staged::{GroupedEnd, ThreadEnd, are_given_scaled, groups_behind};
-use ds2_unit::{StageNote, UnitsEnd, sum_of};
+use ds2_unit::{
+    GroupedEnd, StageNote, ThreadEnd, UnitsEnd, are_given_scaled, groups_behind, sum_of,
+};
 use ds2_valid_code::ProgramCode;
 use ds2_value::Value;
 use std::alloc::Global;

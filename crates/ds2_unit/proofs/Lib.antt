@@ -6,3 +6,9 @@ pub mod UnitsInOrder
 pub mod LoadsInOrder
 pub mod Statements
 pub mod WholeRuns
+pub mod GivenScales
+pub mod StagedCode
+pub mod ReaderAnswers
+pub mod ThreadEnds
+pub mod StagedRuns
+pub mod EveryGroup

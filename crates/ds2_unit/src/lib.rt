@@ -4,6 +4,9 @@
 //! one-thread answer of the code over its tables, as `ds2_code_answer` defines it. [`OutputSinks`] have a sink for each output.
 //! [`run_units`] runs the units of a machine's program on the loads of a source, [`run_loads`] the unit `run` alone.
 //!
+//! [`run_thread`] runs a thread program whole and keeps what it writes. [`run_rows`] goes on behind it: the rows are read straight from
+//! there. What holds of the groups of a program that ran is in [`laws`].
+//!
 //! ```text
 //! let mut sink = sinks_of(alloc, &code)?;
 //! let end = run_into(alloc, &code, &tables, budget, &grains, &mut sink)?;
@@ -11,15 +14,24 @@
 #![tactic(auto)]
 
 mod alone;
+mod given;
+mod grains;
+pub mod laws;
 mod output_sinks;
 mod program_end;
+mod reader;
 mod reading;
 mod table_sink;
+mod thread;
 mod units;
 mod units_end;
 
 pub use alone::{run_into, sinks_of};
+pub use given::are_given_scaled;
+pub use grains::first_grain;
 pub use output_sinks::{OutputSinks, RowSink};
 pub use program_end::{ProgramEnd, RunEnd, StageNote};
+pub use reader::{ended_at_init, ended_behind, run_rows};
+pub use thread::{GroupedEnd, ThreadEnd, groups_behind, run_thread, tables_behind};
 pub use units::{run_loads, run_to_end, run_units, sum_of};
 pub use units_end::UnitsEnd;

@@ -5,7 +5,7 @@ use Rattle.std.specs.HashSet.{contains}
 use Rattle.std.specs.List.{AllByRecursion}
 use Rattle.ds2_code.specs.declared.parts.ProgramParts.{ProgramParts}
 use Rattle.ds2_code.specs.declared.parts.StagedParts.{StagedParts}
-use Rattle.ds2_staged.specs.Threads.{AreGrainsOf}
+use Rattle.ds2_unit.specs.Threads.{AreGrainsOf}
 use Rattle.ds2_unit.specs.ProgramRun.{grain_asked}
 use Rattle.ds2_verdicts.specs.ThreadVerdicts.{verdict_named}
 use Rattle.ds2_exec.specs.StageEnds.{GrainFits}

@@ -1,5 +1,5 @@
 use Rattle.std.proofs.Common.{◌≡◌, ◌++◌}
-use Rattle.ds2_staged.specs.Threads.{rows_kept}
+use Rattle.ds2_unit.specs.Threads.{rows_kept}
 use Rattle.ds2_group_job.proofs.gathering.keep_rows.Given as goal
 
 abbrev pub invariant-rows : goal.invariant-rows

@@ -1,7 +1,7 @@
 use Rattle.std.proofs.Common.{length, sym, ap, ◌∙◌, arith}
 use Rattle.ds2_code.specs.declared.parts.StagedParts.{StagedParts}
 use Rattle.ds2_code.specs.ValidCode.{IsValidStaged}
-use Rattle.ds2_staged.proofs.StagedCode.{none_first, one_first}
+use Rattle.ds2_unit.proofs.StagedCode.{none_first, one_first}
 use Rattle.ds2_group_job.proofs.reader.run_into.Goals as goal
 
 pub run_plain-requires-clause-stages : goal.run_plain-requires-clause-stages

@@ -7,8 +7,8 @@ use Rattle.ds2_code.specs.Desk.{ProgramData}
 use Rattle.ds2_code.specs.Scales.{IsDataScaled}
 use Rattle.ds2_machine.specs.AtRest.{IsUnitEnd, staged_program}
 use Rattle.ds2_unit.specs.ProgramRun.{IsRunEnd}
-use Rattle.ds2_staged.specs.Threads.{IsThreadEnd, answer_behind, answer_on_rows, reader_answer_from}
-use Rattle.ds2_staged.proofs.StagedRuns.{reader_stops, reader_ends}
+use Rattle.ds2_unit.specs.Threads.{IsThreadEnd, answer_behind, answer_on_rows, reader_answer_from}
+use Rattle.ds2_unit.proofs.StagedRuns.{reader_stops, reader_ends}
 use Rattle.ds2_group_job.specs.StageRuns.{RunnableStage, answer_of_thread}
 use Rattle.ds2_group_job.proofs.reader.run_opened.Goals as goal
 

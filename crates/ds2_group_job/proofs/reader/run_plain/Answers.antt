@@ -1,4 +1,4 @@
-use Rattle.ds2_staged.proofs.StagedCode.{reads_none, valid_alone, as_many_grains}
+use Rattle.ds2_unit.proofs.StagedCode.{reads_none, valid_alone, as_many_grains}
 use Rattle.ds2_group_job.proofs.reader.run_plain.Goals as goal
 
 pub run_into-requires-clause-tables : goal.run_into-requires-clause-tables

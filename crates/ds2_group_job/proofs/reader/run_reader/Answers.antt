@@ -5,7 +5,7 @@ use Rattle.ds2_code_answer.specs.CodeTables.{rows_of_each}
 use Rattle.ds2_code.specs.Scales.{IsDataScaled}
 use Rattle.ds2_machine.specs.AtRest.{MachineAtRest, staged_program}
 use Rattle.ds2_unit.specs.ProgramRun.{IsRunEnd}
-use Rattle.ds2_staged.specs.Threads.{reader_answer_from}
+use Rattle.ds2_unit.specs.Threads.{reader_answer_from}
 use Rattle.ds2_group_job.specs.StageRuns.{RunnableStage, answer_of_thread}
 use Rattle.ds2_group_job.proofs.reader.run_reader.Goals as goal
 

@@ -4,9 +4,9 @@ use Rattle.ds2_code.specs.declared.parts.HashPart.{HashPart}
 use Rattle.ds2_code.specs.declared.parts.StagedParts.{StagedParts}
 use Rattle.ds2_code_answer.specs.CodeTables.{hash_references, tables_of_stage}
 use Rattle.ds2_unit.specs.ProgramRun.{IsRunEnd, grain_asked}
-use Rattle.ds2_staged.specs.Threads.{reader_answer}
-use Rattle.ds2_staged.proofs.ReaderAnswers.{staged_is_code}
-use Rattle.ds2_staged.proofs.StagedCode.{ready_staged, first_grain_fits}
+use Rattle.ds2_unit.specs.Threads.{reader_answer}
+use Rattle.ds2_unit.proofs.ReaderAnswers.{staged_is_code}
+use Rattle.ds2_unit.proofs.StagedCode.{ready_staged, first_grain_fits}
 use Rattle.ds2_group_job.specs.StageRuns.{RunnableStage, answer_of_thread}
 use Rattle.ds2_group_job.proofs.StagesReady.{independent_first}
 use Rattle.ds2_group_job.proofs.reader.run_staged.Goals as goal

@@ -1,6 +1,6 @@
 use Rattle.std.proofs.Common.{refl, ap}
 use Rattle.ds2_machine.specs.declared.record.UnitRecord.{UnitRecord}
-use Rattle.ds2_staged.specs.declared.thread.ThreadEnd.{ThreadEnd}
+use Rattle.ds2_unit.specs.declared.thread.ThreadEnd.{ThreadEnd}
 use Rattle.ds2_group_job.proofs.KeptUnits.{thread_ended}
 use Rattle.ds2_group_job.proofs.thread_on.run_begun.Goals as goal
 

@@ -7,7 +7,7 @@ use Rattle.ds2_code.specs.Scales.{AreGivenScaled}
 use Rattle.ds2_machine.specs.AtRest.{MachineAtRest, staged_program}
 use Rattle.ds2_code_answer.specs.CodeAnswer.{code_opening, code_program}
 use Rattle.ds2_code_answer.specs.CodeTables.{rows_of_each}
-use Rattle.ds2_staged.specs.Threads.{IsThreadEnd}
+use Rattle.ds2_unit.specs.Threads.{IsThreadEnd}
 use Rattle.ds2_group_job.specs.WhateverRan.{IsIndependentFrom}
 use Rattle.ds2_group_job.proofs.thread_on.run_given.Goals as goal
 

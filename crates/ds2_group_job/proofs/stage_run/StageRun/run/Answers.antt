@@ -1,5 +1,5 @@
 use Rattle.std.proofs.Common.{subst, IfOk}
-use Rattle.ds2_staged.specs.Threads.{IsThreadEnd}
+use Rattle.ds2_unit.specs.Threads.{IsThreadEnd}
 use Rattle.ds2_group_job.specs.StageRuns.{RunnableStage, answer_of_thread}
 use Rattle.ds2_group_job.proofs.stage_run.StageRun.run.Goals as goal
 

@@ -1,5 +1,5 @@
 use Rattle.std.proofs.Common.{ℕ, ◌≤◌, Option, IfSome, IfOk, subst}
-use Rattle.ds2_staged.specs.Threads.{IsThreadEnd}
+use Rattle.ds2_unit.specs.Threads.{IsThreadEnd}
 use Rattle.ds2_group_job.specs.StageRuns.{RunnableStage, answer_of_thread}
 use Rattle.ds2_group_job.specs.WhateverRan.{IsIndependentThread}
 use Rattle.ds2_group_job.proofs.stage_run.StageRun.run_on.Goals as goal

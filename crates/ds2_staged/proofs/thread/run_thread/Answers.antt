@@ -1,9 +1,0 @@
-use Rattle.std.proofs.Common.{ℕ, List, subst}
-use Rattle.std.proofs.lemmas.Bool.{OnTrue_at}
-use Rattle.ds2_code.specs.Scales.{AreGivenScaled}
-use Rattle.ds2_staged.proofs.thread.run_thread.Goals as goal
-
-pub run_given-requires-clause-given : goal.run_given-requires-clause-given
-run_given-requires-clause-given c =
-    let P : List ℕ → Type 0 = λ numbers. AreGivenScaled c.args.stage.now.slots numbers c.args.given.now in
-    subst P c.as_slice-numbers.ensures (OnTrue_at c.if-are_given_scaled.true c.are_given_scaled.ensures.scaled)

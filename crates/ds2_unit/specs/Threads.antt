@@ -1,0 +1,75 @@
+-- A thread program from which a program reads.
+use Rattle.std.specs.Prelude.{◌≡◌, ◌≤◌, ℕ, List, [], ◌∷◌, length, map, Some, IsTrue}
+use Rattle.ds2_value.specs.Row.{Row}
+use Rattle.ds2_table.specs.OneThread.{Answer, alone_answer, then_unit, after_stage, run_each, with_groups, stage_rows}
+use Rattle.ds2_table.specs.Table.{Contents}
+use Rattle.ds2_reading.specs.ReadingFits.{reading_fits_tables}
+use Rattle.ds2_code.specs.declared.parts.ProgramParts.{ProgramParts}
+use Rattle.ds2_code.specs.declared.parts.StagedParts.{StagedParts}
+use Rattle.ds2_code.specs.CodeUnit.{code_init, opening_data, row_slot_settings}
+use Rattle.ds2_code.specs.Desk.{ProgramData}
+use Rattle.ds2_slots.specs.LoadedHashes.{AreSlotTypesInBounds}
+use Rattle.ds2_machine.specs.AtRest.{staged_program}
+use Rattle.ds2_machine.specs.declared.machine.TheConstants.{MOST_BUDGET}
+use Rattle.ds2_machine.specs.declared.record.OutRow.{OutRow}
+use Rattle.ds2_code_answer.specs.CodeAnswer.{code_units, code_opening, code_program}
+use Rattle.ds2_code_answer.specs.CodeLoads.{code_reading, slots_of_stage}
+use Rattle.ds2_code_answer.specs.CodeTables.{rows_of_each}
+use Rattle.ds2_loads.specs.Readings.{ReadsNoThread}
+use Rattle.ds2_loads.specs.Grains.{IsGrainOfReading}
+use Rattle.ds2_unit.specs.declared.thread.ThreadEnd.{ThreadEnd}
+
+-- ---- grains
+
+-- the grains of at most one thread program, which fits its reading statement
+abbrev pub AreGrainsOf : List ProgramParts → List ℕ → Type 0
+AreGrainsOf [] grains = grains ≡ []
+AreGrainsOf (stage ∷ stages) [] = ⊥
+AreGrainsOf (stage ∷ stages) (grain ∷ grains) = IsGrainOfReading stage.reading grain × (grains ≡ [])
+
+-- ---- what a thread program leaves
+
+-- rows that were kept, without the numbers of their outputs
+abbrev pub rows_kept : List OutRow → List Row
+rows_kept rows = map (λ (r : OutRow). r.row) rows
+
+-- a thread program that reads tables has ended as its answer says
+pub record IsThreadEnd (answer : Answer) (end : ThreadEnd) : Type 0 where
+  pub rows : rows_kept end.written.rows ≡ stage_rows answer
+  pub lines : end.written.lines ≡ answer.lines
+  pub ended : answer.ending ≡ Some end.ending
+  pub counted : end.note.executed ≡ answer.executed
+  pub grouped : end.note.groups ≡ answer.groups
+  pub alone : answer.stages ≡ []
+
+-- a thread program can be run on tables: it is the first of the code's, its statement fits these tables, and the grain fits its statement
+pub record IsReadyThread (code : StagedParts) (stage : ProgramParts) (tables : List Contents) (budget grain : ℕ) : Type 0 where
+  pub first : staged_program code 1 ≡ stage
+  pub there : 1 ≤ length code.stages
+  pub reads : ReadsNoThread stage.reading
+  pub types : AreSlotTypesInBounds stage.slots
+  pub fits : IsTrue (reading_fits_tables tables (code_reading stage))
+  pub parts : IsGrainOfReading stage.reading grain
+  pub within : budget ≤ MOST_BUDGET
+
+-- ---- answers
+
+-- the answer of a thread program over the tables that it reads, to these values of its parameters
+abbrev pub thread_answer : ProgramParts → List Contents → (budget grain : ℕ) → Row → Answer
+thread_answer stage tables budget grain given = alone_answer (code_program stage [] tables budget grain) (code_opening stage [] tables given)
+
+-- what comes of the rows of a thread program
+abbrev pub answer_on_rows : ProgramParts → (budget : ℕ) → ProgramData → List Row → Answer
+answer_on_rows code budget d rows = with_groups (length rows) (run_each (code_units code budget) (map (row_slot_settings code.slots (slots_of_stage code.reading)) rows) d)
+
+-- what comes behind a thread program that left this
+abbrev pub answer_behind : ProgramParts → (budget : ℕ) → ProgramData → Answer → Answer
+answer_behind code budget d stage = after_stage stage.ending stage (answer_on_rows code budget d)
+
+-- the answer of a program that reads from a thread program whose answer is this function of its parameters, from this data
+abbrev pub reader_answer_from : ProgramParts → (budget : ℕ) → (Row → Answer) → ProgramData → Answer
+reader_answer_from code budget answers state = then_unit (code_init code budget state) (λ d. answer_behind code budget d (answers d.parameters))
+
+-- its answer over tables, where the thread program has so many parameters
+abbrev pub reader_answer : ProgramParts → (parameters : ℕ) → List Contents → (budget : ℕ) → (Row → Answer) → Answer
+reader_answer code parameters tables budget answers = reader_answer_from code budget answers (opening_data code [] (rows_of_each tables) parameters)
