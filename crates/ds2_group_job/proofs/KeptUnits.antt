@@ -6,12 +6,12 @@ use Rattle.ds2_value.specs.Row.{Row}
 use Rattle.ds2_value.specs.Run.{Written}
 use Rattle.ds2_value.specs.declared.fault.Ending.{Ending}
 use Rattle.ds2_value.specs.declared.fault.Ending.TheVariants.{Normal, Faulted}
-use Rattle.ds2_table.specs.OneThread.{Units, Reached, Standing, Halted, Astray, GroupResult, Answer, nothing_left, followed_by, then_unit, joined_loads, behind_loads, last_unit, run_all, run_each, groups_at, alone_answer}
+use Rattle.ds2_table.specs.OneThread.{Reached, Standing, Halted, Astray, GroupResult, Answer, nothing_left, followed_by, then_unit, joined_loads, behind_loads, run_each, groups_at, alone_answer}
 use Rattle.ds2_table.specs.Table.{Contents}
 use Rattle.ds2_bags.specs.Endings.{ended_by_fault}
 use Rattle.ds2_code.specs.declared.parts.ProgramParts.{ProgramParts}
 use Rattle.ds2_code.specs.CodeUnit.{code_init}
-use Rattle.ds2_code.specs.Desk.{ProgramData, SlotSettings}
+use Rattle.ds2_code.specs.Desk.{ProgramData}
 use Rattle.ds2_code_answer.specs.CodeAnswer.{code_program, code_units}
 use Rattle.ds2_code_answer.specs.CodeLoads.{code_loads, code_group_count}
 use Rattle.ds2_code_answer.specs.StageTold.{StageTold, told_by_answer}
@@ -23,6 +23,7 @@ use Rattle.ds2_machine.specs.declared.unit_end.UnitEnd.{UnitEnd}
 use Rattle.ds2_unit.specs.Threads.{IsThreadEnd, rows_kept}
 use Rattle.ds2_unit.specs.declared.thread.ThreadEnd.{ThreadEnd}
 use Rattle.ds2_unit.specs.declared.units_end.UnitsEnd.{UnitsEnd}
+use Rattle.ds2_unit.proofs.ThreadEnds.{none_read}
 use Rattle.ds2_group_job.specs.GroupRuns.{ending_of_reached, end_of_group}
 use Rattle.ds2_group_job.specs.KeptAnswers.{HasKeptTold}
 use Rattle.ds2_group_job.specs.StageJobs.{HasKeptGroups}
@@ -175,20 +176,6 @@ groups_before result go next before middle after told all last end there kept be
 
 -- ---- a thread program
 
-unit_without : (o : UnitOutcome ProgramData) (go : ProgramData → Answer) → ((state : ProgramData) → (go state).stages ≡ []) → (then_unit o go).stages ≡ []
-unit_without (Completed state p n) go h = h state
-unit_without (Interrupted fault p n) go h = refl
-unit_without Strayed go h = refl
-
-behind_without : (x : Reached ProgramData) (go : ProgramData → Answer) → ((state : ProgramData) → (go state).stages ≡ []) → (behind_loads x go).stages ≡ []
-behind_without (Standing state) go h = h state
-behind_without (Halted fault place) go h = refl
-behind_without Astray go h = refl
-
-each_without : (units : Units SlotSettings ProgramData) (loads : List SlotSettings) (state : ProgramData) → (run_each units loads state).stages ≡ []
-each_without units loads state =
-    behind_without (run_all units loads state).reached (last_unit units) (λ s. unit_without (units.term s) (λ d. nothing_left (Some Normal)) (λ d. refl))
-
 module _ (stage : ProgramParts) (tables : List Contents) (budget grain : ℕ) (begun : ProgramData) where
   abbrev units_told : ProgramData → Answer
   units_told state = then_unit (code_init stage budget state) (run_each (code_units stage budget) (code_loads stage tables))
@@ -206,5 +193,5 @@ module _ (stage : ProgramParts) (tables : List Contents) (budget grain : ℕ) (b
         ended = kept.ended ∙ ap Some (sym ending);
         counted = executed ∙ kept.counted;
         grouped = noted ∙ count ∙ ap (λ (e : Option Ending). groups_at e (code_group_count grain stage tables)) (ap Some ending ∙ sym kept.ended);
-        alone = unit_without (code_init stage budget begun) (run_each (code_units stage budget) (code_loads stage tables)) (λ s. each_without (code_units stage budget) (code_loads stage tables) s);
+        alone = none_read stage tables budget begun;
       }

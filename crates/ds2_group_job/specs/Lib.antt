@@ -5,4 +5,5 @@ pub mod GroupWorkers
 pub mod KeptAnswers
 pub mod IndependentGroups
 pub mod StageRuns
+pub mod WorkerRuns
 pub mod ProgramRuns

@@ -23,6 +23,7 @@ mod program_run;
 mod reader;
 mod stage_run;
 mod thread_on;
+mod worker_run;
 
 pub use alone::{run_alone, run_with};
 pub use ds2_unit::ThreadEnd;

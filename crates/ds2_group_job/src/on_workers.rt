@@ -1,28 +1,29 @@
 //! The groups of a thread program on many workers.
-ghost use Rattle.std.specs.Prelude.{◌≡◌, ◌≤◌, false, IfOk};
+ghost use Rattle.std.specs.Prelude.{◌≡◌, ◌≤◌, IfOk};
 ghost use Rattle.ds2_table.specs.OneThread.{run_each};
 ghost use Rattle.ds2_code_answer.specs.CodeAnswer.{code_units};
+ghost use Rattle.ds2_code_answer.specs.CodeLoads.{code_group_count, code_loads};
 ghost use Rattle.ds2_code_answer.specs.StageTold.{told_by_answer};
-ghost use Rattle.ds2_machine.specs.AtRest.{staged_program};
-ghost use Rattle.ds2_machine.specs.declared.machine.TheConstants.{MOST_BUDGET};
-ghost use Rattle.ds2_code.specs.Scales.{IsDataScaled};
-ghost use Rattle.ds2_loads.specs.GroupedLoads.{loads_of_groups};
-ghost use Rattle.ds2_loads.specs.ProgramSources.{program_groups};
+ghost use Rattle.ds2_loads.specs.GroupedLoads.{loads_in_groups, loads_of_groups};
+ghost use Rattle.ds2_unit.specs.Threads.{IsMachineOf};
 ghost use Rattle.ds2_group_job.specs.KeptAnswers.{HasKeptTold};
 ghost use Rattle.ds2_group_job.specs.GroupRuns.{end_of_group, run_of_group};
-ghost use Rattle.ds2_group_job.specs.StageJobs.{AreGroupsScaled, HasKeptGroups, answer_of_all};
+ghost use Rattle.ds2_group_job.specs.StageJobs.{HasKeptGroups, answer_of_all};
 ghost use Rattle.ds2_group_job.specs.WhateverRan.{GivesWhateverRan};
+ghost use Rattle.ds2_group_job.specs.WorkerRuns.{IsReadyOnWorkers};
 
 use crate::gathering::{is_fault, keep_all};
 use crate::job::GroupJob;
+use crate::worker_run::WorkerRun;
 use ds2_base::OutOfMemory;
 use ds2_code::laws::valid_code_ends;
-use ds2_loads::ProgramLoads;
+use ds2_code_answer::laws::loads_are_scaled;
+use ds2_loads::LoadSource;
+use ds2_loads::laws::groups_are_all_loads;
 use ds2_machine::{Machine, UnitRecord};
 use ds2_outside::Gate;
 use ds2_stage::run_stage;
-use ds2_unit::{UnitsEnd, sum_of};
-use ds2_valid_code::ProgramCode;
+use ds2_unit::{GroupedEnd, UnitsEnd, open_loads, sum_of};
 use std::alloc::Global;
 use std::sync::Wait;
 use std::thread::Threads;
@@ -45,65 +46,66 @@ fn run_groups<'m, 'a, G: Gate + Sync, W: Threads + Wait + Sync>(
     keep_all(written, end.ends)
 }
 
-// Runs loads in their groups on so many workers, each from a copy of this machine.
-fn run_loads_on<'m, 'a, G: Gate + Sync, W: Threads + Wait + Sync>(
+// Runs the loads of a thread program in their groups on workers, each from a copy of this machine.
+fn run_loads_on<G: Gate + Sync, W: Threads + Wait + Sync>(
     rt: &W,
     alloc: Global,
-    code: &'m ProgramCode,
-    machine: &'m Machine,
-    loads: ProgramLoads<'a>,
-    budget: u64,
-    workers: u32,
+    run: &WorkerRun,
+    machine: &Machine,
     gate: &G,
     written: &mut UnitRecord,
-) -> Result<UnitsEnd, OutOfMemory>
-    requires workers { (1 ≤ workers) × (workers ≤ 64) }
-    requires budget { budget ≤ MOST_BUDGET }
-    requires ready { machine.now.spent ≡ false }
-    requires scaled { IsDataScaled (staged_program code.now machine.now.program) machine.now.state }
-    requires loads { AreGroupsScaled (staged_program code.now machine.now.program).slots (program_groups loads) }
-    requires independent { GivesWhateverRan (staged_program code.now machine.now.program) budget (program_groups loads) machine.now.state }
-    ensures { IfOk result (λ end. HasKeptGroups written.old written.new (end_of_group
-        (run_of_group (staged_program code.now machine.now.program) budget (loads_of_groups (program_groups loads.entry)) machine.now.state)) end) }
+) -> Result<GroupedEnd, OutOfMemory>
+    requires run { IsReadyOnWorkers run.now }
+    requires machine { IsMachineOf run.now.thread machine.now }
+    requires independent { GivesWhateverRan run.now.thread.stage.now run.now.thread.budget
+        (loads_in_groups run.now.thread.grain run.now.thread.stage.now run.now.thread.tables.now) machine.now.state }
+    ensures kept { IfOk result (λ ran. HasKeptGroups written.old written.new (end_of_group (run_of_group run.now.thread.stage.now run.now.thread.budget
+        (loads_of_groups (loads_in_groups run.now.thread.grain run.now.thread.stage.now run.now.thread.tables.now)) machine.now.state)) ran.end) }
+    ensures groups { IfOk result (λ ran. ran.groups ≡ code_group_count run.now.thread.grain run.now.thread.stage.now run.now.thread.tables.now) }
 {
-    let job = GroupJob::open(code, loads, machine, budget);
-    run_groups(rt, alloc, &job, workers, gate, written)
+    loads_are_scaled();
+    groups_are_all_loads();
+    let code = run.thread.code;
+    let loads = open_loads(alloc, &run.thread)?;
+    let groups = loads.groups();
+    let job = GroupJob::open(code, loads, machine, run.thread.budget);
+    let end = run_groups(rt, alloc, &job, run.workers, gate, written)?;
+    Ok(GroupedEnd { end, groups })
 }
 
-/// What comes behind `init`: the loads in their groups on so many workers, and `term` on the machine that they began with, where none of
-/// them faults.
-pub(crate) fn run_rest<'a, G: Gate + Sync, W: Threads + Wait + Sync>(
+/// What comes behind `init` of a thread program: its loads in their groups on workers, and `term` on the machine that they began with,
+/// where none of them faults.
+pub(crate) fn run_rest<G: Gate + Sync, W: Threads + Wait + Sync>(
     rt: &W,
     alloc: Global,
-    code: &ProgramCode,
+    run: &WorkerRun,
     machine: &mut Machine,
-    loads: ProgramLoads<'a>,
-    budget: u64,
-    workers: u32,
     gate: &G,
     written: &mut UnitRecord,
-) -> Result<UnitsEnd, OutOfMemory>
-    requires workers { (1 ≤ workers) × (workers ≤ 64) }
-    requires budget { budget ≤ MOST_BUDGET }
-    requires ready { machine.old.spent ≡ false }
-    requires scaled { IsDataScaled (staged_program code.now machine.old.program) machine.old.state }
-    requires loads { AreGroupsScaled (staged_program code.now machine.old.program).slots (program_groups loads) }
-    requires independent { GivesWhateverRan (staged_program code.now machine.old.program) budget (program_groups loads) machine.old.state }
-    ensures { IfOk result (λ end. HasKeptTold written.old written.new (told_by_answer
-        (run_each (code_units (staged_program code.now machine.old.program) budget) (loads_of_groups (program_groups loads.entry)) machine.old.state)) end) }
+) -> Result<GroupedEnd, OutOfMemory>
+    requires run { IsReadyOnWorkers run.now }
+    requires machine { IsMachineOf run.now.thread machine.old }
+    requires independent { GivesWhateverRan run.now.thread.stage.now run.now.thread.budget
+        (loads_in_groups run.now.thread.grain run.now.thread.stage.now run.now.thread.tables.now) machine.old.state }
+    ensures ran { IfOk result (λ ran. HasKeptTold written.old written.new (told_by_answer
+        (run_each (code_units run.now.thread.stage.now run.now.thread.budget) (code_loads run.now.thread.stage.now run.now.thread.tables.now) machine.old.state)) ran.end) }
+    ensures groups { IfOk result (λ ran. ran.groups ≡ code_group_count run.now.thread.grain run.now.thread.stage.now run.now.thread.tables.now) }
 {
     valid_code_ends();
+    groups_are_all_loads();
+    let code = run.thread.code;
     let _valid = code.parts();
-    let end = run_loads_on(
-        rt, alloc, code, &*machine, loads, budget, workers, gate, written,
-    )?;
-    if is_fault(end.ending) {
-        return Ok(end);
+    let ran = run_loads_on(rt, alloc, run, &*machine, gate, written)?;
+    if is_fault(ran.end.ending) {
+        return Ok(ran);
     }
-    let last = machine.call_term(alloc, code, budget, written)?;
-    let executed = sum_of(end.executed, u128::from(last.executed))?;
-    Ok(UnitsEnd {
-        ending: last.ending,
-        executed,
+    let last = machine.call_term(alloc, code, run.thread.budget, written)?;
+    let executed = sum_of(ran.end.executed, u128::from(last.executed))?;
+    Ok(GroupedEnd {
+        end: UnitsEnd {
+            ending: last.ending,
+            executed,
+        },
+        groups: ran.groups,
     })
 }

@@ -11,11 +11,11 @@ use crate::stage_run::StageRun;
 use ds2_base::OutOfMemory;
 use ds2_code::ProgramParts;
 use ds2_code_answer::laws::readings_fit_tables;
-use ds2_loads::{TableRows, loaded_hashes};
+use ds2_loads::{TableRows, loaded_hashes, statement_of};
 use ds2_machine::{Machine, UnitSink};
 use ds2_reading::Tables;
 use ds2_unit::{
-    RunEnd, ThreadEnd, ended_at_init, ended_behind, first_grain, run_rows, tables_behind,
+    RunEnd, ThreadEnd, ThreadRun, ended_at_init, ended_behind, first_grain, run_rows, tables_behind,
 };
 use ds2_value::Value;
 use std::alloc::Global;
@@ -32,12 +32,12 @@ fn run_opened<F: Fn(Global, &StageRun, &[Value]) -> Result<ThreadEnd, OutOfMemor
     requires callable { F.IsAlwaysCallable run.now }
     requires right { RunsStages (F.post run.now) }
     requires number { machine.old.program ≡ 0 }
-    requires scaled { IsDataScaled stage.now.code.program machine.old.state }
+    requires scaled { IsDataScaled stage.now.thread.code.now.program machine.old.state }
     requires ready { machine.old.spent ≡ false }
-    ensures { IfOk result (λ end. IsRunEnd S.has_taken sink.old sink.new (reader_answer_from stage.now.code.program stage.now.budget (answer_of_thread stage.now) machine.old.state) end) }
+    ensures { IfOk result (λ end. IsRunEnd S.has_taken sink.old sink.new (reader_answer_from stage.now.thread.code.now.program stage.now.thread.budget (answer_of_thread stage.now) machine.old.state) end) }
 {
-    let code = stage.code;
-    let budget = stage.budget;
+    let code = stage.thread.code;
+    let budget = stage.thread.budget;
     let first = machine.call_init(alloc, code, budget, sink)?;
     if machine.spent() {
         return Ok(ended_at_init(alloc, first));
@@ -60,11 +60,11 @@ fn run_reader<F: Fn(Global, &StageRun, &[Value]) -> Result<ThreadEnd, OutOfMemor
     requires callable { F.IsAlwaysCallable run.now }
     requires right { RunsStages (F.post run.now) }
     ensures { IfOk result (λ end. IsRunEnd S.has_taken sink.old sink.new
-        (reader_answer stage.now.code.program (length stage.now.stage.parameters) tables.now stage.now.budget (answer_of_thread stage.now)) end) }
+        (reader_answer stage.now.thread.code.now.program (length stage.now.thread.stage.now.parameters) tables.now stage.now.thread.budget (answer_of_thread stage.now)) end) }
 {
     let rows = TableRows { tables };
-    let parameters = stage.stage.parameters.len();
-    let mut machine = Machine::open(alloc, stage.code, 0, &[], &rows, parameters)?;
+    let parameters = stage.thread.stage.parameters.len();
+    let mut machine = Machine::open(alloc, stage.thread.code, 0, &[], &rows, parameters)?;
     run_opened(alloc, stage, &mut machine, run, sink)
 }
 
@@ -88,10 +88,19 @@ fn run_staged<F: Fn(Global, &StageRun, &[Value]) -> Result<ThreadEnd, OutOfMemor
     let budget = program.budget;
     let hashes = code.parts().program.hashes.as_slice();
     let own = tables_behind(alloc, tables, loaded_hashes(hashes))?;
+    let reading = statement_of(alloc, stage)?;
     let asked = program.grains.as_slice();
     let grain = first_grain(asked);
-    let thread = StageRun::new(code, stage, &own, budget, grain, program.workers);
-    run_reader(alloc, tables, &thread, run, sink)
+    let thread = ThreadRun {
+        code,
+        stage,
+        reading: &reading,
+        tables: &own,
+        budget,
+        grain,
+    };
+    let runnable = StageRun::new(thread, program.workers);
+    run_reader(alloc, tables, &runnable, run, sink)
 }
 
 // Runs a data program that reads from no thread program.

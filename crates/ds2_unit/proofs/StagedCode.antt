@@ -14,7 +14,7 @@ use Rattle.ds2_code.specs.declared.parts.ReadingPart.{ReadingPart}
 use Rattle.ds2_code.specs.declared.parts.ReadingPart.TheVariants as reading
 use Rattle.ds2_code.specs.declared.parts.Slot.{Slot}
 use Rattle.ds2_code.specs.declared.parts.StagedParts.{StagedParts}
-use Rattle.ds2_code.specs.ValidCode.{hash_table_fits, output_fits, reading_fits, values_allowed, constant_allowed, IsValidProgram, IsValidChain, IsValidStaged}
+use Rattle.ds2_code.specs.ValidCode.{hash_table_fits, output_fits, reading_fits, IsValidProgram, IsValidChain, IsValidStaged}
 use Rattle.ds2_slots.specs.LoadedHashes.{AreSlotTypesInBounds}
 use Rattle.ds2_code_answer.specs.CodeLoads.{code_reading}
 use Rattle.ds2_code_answer.specs.CodeLoadLaws.{ReadingsFitTables}
@@ -22,23 +22,15 @@ use Rattle.ds2_code_answer.specs.CodeTables.{hash_references, program_references
 use Rattle.ds2_unit.specs.ProgramRun.{grain_asked}
 use Rattle.ds2_loads.specs.Readings.{ReadsNoThread}
 use Rattle.ds2_loads.specs.Grains.{IsGrainOfReading}
+use Rattle.ds2_machine.specs.AtRest.{staged_program}
 use Rattle.ds2_machine.specs.declared.machine.TheConstants.{MOST_BUDGET}
+use Rattle.ds2_unit.proofs.Statements.{first_of_two, types_of_values}
 use Rattle.ds2_unit.specs.Threads.{AreGrainsOf, IsReadyThread}
-use Rattle.ds2_value.specs.Types.{in_bounds}
-
-first_of : (a b : Bool) → (a && b) ≡ true → a ≡ true
-first_of true b h = refl
-first_of false b h = absurd cc
+use Rattle.ds2_unit.specs.declared.thread_run.ThreadRun.{ThreadRun}
 
 second_of : (a b : Bool) → (a && b) ≡ true → b ≡ true
 second_of true b h = h
 second_of false b h = absurd cc
-
--- the types of the slots of a program
-types_of_values : (code : ProgramParts) → values_allowed code ≡ true → AreSlotTypesInBounds code.slots
-types_of_values code h =
-    let types = list_all (λ (s : Slot). in_bounds s.ty) code.slots in
-    first_of types (list_all constant_allowed code.constants) (first_of (types && list_all constant_allowed code.constants) _ h)
 
 -- ---- readings
 
@@ -54,7 +46,7 @@ reads_none code valid =
     let hashes = list_all (λ (hash : HashPart). option_map_or (hash_table_fits code.slots hash) hash.loaded true) code.hashes in
     let fits = reading_fits code.slots None code.reading in
     let outputs = list_all output_fits code.outputs in
-    reading_without code.slots code.reading (first_of fits outputs (second_of hashes (fits && outputs) (IsValidProgram.layout valid)))
+    reading_without code.slots code.reading (first_of_two fits outputs (second_of hashes (fits && outputs) (IsValidProgram.layout valid)))
 
 -- ---- a chain of one
 
@@ -94,24 +86,30 @@ module _ (parts : StagedParts) (stage : ProgramParts) (valid : IsValidStaged par
   pub stage_fits_tables : ReadingsFitTables → (tables : List Contents) → AreTablesOfCode parts tables → IsTrue (reading_fits_tables (tables_of_stage parts.program tables) (code_reading stage))
   stage_fits_tables law tables are = law (stage_itself stage) (tables_of_stage parts.program tables) stage_staged refl (stage_tables tables are)
 
-  pub ready_first : ReadingsFitTables → (tables : List Contents) → AreTablesOfCode parts tables → (budget grain : ℕ) → budget ≤ MOST_BUDGET → IsGrainOfReading stage.reading grain
-      → IsReadyThread parts stage (tables_of_stage parts.program tables) budget grain
-  ready_first law tables are budget grain few fits = record {
-    first = ap (λ (stages : List ProgramParts). unwrap_or (slice_get stages 0) parts.program) one;
-    there = omega (arith, ap (λ (stages : List ProgramParts). length stages) one);
-    reads = reads_none stage stage_valid;
-    types = stage_types;
-    fits = stage_fits_tables law tables are;
-    parts = fits;
-    within = few;
-  }
-
-  pub ready_staged : ReadingsFitTables → (tables : List Contents) → AreTablesOfCode parts tables → (budget grain asked : ℕ) (own : List Contents) → budget ≤ MOST_BUDGET → IsGrainOfReading stage.reading asked
-      → own ≡ tables_of_stage parts.program tables → grain ≡ asked → IsReadyThread parts stage own budget grain
-  ready_staged law tables are budget grain asked own few fits behind same =
-      let P : List Contents → Type 0 = λ ts. IsReadyThread parts stage ts budget grain in
-      let Q : ℕ → Type 0 = λ g. IsReadyThread parts stage (tables_of_stage parts.program tables) budget g in
-      subst P (sym behind) (subst Q (sym same) (ready_first law tables are budget asked few fits))
+  -- the thread program can be run over the tables behind those of the hash objects
+  pub ready_staged : ReadingsFitTables → (tables : List Contents) → AreTablesOfCode parts tables → (asked : ℕ) → IsGrainOfReading stage.reading asked
+      → (run : ThreadRun) → run.code.now ≡ parts → run.stage.now ≡ stage → run.reading.now ≡ code_reading stage → run.tables.now ≡ tables_of_stage parts.program tables → run.grain ≡ asked
+      → run.budget ≤ MOST_BUDGET → IsReadyThread run
+  ready_staged law tables are asked parts_fit run code is statement behind same few =
+      let first : staged_program parts 1 ≡ stage = ap (λ (stages : List ProgramParts). unwrap_or (slice_get stages 0) parts.program) one in
+      let there : 1 ≤ length parts.stages = omega (arith, ap (λ (stages : List ProgramParts). length stages) one) in
+      let T : StagedParts → Type 0 = λ p. 1 ≤ length p.stages in
+      let R : ProgramParts → Type 0 = λ p. ReadsNoThread p.reading in
+      let S : ProgramParts → Type 0 = λ p. AreSlotTypesInBounds p.slots in
+      let F : List Contents → Type 0 = λ ts. IsTrue (reading_fits_tables ts (code_reading stage)) in
+      let E : ProgramParts → Type 0 = λ p. IsTrue (reading_fits_tables run.tables.now (code_reading p)) in
+      let G : ℕ → Type 0 = λ g. IsGrainOfReading stage.reading g in
+      let H : ProgramParts → Type 0 = λ p. IsGrainOfReading p.reading run.grain in
+      record {
+        first = ap (λ (p : StagedParts). staged_program p 1) code ∙ first ∙ sym is;
+        there = subst T (sym code) there;
+        reads = subst R (sym is) (reads_none stage stage_valid);
+        types = subst S (sym is) stage_types;
+        statement = statement ∙ ap code_reading (sym is);
+        fits = subst E (sym is) (subst F (sym behind) (stage_fits_tables law tables are));
+        parts = subst H (sym is) (subst G (sym same) parts_fit);
+        within = few;
+      }
 
 -- ---- how many thread programs there are
 

@@ -12,11 +12,11 @@ use Rattle.ds2_machine.specs.AtRest.{staged_program}
 pub data_program : (parts : StagedParts) (n : ℕ) → n ≡ 0 → staged_program parts n ≡ parts.program
 data_program parts n is = ap (staged_program parts) is
 
-first_of_two : (a b : Bool) → (a && b) ≡ true → a ≡ true
+pub first_of_two : (a b : Bool) → (a && b) ≡ true → a ≡ true
 first_of_two true b h = refl
 first_of_two false b h = absurd cc
 
-types_of_values : (code : ProgramParts) → values_allowed code ≡ true → AreSlotTypesInBounds code.slots
+pub types_of_values : (code : ProgramParts) → values_allowed code ≡ true → AreSlotTypesInBounds code.slots
 types_of_values code h =
     let types = list_all (λ (s : Slot). in_bounds s.ty) code.slots in
     first_of_two types (list_all constant_allowed code.constants) (first_of_two (types && list_all constant_allowed code.constants) _ h)

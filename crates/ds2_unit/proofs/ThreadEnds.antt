@@ -35,6 +35,12 @@ each_without : (units : Units SlotSettings ProgramData) (loads : List SlotSettin
 each_without units loads state =
     behind_without (run_all units loads state).reached (last_unit units) (λ s. unit_without (units.term s) (λ d. nothing_left (Some Normal)) (λ d. refl))
 
+-- a thread program reads from none
+pub none_read : (stage : ProgramParts) (tables : List Contents) (budget : ℕ) (state : ProgramData)
+    → (then_unit (code_init stage budget state) (run_each (code_units stage budget) (code_loads stage tables))).stages ≡ []
+none_read stage tables budget state =
+    unit_without (code_init stage budget state) (run_each (code_units stage budget) (code_loads stage tables)) (λ s. each_without (code_units stage budget) (code_loads stage tables) s)
+
 -- a record keeps rows and lines behind its own
 abbrev pub HasKept : UnitRecord → UnitRecord → List Written → List (List ℕ) → Type 0
 HasKept from now rows lines = (all_written now.rows ≡ all_written from.rows ++ rows) × (now.lines ≡ from.lines ++ lines)
@@ -60,5 +66,5 @@ module _ (stage : ProgramParts) (tables : List Contents) (budget grain : ℕ) (s
         ended = ran.ended ∙ ap Some (sym ending);
         counted = executed ∙ ran.counted;
         grouped = groups ∙ ap (λ e. groups_at e (code_group_count grain stage tables)) (ap Some ending ∙ sym ran.ended);
-        alone = unit_without (code_init stage budget state) (run_each (code_units stage budget) (code_loads stage tables)) (λ s. each_without (code_units stage budget) (code_loads stage tables) s);
+        alone = none_read stage tables budget state;
       }

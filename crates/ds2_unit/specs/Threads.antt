@@ -1,15 +1,15 @@
 -- A thread program from which a program reads.
-use Rattle.std.specs.Prelude.{◌≡◌, ◌≤◌, ℕ, List, [], ◌∷◌, length, map, Some, IsTrue}
+use Rattle.std.specs.Prelude.{◌≡◌, ◌≤◌, ℕ, false, List, [], ◌∷◌, length, map, Some, IsTrue}
 use Rattle.ds2_value.specs.Row.{Row}
 use Rattle.ds2_table.specs.OneThread.{Answer, alone_answer, then_unit, after_stage, run_each, with_groups, stage_rows}
 use Rattle.ds2_table.specs.Table.{Contents}
 use Rattle.ds2_reading.specs.ReadingFits.{reading_fits_tables}
 use Rattle.ds2_code.specs.declared.parts.ProgramParts.{ProgramParts}
-use Rattle.ds2_code.specs.declared.parts.StagedParts.{StagedParts}
 use Rattle.ds2_code.specs.CodeUnit.{code_init, opening_data, row_slot_settings}
 use Rattle.ds2_code.specs.Desk.{ProgramData}
+use Rattle.ds2_code.specs.Scales.{IsDataScaled}
 use Rattle.ds2_slots.specs.LoadedHashes.{AreSlotTypesInBounds}
-use Rattle.ds2_machine.specs.AtRest.{staged_program}
+use Rattle.ds2_machine.specs.AtRest.{MachineAtRest, staged_program}
 use Rattle.ds2_machine.specs.declared.machine.TheConstants.{MOST_BUDGET}
 use Rattle.ds2_machine.specs.declared.record.OutRow.{OutRow}
 use Rattle.ds2_code_answer.specs.CodeAnswer.{code_units, code_opening, code_program}
@@ -18,6 +18,7 @@ use Rattle.ds2_code_answer.specs.CodeTables.{rows_of_each}
 use Rattle.ds2_loads.specs.Readings.{ReadsNoThread}
 use Rattle.ds2_loads.specs.Grains.{IsGrainOfReading}
 use Rattle.ds2_unit.specs.declared.thread.ThreadEnd.{ThreadEnd}
+use Rattle.ds2_unit.specs.declared.thread_run.ThreadRun.{ThreadRun}
 
 -- ---- grains
 
@@ -42,15 +43,22 @@ pub record IsThreadEnd (answer : Answer) (end : ThreadEnd) : Type 0 where
   pub grouped : end.note.groups ≡ answer.groups
   pub alone : answer.stages ≡ []
 
--- a thread program can be run on tables: it is the first of the code's, its statement fits these tables, and the grain fits its statement
-pub record IsReadyThread (code : StagedParts) (stage : ProgramParts) (tables : List Contents) (budget grain : ℕ) : Type 0 where
-  pub first : staged_program code 1 ≡ stage
-  pub there : 1 ≤ length code.stages
-  pub reads : ReadsNoThread stage.reading
-  pub types : AreSlotTypesInBounds stage.slots
-  pub fits : IsTrue (reading_fits_tables tables (code_reading stage))
-  pub parts : IsGrainOfReading stage.reading grain
-  pub within : budget ≤ MOST_BUDGET
+-- a thread program can be run on its tables: it is the first of the code's, its statement fits these tables, and the grain fits its statement
+pub record IsReadyThread (run : ThreadRun) : Type 0 where
+  pub first : staged_program run.code.now 1 ≡ run.stage.now
+  pub there : 1 ≤ length run.code.now.stages
+  pub reads : ReadsNoThread run.stage.now.reading
+  pub types : AreSlotTypesInBounds run.stage.now.slots
+  pub statement : run.reading.now ≡ code_reading run.stage.now
+  pub fits : IsTrue (reading_fits_tables run.tables.now (code_reading run.stage.now))
+  pub parts : IsGrainOfReading run.stage.now.reading run.grain
+  pub within : run.budget ≤ MOST_BUDGET
+
+-- a machine is one for a thread program, and may run its next unit
+pub record IsMachineOf (run : ThreadRun) (machine : MachineAtRest) : Type 0 where
+  pub number : staged_program run.code.now machine.program ≡ run.stage.now
+  pub scaled : IsDataScaled (staged_program run.code.now machine.program) machine.state
+  pub ready : machine.spent ≡ false
 
 -- ---- answers
 

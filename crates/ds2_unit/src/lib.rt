@@ -4,8 +4,9 @@
 //! one-thread answer of the code over its tables, as `ds2_code_answer` defines it. [`OutputSinks`] have a sink for each output.
 //! [`run_units`] runs the units of a machine's program on the loads of a source, [`run_loads`] the unit `run` alone.
 //!
-//! [`run_thread`] runs a thread program whole and keeps what it writes. [`run_rows`] goes on behind it: the rows are read straight from
-//! there. What holds of the groups of a program that ran is in [`laws`].
+//! [`run_thread`] runs a thread program whole, told as a [`ThreadRun`], and keeps what it writes. [`run_rows`] goes on behind it: the rows
+//! are read straight from there. Who runs its groups otherwise begins by [`open_thread`] and [`open_loads`] and ends by [`thread_end`].
+//! What holds of the groups of a program that ran is in [`laws`].
 //!
 //! ```text
 //! let mut sink = sinks_of(alloc, &code)?;
@@ -23,6 +24,7 @@ mod reader;
 mod reading;
 mod table_sink;
 mod thread;
+mod thread_run;
 mod units;
 mod units_end;
 
@@ -32,6 +34,7 @@ pub use grains::first_grain;
 pub use output_sinks::{OutputSinks, RowSink};
 pub use program_end::{ProgramEnd, RunEnd, StageNote};
 pub use reader::{ended_at_init, ended_behind, run_rows};
-pub use thread::{GroupedEnd, ThreadEnd, groups_behind, run_thread, tables_behind};
+pub use thread::{GroupedEnd, ThreadEnd, run_thread, tables_behind, thread_end};
+pub use thread_run::{ThreadRun, open_loads, open_thread};
 pub use units::{run_loads, run_to_end, run_units, sum_of};
 pub use units_end::UnitsEnd;

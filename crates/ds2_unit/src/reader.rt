@@ -2,17 +2,19 @@
 ghost use Rattle.std.specs.Prelude.{◌≡◌, ◌+◌, ◌≤◌, [], ◌∷◌, false, IfOk, OnOk};
 ghost use Rattle.ds2_table.specs.OneThread.{Answer};
 ghost use Rattle.ds2_code.specs.Scales.{IsDataScaled};
-ghost use Rattle.ds2_slots.specs.LoadedHashes.{AreSlotTypesInBounds};
 ghost use Rattle.ds2_machine.specs.Sink.{SinkTakes};
 ghost use Rattle.ds2_machine.specs.declared.machine.TheConstants.{MOST_BUDGET};
 ghost use Rattle.ds2_code_answer.specs.CodeLoads.{slots_of_stage};
 ghost use Rattle.ds2_unit.specs.UnitsRun.{HasRunAnswer};
 ghost use Rattle.ds2_unit.specs.Threads.{IsThreadEnd, answer_behind};
 
+use crate::program_end::{RunEnd, StageNote};
+use crate::reading::slots_of;
 use crate::thread::ThreadEnd;
-use crate::{RunEnd, StageNote, UnitsEnd, run_to_end, sum_of};
+use crate::units::{run_to_end, sum_of};
+use crate::units_end::UnitsEnd;
 use ds2_base::{List, OutOfMemory, Text};
-use ds2_code::{ProgramParts, ReadingPart};
+use ds2_code::ReadingPart;
 use ds2_loads::StageRows;
 use ds2_machine::{Machine, UnitEnd, UnitSink};
 use ds2_valid_code::ProgramCode;
@@ -42,50 +44,6 @@ fn hand_on<S: UnitSink>(alloc: Global, lines: &[Text], sink: &mut S) -> Result<(
     Ok(())
 }
 
-// Goes on behind a thread program, with the parts of the data program.
-fn run_behind<S: UnitSink>(
-    alloc: Global,
-    code: &ProgramCode,
-    program: &ProgramParts,
-    into: &[u32],
-    stage: &ThreadEnd,
-    machine: &mut Machine,
-    budget: u64,
-    sink: &mut S,
-) -> Result<UnitsEnd, OutOfMemory>
-    requires program { code.now.program ≡ program.now }
-    requires number { machine.old.program ≡ 0 }
-    requires types { AreSlotTypesInBounds program.now.slots }
-    requires scaled { IsDataScaled program.now machine.old.state }
-    requires budget { budget ≤ MOST_BUDGET }
-    requires ready { machine.old.spent ≡ false }
-    requires into { slots_of_stage program.now.reading ≡ into.now }
-    ensures { IfOk result (λ end. (answer : Answer) → IsThreadEnd answer stage.now → HasRunAnswer S.has_taken sink.old sink.new
-        (answer_behind program.now budget machine.old.state answer) end) }
-{
-    let lines = stage.written.lines.as_slice();
-    hand_on(alloc, lines, sink)?;
-    match stage.ending {
-        Ending::Faulted { kind, place } => Ok(UnitsEnd {
-            ending: Ending::Faulted { kind, place },
-            executed: 0,
-        }),
-        Ending::Normal => {
-            let slots = program.slots.as_slice();
-            let rest = stage.written.rows.as_slice();
-            let mut source = StageRows {
-                slots,
-                into,
-                row: &[],
-                rest,
-                all: rest,
-            };
-            let end = run_to_end(alloc, code, machine, &mut source, budget, sink)?;
-            Ok(end)
-        }
-    }
-}
-
 /// Goes on behind a thread program: its lines come first, its fault ends the data program, and its rows are the loads of `run`.
 pub fn run_rows<S: UnitSink>(
     alloc: Global,
@@ -102,9 +60,28 @@ pub fn run_rows<S: UnitSink>(
     ensures { IfOk result (λ end. (answer : Answer) → IsThreadEnd answer stage.now → HasRunAnswer S.has_taken sink.old sink.new
         (answer_behind code.now.program budget machine.old.state answer) end) }
 {
-    let program = &code.parts().program;
-    let into = thread_slots(&program.reading);
-    run_behind(alloc, code, program, into, stage, machine, budget, sink)
+    let into = thread_slots(&code.parts().program.reading);
+    let slots = slots_of(code);
+    let lines = stage.written.lines.as_slice();
+    hand_on(alloc, lines, sink)?;
+    match stage.ending {
+        Ending::Faulted { kind, place } => Ok(UnitsEnd {
+            ending: Ending::Faulted { kind, place },
+            executed: 0,
+        }),
+        Ending::Normal => {
+            let rest = stage.written.rows.as_slice();
+            let mut source = StageRows {
+                slots,
+                into,
+                row: &[],
+                rest,
+                all: rest,
+            };
+            let end = run_to_end(alloc, code, machine, &mut source, budget, sink)?;
+            Ok(end)
+        }
+    }
 }
 
 /// How a program has ended that ended in its `init`: no thread program was begun.

@@ -1,27 +1,23 @@
 //! A thread program that reads tables, on one thread.
-ghost use Rattle.std.specs.Prelude.{◌≡◌, ◌≤◌, [], drop, false, length, IfOk, Some};
+ghost use Rattle.std.specs.Prelude.{◌≡◌, [], drop, IfOk, Some};
 ghost use Rattle.std.specs.Arc.{arc_value};
-ghost use Rattle.std.specs.List.{AllByRecursion};
 ghost use Rattle.ds2_table.specs.OneThread.{alone_answer, groups_at, run_each, then_unit};
 ghost use Rattle.ds2_code.specs.CodeUnit.{code_init};
-ghost use Rattle.ds2_code.specs.Scales.{AreGivenScaled, AreSettingsScaled, IsDataScaled};
-ghost use Rattle.ds2_machine.specs.AtRest.{staged_program};
-ghost use Rattle.ds2_machine.specs.declared.machine.TheConstants.{MOST_BUDGET};
 ghost use Rattle.ds2_code_answer.specs.CodeAnswer.{code_program, code_units};
-ghost use Rattle.ds2_code_answer.specs.CodeLoads.{code_group_count, code_loads, code_reading};
+ghost use Rattle.ds2_code_answer.specs.CodeLoads.{code_group_count, code_loads};
 ghost use Rattle.ds2_unit.specs.UnitsRun.{HasRunAnswer};
-ghost use Rattle.ds2_unit.specs.Threads.{IsReadyThread, IsThreadEnd, thread_answer};
+ghost use Rattle.ds2_unit.specs.Threads.{IsMachineOf, IsReadyThread, IsThreadEnd, thread_answer};
 
-use crate::given::are_given_scaled;
-use crate::{StageNote, UnitsEnd, run_units};
+use crate::program_end::StageNote;
+use crate::thread_run::{ThreadRun, open_loads, open_thread};
+use crate::units::run_units;
+use crate::units_end::UnitsEnd;
 use ds2_base::OutOfMemory;
-use ds2_code::ProgramParts;
 use ds2_code_answer::laws::loads_are_scaled;
-use ds2_loads::{LoadSource, ProgramLoads, TableRows, statement_of};
+use ds2_loads::LoadSource;
 use ds2_machine::{Machine, UnitRecord, UnitSink};
-use ds2_reading::{Reading, Tables};
+use ds2_reading::Tables;
 use ds2_table::Table;
-use ds2_valid_code::ProgramCode;
 use ds2_value::{Ending, Value};
 use std::alloc::Global;
 use std::sync::Arc;
@@ -59,8 +55,8 @@ pub fn tables_behind(alloc: Global, tables: &Tables, first: usize) -> Result<Tab
     Ok(behind)
 }
 
-/// So many groups behind a normal end; 0 behind a fault.
-pub fn groups_behind(ending: Ending, groups: u64) -> u64
+// So many groups behind a normal end; 0 behind a fault.
+fn groups_behind(ending: Ending, groups: u64) -> u64
     ensures { result ≡ groups_at (Some ending) groups }
 {
     match ending {
@@ -76,157 +72,68 @@ pub struct GroupedEnd {
     pub groups: u64,
 }
 
-// Runs the units of a program on the loads of a source, and tells how many groups these make.
-fn run_grouped<L: LoadSource, S: UnitSink>(
-    alloc: Global,
-    code: &ProgramCode,
-    machine: &mut Machine,
-    source: &mut L,
-    budget: u64,
-    sink: &mut S,
-) -> Result<GroupedEnd, OutOfMemory>
-    requires scaled { IsDataScaled (staged_program code.now machine.old.program) machine.old.state }
-    requires loads { AllByRecursion (AreSettingsScaled (staged_program code.now machine.old.program).slots) (L.left source.old) }
-    requires budget { budget ≤ MOST_BUDGET }
-    requires ready { machine.old.spent ≡ false }
-    ensures ran { IfOk result (λ ran. HasRunAnswer S.has_taken sink.old sink.new
-        (then_unit (code_init (staged_program code.now machine.old.program) budget machine.old.state)
-        (run_each (code_units (staged_program code.now machine.old.program) budget) (L.left source.old))) ran.end) }
-    ensures groups { IfOk result (λ ran. ran.groups ≡ length (L.grouped source.old)) }
+/// What a thread program leaves that wrote this and whose units ended so, with the number of groups that its loads make; it need not be
+/// told where they ended by a fault.
+pub fn thread_end(written: UnitRecord, end: UnitsEnd, groups: u64) -> ThreadEnd
+    ensures written { result.written ≡ written }
+    ensures ending { result.ending ≡ end.ending }
+    ensures executed { result.note.executed ≡ end.executed }
+    ensures groups { result.note.groups ≡ groups_at (Some result.ending) groups }
 {
-    let groups = source.groups();
-    let end = run_units(alloc, code, machine, source, budget, sink)?;
-    Ok(GroupedEnd { end, groups })
-}
-
-// Runs the units of a thread program on the loads of its statement.
-fn run_statement<S: UnitSink>(
-    alloc: Global,
-    code: &ProgramCode,
-    stage: &ProgramParts,
-    reading: &Reading,
-    tables: &Tables,
-    machine: &mut Machine,
-    budget: u64,
-    grain: u32,
-    sink: &mut S,
-) -> Result<GroupedEnd, OutOfMemory>
-    requires thread { IsReadyThread code.now stage.now tables.now budget grain }
-    requires reading { reading.now ≡ code_reading stage.now }
-    requires number { staged_program code.now machine.old.program ≡ stage.now }
-    requires scaled { IsDataScaled (staged_program code.now machine.old.program) machine.old.state }
-    requires ready { machine.old.spent ≡ false }
-    ensures ran { IfOk result (λ ran. HasRunAnswer S.has_taken sink.old sink.new
-        (then_unit (code_init stage.now budget machine.old.state) (run_each (code_units stage.now budget) (code_loads stage.now tables.now))) ran.end) }
-    ensures groups { IfOk result (λ ran. ran.groups ≡ code_group_count grain stage.now tables.now) }
-{
-    loads_are_scaled();
-    let mut loads = ProgramLoads::open(alloc, stage, reading, tables, grain)?;
-    run_grouped(alloc, code, machine, &mut loads, budget, sink)
+    ThreadEnd {
+        written,
+        ending: end.ending,
+        note: StageNote {
+            groups: groups_behind(end.ending, groups),
+            executed: end.executed,
+        },
+    }
 }
 
 // Runs the units of a thread program on its loads, from a machine for it.
 fn run_over<S: UnitSink>(
     alloc: Global,
-    code: &ProgramCode,
-    stage: &ProgramParts,
-    tables: &Tables,
+    run: &ThreadRun,
     machine: &mut Machine,
-    budget: u64,
-    grain: u32,
     sink: &mut S,
 ) -> Result<GroupedEnd, OutOfMemory>
-    requires thread { IsReadyThread code.now stage.now tables.now budget grain }
-    requires number { staged_program code.now machine.old.program ≡ stage.now }
-    requires scaled { IsDataScaled (staged_program code.now machine.old.program) machine.old.state }
-    requires ready { machine.old.spent ≡ false }
+    requires thread { IsReadyThread run.now }
+    requires machine { IsMachineOf run.now machine.old }
     ensures ran { IfOk result (λ ran. HasRunAnswer S.has_taken sink.old sink.new
-        (then_unit (code_init stage.now budget machine.old.state) (run_each (code_units stage.now budget) (code_loads stage.now tables.now))) ran.end) }
-    ensures groups { IfOk result (λ ran. ran.groups ≡ code_group_count grain stage.now tables.now) }
+        (then_unit (code_init run.now.stage.now run.now.budget machine.old.state)
+        (run_each (code_units run.now.stage.now run.now.budget) (code_loads run.now.stage.now run.now.tables.now))) ran.end) }
+    ensures groups { IfOk result (λ ran. ran.groups ≡ code_group_count run.now.grain run.now.stage.now run.now.tables.now) }
 {
-    let reading = statement_of(alloc, stage)?;
-    run_statement(
-        alloc, code, stage, &reading, tables, machine, budget, grain, sink,
-    )
+    loads_are_scaled();
+    let mut loads = open_loads(alloc, run)?;
+    let groups = loads.groups();
+    let end = run_units(alloc, run.code, machine, &mut loads, run.budget, sink)?;
+    Ok(GroupedEnd { end, groups })
 }
 
 // Runs a thread program whole, from a machine for it.
 fn run_begun(
     alloc: Global,
-    code: &ProgramCode,
-    stage: &ProgramParts,
-    tables: &Tables,
+    run: &ThreadRun,
     machine: &mut Machine,
-    budget: u64,
-    grain: u32,
 ) -> Result<ThreadEnd, OutOfMemory>
-    requires thread { IsReadyThread code.now stage.now tables.now budget grain }
-    requires number { staged_program code.now machine.old.program ≡ stage.now }
-    requires scaled { IsDataScaled (staged_program code.now machine.old.program) machine.old.state }
-    requires ready { machine.old.spent ≡ false }
-    ensures { IfOk result (λ end. IsThreadEnd (alone_answer (code_program stage.now [] tables.now budget grain) machine.old.state) end) }
+    requires thread { IsReadyThread run.now }
+    requires machine { IsMachineOf run.now machine.old }
+    ensures { IfOk result (λ end. IsThreadEnd (alone_answer (code_program run.now.stage.now [] run.now.tables.now run.now.budget run.now.grain) machine.old.state) end) }
 {
     let mut written = UnitRecord::new(alloc);
-    let ran = run_over(
-        alloc,
-        code,
-        stage,
-        tables,
-        machine,
-        budget,
-        grain,
-        &mut written,
-    )?;
-    let ending = ran.end.ending;
-    Ok(ThreadEnd {
-        written,
-        ending,
-        note: StageNote {
-            groups: groups_behind(ending, ran.groups),
-            executed: ran.end.executed,
-        },
-    })
-}
-
-// Runs a thread program with values of its parameters that have the scales of their slots.
-fn run_given(
-    alloc: Global,
-    code: &ProgramCode,
-    stage: &ProgramParts,
-    tables: &Tables,
-    given: &[Value],
-    budget: u64,
-    grain: u32,
-) -> Result<ThreadEnd, OutOfMemory>
-    requires ready { IsReadyThread code.now stage.now tables.now budget grain }
-    requires given { AreGivenScaled stage.now.slots stage.now.parameters given.now }
-    ensures { IfOk result (λ end. IsThreadEnd (thread_answer stage.now tables.now budget grain given.now) end) }
-{
-    let rows = TableRows { tables };
-    let mut machine = Machine::open(alloc, code, 1, given, &rows, 0)?;
-    run_begun(alloc, code, stage, tables, &mut machine, budget, grain)
+    let ran = run_over(alloc, run, machine, &mut written)?;
+    Ok(thread_end(written, ran.end, ran.groups))
 }
 
 /// Runs a thread program that reads tables, with these values of its parameters: its `init`, `run` on each of its loads, `term`, up to
 /// the first fault. What it writes is kept.
 ///
 /// A decimal of another scale than its parameter's, which valid code does not set, would be refused as want of memory.
-pub fn run_thread(
-    alloc: Global,
-    code: &ProgramCode,
-    stage: &ProgramParts,
-    tables: &Tables,
-    given: &[Value],
-    budget: u64,
-    grain: u32,
-) -> Result<ThreadEnd, OutOfMemory>
-    requires ready { IsReadyThread code.now stage.now tables.now budget grain }
-    ensures { IfOk result (λ end. IsThreadEnd (thread_answer stage.now tables.now budget grain given.now) end) }
+pub fn run_thread(alloc: Global, run: &ThreadRun, given: &[Value]) -> Result<ThreadEnd, OutOfMemory>
+    requires thread { IsReadyThread run.now }
+    ensures { IfOk result (λ end. IsThreadEnd (thread_answer run.now.stage.now run.now.tables.now run.now.budget run.now.grain given.now) end) }
 {
-    let numbers = stage.parameters.as_slice();
-    if are_given_scaled(&stage.slots, numbers, given) {
-        run_given(alloc, code, stage, tables, given, budget, grain)
-    } else {
-        Err(OutOfMemory)
-    }
+    let mut machine = open_thread(alloc, run, given)?;
+    run_begun(alloc, run, &mut machine)
 }

@@ -14,8 +14,8 @@ use Rattle.ds2_group_job.proofs.reader.run_opened.Goals as goal
 
 pub call_init-requires-clause-scaled : goal.call_init-requires-clause-scaled
 call_init-requires-clause-scaled g c =
-    let P : ℕ → Type 0 = λ n. IsDataScaled (staged_program c.stage.inside.code.now n) c.args.machine.now.state in
-    let Q : RunnableStage → Type 0 = λ s. IsDataScaled s.code.program c.args.machine.now.state in
+    let P : ℕ → Type 0 = λ n. IsDataScaled (staged_program c.stage.inside.thread.code.now n) c.args.machine.now.state in
+    let Q : RunnableStage → Type 0 = λ s. IsDataScaled s.thread.code.now.program c.args.machine.now.state in
     subst P (sym c.requires.number) (subst Q (sym c.stage.view_is) c.requires.scaled)
 
 pub call_init-requires-clause-budget : goal.call_init-requires-clause-budget
@@ -29,7 +29,7 @@ run_rows-requires-clause-number g c = c.in_ok-first.ensures.program ∙ c.requir
 
 pub run_rows-requires-clause-scaled : goal.run_rows-requires-clause-scaled
 run_rows-requires-clause-scaled g c =
-    let P : ℕ → Type 0 = λ n. IsDataScaled (staged_program c.stage.inside.code.now n) c.call_init.new.self.state in
+    let P : ℕ → Type 0 = λ n. IsDataScaled (staged_program c.stage.inside.thread.code.now n) c.call_init.new.self.state in
     subst P (c.in_ok-first.ensures.program ∙ c.requires.number) (c.in_ok-first.ensures.scaled (sym c.spent.ensures ∙ c.if-spent.false))
 
 pub run_rows-requires-clause-ready : goal.run_rows-requires-clause-ready
@@ -37,12 +37,12 @@ run_rows-requires-clause-ready g c = sym c.spent.ensures ∙ c.if-spent.false
 
 pub returns-then-spent : goal.returns-then-spent
 returns-then-spent g c =
-    let code = c.stage.inside.code.now in
-    let budget = c.stage.inside.budget in
+    let code = c.stage.inside.thread.code.now in
+    let budget = c.stage.inside.thread.budget in
     let answers : Row → Answer = answer_of_thread c.args.stage.now in
     let begun = c.args.machine.now.state in
     let P : ProgramParts → Type 0 = λ p. IsUnitEnd g.S.UnitSink.has_taken c.args.sink.now c.call_init.new.sink (code_init p budget begun) c.in_ok-first.first c.call_init.new.self.state in
-    let Q : RunnableStage → Type 0 = λ s. IsRunEnd g.S.UnitSink.has_taken c.args.sink.now c.call_init.new.sink (reader_answer_from s.code.program s.budget answers begun) c.ended_at_init.result in
+    let Q : RunnableStage → Type 0 = λ s. IsRunEnd g.S.UnitSink.has_taken c.args.sink.now c.call_init.new.sink (reader_answer_from s.thread.code.now.program s.thread.budget answers begun) c.ended_at_init.result in
     subst Q c.stage.view_is
     (reader_stops g.S.UnitSink.has_taken (code_init code.program budget begun) (λ (d : ProgramData). answer_behind code.program budget d (answers d.parameters)) c.args.sink.now c.call_init.new.sink c.in_ok-first.first
     c.call_init.new.self.state c.ended_at_init.result (subst P (ap (staged_program code) c.requires.number) c.in_ok-first.ensures.ran)
@@ -50,13 +50,13 @@ returns-then-spent g c =
 
 pub returns : goal.returns
 returns g c =
-    let code = c.stage.inside.code.now in
-    let budget = c.stage.inside.budget in
+    let code = c.stage.inside.thread.code.now in
+    let budget = c.stage.inside.thread.budget in
     let answers : Row → Answer = answer_of_thread c.args.stage.now in
     let begun = c.args.machine.now.state in
     let state = c.call_init.new.self.state in
     let P : ProgramParts → Type 0 = λ p. IsUnitEnd g.S.UnitSink.has_taken c.args.sink.now c.call_init.new.sink (code_init p budget begun) c.in_ok-first.first state in
-    let Q : RunnableStage → Type 0 = λ s. IsRunEnd g.S.UnitSink.has_taken c.args.sink.now c.run_rows.new.sink (reader_answer_from s.code.program s.budget answers begun) c.in_ok-end.end in
+    let Q : RunnableStage → Type 0 = λ s. IsRunEnd g.S.UnitSink.has_taken c.args.sink.now c.run_rows.new.sink (reader_answer_from s.thread.code.now.program s.thread.budget answers begun) c.in_ok-end.end in
     let T : Row → Type 0 = λ given. IsThreadEnd (answers given) c.in_ok-thread.thread in
     let ended : IsThreadEnd (answers state.parameters) c.in_ok-thread.thread = subst T c.stage_parameters-given.ensures (c.requires.right _ _ _ _ c.in_ok-thread.ensures) in
     subst Q c.stage.view_is

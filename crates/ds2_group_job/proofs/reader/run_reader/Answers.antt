@@ -17,8 +17,8 @@ run_opened-requires-clause-number g c = ap (λ (m : MachineAtRest). m.program) c
 
 pub run_opened-requires-clause-scaled : goal.run_opened-requires-clause-scaled
 run_opened-requires-clause-scaled g c =
-    let P : ℕ → Type 0 = λ n. IsDataScaled (staged_program c.stage.inside.code.now n) c.in_ok-machine.machine.state in
-    let Q : RunnableStage → Type 0 = λ s. IsDataScaled s.code.program c.in_ok-machine.machine.state in
+    let P : ℕ → Type 0 = λ n. IsDataScaled (staged_program c.stage.inside.thread.code.now n) c.in_ok-machine.machine.state in
+    let Q : RunnableStage → Type 0 = λ s. IsDataScaled s.thread.code.now.program c.in_ok-machine.machine.state in
     subst Q c.stage.view_is (subst P (ap (λ (m : MachineAtRest). m.program) c.in_ok-machine.ensures.opened) c.in_ok-machine.ensures.scaled)
 
 pub run_opened-requires-clause-ready : goal.run_opened-requires-clause-ready
@@ -28,9 +28,9 @@ pub returns : goal.returns
 returns g c =
     let s = c.args.stage.now in
     let P : ProgramData → Type 0 = λ d.
-    IfOk c.run_opened.result (λ end. IsRunEnd g.S.UnitSink.has_taken c.args.sink.now c.run_opened.new.sink (reader_answer_from s.code.program s.budget (answer_of_thread s) d) end) in
+    IfOk c.run_opened.result (λ end. IsRunEnd g.S.UnitSink.has_taken c.args.sink.now c.run_opened.new.sink (reader_answer_from s.thread.code.now.program s.thread.budget (answer_of_thread s) d) end) in
     subst P
     (ap (λ (m : MachineAtRest). m.state) c.in_ok-machine.ensures.opened
-    ∙ ap (opening_data c.stage.inside.code.now.program [] (rows_of_each c.args.tables.now)) c.len-parameters.ensures
-    ∙ ap (λ (v : RunnableStage). opening_data v.code.program [] (rows_of_each c.args.tables.now) (length v.stage.parameters)) c.stage.view_is)
+    ∙ ap (opening_data c.stage.inside.thread.code.now.program [] (rows_of_each c.args.tables.now)) c.len-parameters.ensures
+    ∙ ap (λ (v : RunnableStage). opening_data v.thread.code.now.program [] (rows_of_each c.args.tables.now) (length v.thread.stage.now.parameters)) c.stage.view_is)
     c.run_opened.ensures

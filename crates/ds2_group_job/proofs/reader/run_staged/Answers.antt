@@ -11,8 +11,8 @@ use Rattle.ds2_group_job.specs.StageRuns.{RunnableStage, answer_of_thread}
 use Rattle.ds2_group_job.proofs.StagesReady.{independent_first}
 use Rattle.ds2_group_job.proofs.reader.run_staged.Goals as goal
 
-pub new-thread-requires : goal.new-thread-requires
-new-thread-requires g c =
+pub new-runnable-requires : goal.new-runnable-requires
+new-runnable-requires g c =
     let code = c.args.program.now.code.now in
     let tables = c.args.program.now.tables.now in
     let grains = c.args.program.now.grains.now in
@@ -22,8 +22,8 @@ new-thread-requires g c =
     ∙ ap (λ n. drop n tables) (c.loaded_hashes.ensures ∙ ap (λ (hashes : List HashPart). length (hash_references hashes)) (c.as_slice-hashes.ensures ∙ ap (λ (x : StagedParts). x.program.hashes) c.parts.ensures.value)) in
     let same : c.first_grain-grain.result ≡ grain_asked grains = c.first_grain-grain.ensures ∙ ap grain_asked c.as_slice-asked.ensures in
     record {
-      thread = ready_staged code c.args.stage.now c.parts.ensures.valid c.requires.stages c.readings_fit_tables.ensures tables c.requires.ready.tables budget c.first_grain-grain.result (grain_asked grains) c.in_ok-own.own
-          c.requires.ready.budget (first_grain_fits code.stages c.args.stage.now grains c.requires.stages c.requires.ready.grains) behind same;
+      thread = ready_staged code c.args.stage.now c.parts.ensures.valid c.requires.stages c.readings_fit_tables.ensures tables c.requires.ready.tables (grain_asked grains)
+          (first_grain_fits code.stages c.args.stage.now grains c.requires.stages c.requires.ready.grains) _ refl refl c.in_ok-reading.ensures behind same c.requires.ready.budget;
       workers = c.requires.ready.workers;
       independent = independent_first code.program c.args.stage.now code.stages c.requires.stages tables c.in_ok-own.own budget (grain_asked grains) c.first_grain-grain.result behind same c.args.program.now.workers
           c.requires.ready.independent;
@@ -40,7 +40,7 @@ returns g c =
     ∙ ap (λ n. drop n tables) (c.loaded_hashes.ensures ∙ ap (λ (hashes : List HashPart). length (hash_references hashes)) (c.as_slice-hashes.ensures ∙ ap (λ (x : StagedParts). x.program.hashes) c.parts.ensures.value)) in
     let P : Answer → Type 0 = λ answer. IfOk c.run_reader.result (λ end. IsRunEnd g.S.UnitSink.has_taken c.args.sink.now c.run_reader.new.sink answer end) in
     subst P
-    (ap (λ (s : RunnableStage). reader_answer s.code.program (length s.stage.parameters) tables s.budget (answer_of_thread s)) c.new-thread.ensures
+    (ap (λ (s : RunnableStage). reader_answer s.thread.code.now.program (length s.thread.stage.now.parameters) tables s.thread.budget (answer_of_thread s)) c.new-runnable.ensures
     ∙ staged_is_code code c.args.stage.now tables c.requires.stages budget (length c.args.stage.now.parameters) c.in_ok-own.own c.first_grain-grain.result (grain_asked grains) refl behind
     (c.first_grain-grain.ensures ∙ ap grain_asked c.as_slice-asked.ensures))
     c.run_reader.ensures

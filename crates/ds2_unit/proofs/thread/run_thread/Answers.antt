@@ -1,9 +1,12 @@
-use Rattle.std.proofs.Common.{ℕ, List, subst}
-use Rattle.std.proofs.lemmas.Bool.{OnTrue_at}
-use Rattle.ds2_code.specs.Scales.{AreGivenScaled}
+use Rattle.std.proofs.Common.{[], subst, IfOk}
+use Rattle.ds2_table.specs.OneThread.{alone_answer}
+use Rattle.ds2_code.specs.Desk.{ProgramData}
+use Rattle.ds2_code_answer.specs.CodeAnswer.{code_program}
+use Rattle.ds2_unit.specs.Threads.{IsThreadEnd}
 use Rattle.ds2_unit.proofs.thread.run_thread.Goals as goal
 
-pub run_given-requires-clause-given : goal.run_given-requires-clause-given
-run_given-requires-clause-given c =
-    let P : List ℕ → Type 0 = λ numbers. AreGivenScaled c.args.stage.now.slots numbers c.args.given.now in
-    subst P c.as_slice-numbers.ensures (OnTrue_at c.if-are_given_scaled.true c.are_given_scaled.ensures.scaled)
+pub returns : goal.returns
+returns c =
+    let run = c.args.run.now in
+    let P : ProgramData → Type 0 = λ d. IfOk c.run_begun.result (λ end. IsThreadEnd (alone_answer (code_program run.stage.now [] run.tables.now run.budget run.grain) d) end) in
+    subst P c.in_ok-machine.ensures.begun c.run_begun.ensures

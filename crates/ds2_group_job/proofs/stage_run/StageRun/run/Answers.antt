@@ -4,7 +4,7 @@ use Rattle.ds2_group_job.specs.StageRuns.{RunnableStage, answer_of_thread}
 use Rattle.ds2_group_job.proofs.stage_run.StageRun.run.Goals as goal
 
 pub run_thread-requires : goal.run_thread-requires
-run_thread-requires c = record { ready = c.self.invariant.thread }
+run_thread-requires c = record { thread = c.self.invariant.thread }
 
 pub returns : goal.returns
 returns c =

@@ -14,7 +14,7 @@ run_thread_on-requires-clause-workers g c = λ κs lives.
 
 pub run_thread_on-requires-clause-independent : goal.run_thread_on-requires-clause-independent
 run_thread_on-requires-clause-independent g c = λ κs lives.
-    let s = c.self.inside in
+    let s = c.self.inside.thread in
     let P : Option ℕ → Type 0 = λ workers. IfSome workers (λ _. IsIndependentThread s.stage.now s.tables.now s.budget s.grain) in
     subst P c.in-Some.is c.self.invariant.independent
 

@@ -1,0 +1,50 @@
+use Rattle.std.proofs.Common.{List, length, map, sym, ap, ◌∙◌, subst}
+use Rattle.std.specs.List.{AllByRecursion}
+use Rattle.std.proofs.lemmas.List.{length-map}
+use Rattle.ds2_table.specs.Loads.{groups}
+use Rattle.ds2_table.specs.OneThread.{then_unit, run_each}
+use Rattle.ds2_code.specs.declared.parts.ProgramParts.{ProgramParts}
+use Rattle.ds2_code.specs.CodeUnit.{code_init}
+use Rattle.ds2_code.specs.Desk.{SlotSettings}
+use Rattle.ds2_code.specs.Scales.{AreSettingsScaled}
+use Rattle.ds2_machine.specs.AtRest.{staged_program}
+use Rattle.ds2_code_answer.specs.CodeAnswer.{code_units}
+use Rattle.ds2_code_answer.specs.CodeLoads.{code_keyed_loads, code_loads}
+use Rattle.ds2_loads.specs.GroupedLoads.{settings_of_code}
+use Rattle.ds2_unit.specs.UnitsRun.{HasRunAnswer}
+use Rattle.ds2_unit.proofs.thread.run_over.Goals as goal
+
+pub run_units-requires-clause-scaled : goal.run_units-requires-clause-scaled
+run_units-requires-clause-scaled g c = c.requires.machine.scaled
+
+pub run_units-requires-clause-ready : goal.run_units-requires-clause-ready
+run_units-requires-clause-ready g c = c.requires.machine.ready
+
+pub run_units-requires-clause-budget : goal.run_units-requires-clause-budget
+run_units-requires-clause-budget g c = c.requires.thread.within
+
+pub run_units-requires-clause-loads : goal.run_units-requires-clause-loads
+run_units-requires-clause-loads g c =
+    let run = c.args.run.now in
+    let P : ProgramParts → Type 0 = λ p. AllByRecursion (AreSettingsScaled p.slots) (code_loads run.stage.now run.tables.now) in
+    let Q : List SlotSettings → Type 0 = λ xs. AllByRecursion (AreSettingsScaled (staged_program run.code.now c.args.machine.now.program).slots) xs in
+    subst Q (sym c.in_ok-loads.ensures.left) (subst P (sym c.requires.machine.number) (c.loads_are_scaled.ensures run.stage.now run.tables.now))
+
+pub returns-clause-ran : goal.returns-clause-ran
+returns-clause-ran g c =
+    let run = c.args.run.now in
+    let state = c.args.machine.now.state in
+    let P : ProgramParts → Type 0 = λ p.
+    HasRunAnswer g.S.UnitSink.has_taken c.args.sink.now c.run_units.new.sink
+    (then_unit (code_init p run.budget state) (run_each (code_units p run.budget) (code_loads run.stage.now run.tables.now))) c.in_ok-end.end in
+    let here = staged_program run.code.now c.args.machine.now.program in
+    let Q : List SlotSettings → Type 0 = λ xs.
+    HasRunAnswer g.S.UnitSink.has_taken c.args.sink.now c.run_units.new.sink (then_unit (code_init here run.budget state) (run_each (code_units here run.budget) xs)) c.in_ok-end.end in
+    subst P c.requires.machine.number (subst Q c.in_ok-loads.ensures.left c.in_ok-end.ensures)
+
+pub returns-clause-groups : goal.returns-clause-groups
+returns-clause-groups g c =
+    let run = c.args.run.now in
+    c.groups-groups.ensures
+    ∙ ap length c.in_ok-loads.ensures.groups
+    ∙ length-map (groups run.grain (code_keyed_loads run.stage.now run.tables.now)) (map (settings_of_code run.stage.now run.tables.now))
