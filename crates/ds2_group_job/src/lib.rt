@@ -5,15 +5,15 @@
 //! of the thread program give the same whatever groups ran before them. The laws in [`laws`] say which thread programs these are.
 //!
 //! A [`StageRun`] is a thread program that can be run in both ways. [`run_into`] runs a whole program ([`ProgramRun`]) and takes what runs
-//! its thread program as a function, so that it needs no threads itself; [`run_alone`] and [`run_with`] hand it the one way and the other.
+//! its thread program as a function, so that it needs no threads itself.
 //!
 //! ```text
 //! let program = ProgramRun { code: &code, tables: &tables, budget, grains: &grains, workers };
-//! let end = run_with(&rt, alloc, &program, &NoGate)?;
+//! let run = |a: Global, stage: &StageRun, given: &[Value]| stage.run_on(rt, a, given, &NoGate);
+//! let end = run_into(alloc, &program, &run, &mut sink)?;
 //! ```
 #![tactic(auto)]
 
-mod alone;
 mod gathering;
 mod group_worker;
 mod job;
@@ -25,7 +25,6 @@ mod stage_run;
 mod thread_on;
 mod worker_run;
 
-pub use alone::{run_alone, run_with};
 pub use ds2_unit::ThreadEnd;
 pub use group_worker::GroupWorker;
 pub use job::GroupJob;

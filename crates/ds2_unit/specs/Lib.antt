@@ -1,7 +1,6 @@
 pub mod UnitsRun
 pub mod Outputs
 pub mod ProgramRun
-pub mod AloneEnd
 pub mod Threads
 pub mod GivenScales
 pub mod EveryGroup

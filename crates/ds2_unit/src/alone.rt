@@ -1,22 +1,17 @@
 //! A program on one thread.
-ghost use Rattle.std.specs.Prelude.{◌≡◌, ◌≤◌, [], length, map, IfOk};
+ghost use Rattle.std.specs.Prelude.{◌≡◌, ◌≤◌, [], length, IfOk};
 ghost use Rattle.ds2_machine.specs.declared.machine.TheConstants.{MOST_BUDGET};
 ghost use Rattle.ds2_code_answer.specs.CodeAnswer.{code_answer};
 ghost use Rattle.ds2_code_answer.specs.CodeTables.{AreTablesOfCode};
 ghost use Rattle.ds2_loads.specs.Readings.{ReadsNoThread};
-ghost use Rattle.ds2_unit.specs.Outputs.{table_of_output};
 ghost use Rattle.ds2_unit.specs.ProgramRun.{IsRunEnd, grain_asked};
 
-use crate::output_sinks::OutputSinks;
 use crate::program_end::RunEnd;
-use crate::reading::{run_reading, slots_of};
-use crate::table_sink::empty_tables;
+use crate::reading::run_reading;
 use ds2_base::{List, OutOfMemory};
-use ds2_code::OutputPart;
 use ds2_loads::TableRows;
 use ds2_machine::{Machine, UnitSink};
 use ds2_reading::Tables;
-use ds2_table::Table;
 use ds2_valid_code::ProgramCode;
 use std::alloc::Global;
 
@@ -47,18 +42,5 @@ pub fn run_into<S: UnitSink>(
         ending: end.ending,
         executed: end.executed,
         stages: List::new(alloc),
-    })
-}
-
-/// A table for each output of a program, and no lines yet.
-pub fn sinks_of(alloc: Global, code: &ProgramCode) -> Result<OutputSinks<Table>, OutOfMemory>
-    ensures tables { IfOk result (λ sinks. sinks.outputs.items ≡ map (λ (output : OutputPart). table_of_output code.now.program.slots output []) code.now.program.outputs) }
-    ensures lines { IfOk result (λ sinks. sinks.lines ≡ []) }
-{
-    let outputs = code.parts().program.outputs.as_slice();
-    let tables = empty_tables(alloc, slots_of(code), outputs)?;
-    Ok(OutputSinks {
-        outputs: tables.into_vec(),
-        lines: List::new(alloc),
     })
 }

@@ -9,7 +9,6 @@
 //! What holds of the groups of a program that ran is in [`laws`].
 //!
 //! ```text
-//! let mut sink = sinks_of(alloc, &code)?;
 //! let end = run_into(alloc, &code, &tables, budget, &grains, &mut sink)?;
 //! ```
 #![tactic(auto)]
@@ -28,11 +27,11 @@ mod thread_run;
 mod units;
 mod units_end;
 
-pub use alone::{run_into, sinks_of};
+pub use alone::run_into;
 pub use given::are_given_scaled;
 pub use grains::first_grain;
 pub use output_sinks::{OutputSinks, RowSink};
-pub use program_end::{ProgramEnd, RunEnd, StageNote};
+pub use program_end::{RunEnd, StageNote};
 pub use reader::{ended_at_init, ended_behind, run_rows};
 pub use thread::{GroupedEnd, ThreadEnd, run_thread, tables_behind, thread_end};
 pub use thread_run::{ThreadRun, open_loads, open_thread};

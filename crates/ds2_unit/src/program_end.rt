@@ -1,7 +1,6 @@
 //! How a program has ended.
 
-use ds2_base::{List, Text};
-use ds2_table::Table;
+use ds2_base::List;
 use ds2_value::Ending;
 
 /// What is known of a thread program from which a program read.
@@ -16,20 +15,6 @@ pub struct StageNote {
 /// How a program has ended whose rows and lines went to a sink.
 #[derive(Drop)]
 pub struct RunEnd {
-    pub ending: Ending,
-    /// How many instructions its own units executed together, without those of its thread programs.
-    pub executed: u128,
-    /// The thread programs that were begun, the innermost first.
-    pub stages: List<StageNote>,
-}
-
-/// What a program leaves.
-#[derive(Drop)]
-pub struct ProgramEnd {
-    /// The table of each output, in order. After a fault they have the rows that were written before it.
-    pub tables: List<Table>,
-    /// The lines that it put, in order.
-    pub lines: List<Text>,
     pub ending: Ending,
     /// How many instructions its own units executed together, without those of its thread programs.
     pub executed: u128,
