@@ -2,15 +2,14 @@
 ghost use Rattle.std.specs.Prelude.{◌≡◌, ◌++◌, IsTrue, OnOk};
 ghost use Rattle.ds2_compile.specs.AnswersOfTexts.{SourcesRead};
 ghost use Rattle.ds2_answer.specs.Words.{is_source};
-ghost use Rattle.ds2_store_steps.specs.Halts.{CausedBy};
+ghost use Rattle.ds2_store_steps.specs.Halts.{CausedByStore, InSession};
 ghost use Rattle.ds2_commands.specs.CommandOutcomes.{DoesSource, checks, verdicts_said};
 
 use crate::sources::load_source;
-use ds2_answer::Status;
 use ds2_answer::lines::say_checked_thread;
 use ds2_base::{Bytes, OutOfMemory, Text};
 use ds2_outside::Store;
-use ds2_store_steps::Halt;
+use ds2_store_steps::{Halt, Session};
 use ds2_verdicts::ThreadVerdict;
 use std::alloc::Global;
 
@@ -31,18 +30,12 @@ fn say_verdicts(
 }
 
 /// `check`: tells whether a source is refused, and the verdicts on its thread programs.
-pub(crate) fn check_source<S: Store>(
-    alloc: Global,
-    source: &Text,
-    log: &mut Bytes,
-    store: &mut S,
-) -> Result<(), Halt>
+pub(crate) fn check_source<S: Store>(session: &mut Session<S>, source: &Text) -> Result<(), Halt>
     requires { IsTrue (is_source source.now) }
-    ensures does { (sources : SourcesRead) → DoesSource sources source.now checks log.old (S.files store.old) result log.new (S.files store.new) }
-    ensures read { CausedBy Status.Read result (S.read_faults store.old) (S.read_faults store.new) }
-    ensures write { CausedBy Status.Write result (S.write_faults store.old) (S.write_faults store.new) }
+    ensures does { (sources : SourcesRead) → InSession S.files (DoesSource sources source.now checks) session.old result session.new }
+    ensures cause { CausedByStore S.read_faults S.write_faults session.old result session.new }
 {
-    let loaded = load_source(alloc, source, log, store)?;
-    say_verdicts(alloc, loaded.verdicts.as_slice(), log)?;
+    let loaded = load_source(session, source)?;
+    say_verdicts(session.alloc, loaded.verdicts.as_slice(), &mut session.log)?;
     Ok(())
 }

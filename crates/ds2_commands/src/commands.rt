@@ -4,7 +4,7 @@ ghost use Rattle.ds2_compile.specs.AnswersOfTexts.{SourcesRead};
 ghost use Rattle.ds2_answer.specs.CommandLines.{budget_on_line};
 ghost use Rattle.ds2_answer.specs.declared.words.TheConstants.{MOST_BUDGET};
 ghost use Rattle.ds2_exec.specs.StageRuns.{RunsStages};
-ghost use Rattle.ds2_store_steps.specs.Halts.{CausedBy};
+ghost use Rattle.ds2_store_steps.specs.Halts.{CausedByStore, InSession};
 ghost use Rattle.ds2_commands.specs.CommandOutcomes.{DoesCommand, NamesFile};
 
 use crate::check::check_source;
@@ -13,32 +13,29 @@ use crate::demo::show_demo;
 use crate::exec::exec_object;
 use crate::run::run_source;
 use crate::source_run::SourceRun;
-use ds2_answer::{CommandLine, Status};
-use ds2_base::{Bytes, OutOfMemory};
+use ds2_answer::CommandLine;
+use ds2_base::OutOfMemory;
 use ds2_exec::{StageRun, ThreadEnd};
 use ds2_outside::Store;
-use ds2_store_steps::Halt;
+use ds2_store_steps::{Halt, Session};
 use ds2_value::Value;
 use std::alloc::Global;
 
-/// Does a command: what its plan asks of the store is asked, in order, and its lines are added to `log`. `run` runs the thread programs: on
+/// Does a command: what its plan asks of the store is asked, in order, and its lines are added to the text for the log. `run` runs the thread programs: on
 /// the caller's thread, or the groups of those that are local on as many workers as the line of `run` asks for or, where it doesn't, the
 /// source, and those of `demo` on four; the answer is the same. The error is the status with which the command has ended before its plan was
 /// done or, since a call of the store has failed, Read or Write with the line on that; or there was no memory.
 pub fn do_command<F: Fn(Global, &StageRun, &[Value]) -> Result<ThreadEnd, OutOfMemory>, S: Store>(
-    alloc: Global,
+    session: &mut Session<S>,
     line: &CommandLine,
     run: &F,
-    log: &mut Bytes,
-    store: &mut S,
 ) -> Result<(), Halt>
     requires callable { F.IsAlwaysCallable run.now }
     requires right { RunsStages (F.post run.now) }
     requires named { NamesFile line.now }
     requires budget { budget_on_line line.now ≤ MOST_BUDGET }
-    ensures does { (sources : SourcesRead) → DoesCommand sources (Some line.now) log.old (S.files store.old) result log.new (S.files store.new) }
-    ensures read { CausedBy Status.Read result (S.read_faults store.old) (S.read_faults store.new) }
-    ensures write { CausedBy Status.Write result (S.write_faults store.old) (S.write_faults store.new) }
+    ensures does { (sources : SourcesRead) → InSession S.files (DoesCommand sources (Some line.now)) session.old result session.new }
+    ensures cause { CausedByStore S.read_faults S.write_faults session.old result session.new }
 {
     match line {
         CommandLine::Run {
@@ -46,19 +43,17 @@ pub fn do_command<F: Fn(Global, &StageRun, &[Value]) -> Result<ThreadEnd, OutOfM
             threads,
             budget,
         } => run_source(
-            alloc,
+            session,
             &SourceRun {
                 source,
                 threads: *threads,
                 budget: *budget,
             },
             run,
-            log,
-            store,
         ),
-        CommandLine::Compile { source } => compile_source(alloc, source, log, store),
-        CommandLine::Exec { object, budget } => exec_object(alloc, object, *budget, log, store),
-        CommandLine::Check { source } => check_source(alloc, source, log, store),
-        CommandLine::Demo { n } => show_demo(alloc, *n, run, log),
+        CommandLine::Compile { source } => compile_source(session, source),
+        CommandLine::Exec { object, budget } => exec_object(session, object, *budget),
+        CommandLine::Check { source } => check_source(session, source),
+        CommandLine::Demo { n } => show_demo(session.alloc, *n, run, &mut session.log),
     }
 }

@@ -16,7 +16,7 @@ use ds2_answer::{DEFAULT_BUDGET, Status, demo_files, demo_job, sales_total, say_
 use ds2_base::{Bytes, List, OutOfMemory};
 use ds2_compile::sources_are_read;
 use ds2_exec::{StageRun, ThreadEnd};
-use ds2_store_steps::Halt;
+use ds2_store_steps::{Halt, Session};
 use ds2_value::Value;
 use std::alloc::Global;
 
@@ -88,12 +88,21 @@ pub(crate) fn show_demo<F: Fn(Global, &StageRun, &[Value]) -> Result<ThreadEnd, 
     sources_are_read();
     let job = demo_job(alloc)?;
     let mut files = demo_files(alloc, n)?;
-    let mut text = List::new(alloc);
+    let mut session = Session {
+        alloc,
+        log: List::new(alloc),
+        store: &mut files,
+    };
     let asked = SourceRun {
         source: &job,
         threads: Some(WORKERS),
         budget: DEFAULT_BUDGET,
     };
-    let ran = run_source(alloc, &asked, run, &mut text, &mut files);
+    let ran = run_source(&mut session, &asked, run);
+    let Session {
+        alloc: _,
+        log: text,
+        store: _store,
+    } = session;
     end_demo(alloc, n, ran, &text, log)
 }

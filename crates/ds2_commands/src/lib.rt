@@ -5,9 +5,9 @@
 //! `specs/CommandOutcomes.antt`. Each command has a module of its own; a further one adds a module, and a case on the line.
 //!
 //! ```text
-//! let mut text = List::new(alloc);
+//! let mut session = Session { alloc, log: List::new(alloc), store: &mut store };
 //! let run = |a: Global, stage: &StageRun, given: &[Value]| stage.run(a, given);
-//! let ended = do_command(alloc, &line, &run, &mut text, &mut store);
+//! let ended = do_command(&mut session, &line, &run);
 //! ```
 #![tactic(auto)]
 

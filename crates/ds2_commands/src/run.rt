@@ -4,7 +4,7 @@ ghost use Rattle.ds2_compile.specs.AnswersOfTexts.{SourcesRead};
 ghost use Rattle.ds2_answer.specs.Words.{is_source};
 ghost use Rattle.ds2_answer.specs.declared.words.TheConstants.{MOST_BUDGET};
 ghost use Rattle.ds2_exec.specs.StageRuns.{RunsStages};
-ghost use Rattle.ds2_store_steps.specs.Halts.{CausedBy, FollowsAll};
+ghost use Rattle.ds2_store_steps.specs.Halts.{CausedByStore, FollowsAll, InSession};
 ghost use Rattle.ds2_commands.specs.CommandOutcomes.{DoesSource, runs_with};
 ghost use Rattle.ds2_commands.specs.SourceLoads.{IsRunnableObject, RunsLoaded, StoresReadable, loaded_plan};
 
@@ -12,32 +12,28 @@ use crate::loaded::Loaded;
 use crate::source_run::SourceRun;
 use crate::sources::load_source;
 use crate::storing::store_new;
-use ds2_answer::Status;
 use ds2_answer::laws::codes_do_as_programs;
-use ds2_base::{Bytes, OutOfMemory};
+use ds2_base::OutOfMemory;
 use ds2_compile::sources_are_read;
 use ds2_exec::{RunInput, StageRun, ThreadEnd, run_programs};
 use ds2_outside::Store;
-use ds2_store_steps::Halt;
+use ds2_store_steps::{Halt, Session};
 use ds2_value::Value;
 use std::alloc::Global;
 
 // Runs the programs of a source.
 fn run_codes<F: Fn(Global, &StageRun, &[Value]) -> Result<ThreadEnd, OutOfMemory>, S: Store>(
-    alloc: Global,
+    session: &mut Session<S>,
     asked: &SourceRun,
     loaded: &Loaded,
     run: &F,
-    log: &mut Bytes,
-    store: &mut S,
 ) -> Result<(), Halt>
     requires callable { F.IsAlwaysCallable run.now }
     requires right { RunsStages (F.post run.now) }
     requires runs { IsRunnableObject loaded.now }
     requires budget { asked.now.budget ≤ MOST_BUDGET }
-    ensures does { FollowsAll (loaded_plan asked.now.budget loaded.now) log.old (S.files store.old) result log.new (S.files store.new) }
-    ensures read { CausedBy Status.Read result (S.read_faults store.old) (S.read_faults store.new) }
-    ensures write { CausedBy Status.Write result (S.write_faults store.old) (S.write_faults store.new) }
+    ensures does { InSession S.files (FollowsAll (loaded_plan asked.now.budget loaded.now)) session.old result session.new }
+    ensures cause { CausedByStore S.read_faults S.write_faults session.old result session.new }
 {
     let codes = loaded.object.programs().as_slice();
     let stored = loaded.stored.as_slice();
@@ -49,47 +45,43 @@ fn run_codes<F: Fn(Global, &StageRun, &[Value]) -> Result<ThreadEnd, OutOfMemory
         threads: asked.threads,
         budget: asked.budget,
     };
-    run_programs(alloc, &input, run, log, store)
+    run_programs(session, &input, run)
 }
 
 // Unless an output is there already, stores the object of a source and runs its programs.
 fn run_loaded<F: Fn(Global, &StageRun, &[Value]) -> Result<ThreadEnd, OutOfMemory>, S: Store>(
-    alloc: Global,
+    session: &mut Session<S>,
     asked: &SourceRun,
     loaded: &Loaded,
     run: &F,
-    log: &mut Bytes,
-    store: &mut S,
 ) -> Result<(), Halt>
     requires callable { F.IsAlwaysCallable run.now }
     requires right { RunsStages (F.post run.now) }
     requires named { IsTrue (is_source asked.now.source.now) }
     requires runs { IsRunnableObject loaded.now }
     requires budget { asked.now.budget ≤ MOST_BUDGET }
-    ensures does { RunsLoaded asked.now.source.now asked.now.budget loaded.now log.old (S.files store.old) result log.new (S.files store.new) }
-    ensures readable { StoresReadable loaded.now.object result (S.files store.old) (S.files store.new) }
-    ensures read { CausedBy Status.Read result (S.read_faults store.old) (S.read_faults store.new) }
-    ensures write { CausedBy Status.Write result (S.write_faults store.old) (S.write_faults store.new) }
+    ensures does { InSession S.files (RunsLoaded asked.now.source.now asked.now.budget loaded.now) session.old result session.new }
+    ensures readable { StoresReadable loaded.now.object result (S.files session.old.store.now) (S.files session.new.store.now) }
+    ensures cause { CausedByStore S.read_faults S.write_faults session.old result session.new }
 {
     codes_do_as_programs();
-    store_new(alloc, asked.source, &loaded.object, log, store)?;
-    run_codes(alloc, asked, loaded, run, log, store)
+    store_new(session, asked.source, &loaded.object)?;
+    run_codes(session, asked, loaded, run)
 }
 
 /// `run`: compiles a source, stores its object and runs its programs, their thread programs by `run`.
 pub(crate) fn run_source<
     F: Fn(Global, &StageRun, &[Value]) -> Result<ThreadEnd, OutOfMemory>,
     S: Store,
->(alloc: Global, asked: &SourceRun, run: &F, log: &mut Bytes, store: &mut S) -> Result<(), Halt>
+>(session: &mut Session<S>, asked: &SourceRun, run: &F) -> Result<(), Halt>
     requires callable { F.IsAlwaysCallable run.now }
     requires right { RunsStages (F.post run.now) }
     requires named { IsTrue (is_source asked.now.source.now) }
     requires budget { asked.now.budget ≤ MOST_BUDGET }
-    ensures does { (sources : SourcesRead) → DoesSource sources asked.now.source.now (runs_with asked.now.source.now asked.now.budget) log.old (S.files store.old) result log.new (S.files store.new) }
-    ensures read { CausedBy Status.Read result (S.read_faults store.old) (S.read_faults store.new) }
-    ensures write { CausedBy Status.Write result (S.write_faults store.old) (S.write_faults store.new) }
+    ensures does { (sources : SourcesRead) → InSession S.files (DoesSource sources asked.now.source.now (runs_with asked.now.source.now asked.now.budget)) session.old result session.new }
+    ensures cause { CausedByStore S.read_faults S.write_faults session.old result session.new }
 {
     sources_are_read();
-    let loaded = load_source(alloc, asked.source, log, store)?;
-    run_loaded(alloc, asked, &loaded, run, log, store)
+    let loaded = load_source(session, asked.source)?;
+    run_loaded(session, asked, &loaded, run)
 }

@@ -3,16 +3,15 @@ ghost use Rattle.std.specs.Prelude.{◌≡◌, IfOk, IsTrue, OnOk};
 ghost use Rattle.ds2_answer.specs.Plan.{Plan};
 ghost use Rattle.ds2_answer.specs.SourcePlans.{compile_programs_of, object_bytes, object_file, store_object};
 ghost use Rattle.ds2_answer.specs.Words.{is_source};
-ghost use Rattle.ds2_store_steps.specs.Halts.{CausedBy, Follows, FollowsAll};
+ghost use Rattle.ds2_store_steps.specs.Halts.{CausedByStore, Follows, FollowsAll, InSession};
 ghost use Rattle.ds2_commands.specs.SourceLoads.{IsReadBack, StoresNew, StoresReadable};
 
-use ds2_answer::Status;
 use ds2_answer::lines::say_object;
 use ds2_base::{Bytes, OutOfMemory, Text};
 use ds2_object::laws::spelling_is_read;
 use ds2_object::{ObjectCode, encode};
 use ds2_outside::Store;
-use ds2_store_steps::{Halt, ask_outputs, write_file};
+use ds2_store_steps::{Halt, Session, ask_outputs, write_file};
 use std::alloc::Global;
 
 // The name of the object's file: that of the source, with another ending.
@@ -37,59 +36,50 @@ fn object_bytes(alloc: Global, object: &ObjectCode) -> Result<Bytes, OutOfMemory
 
 // Writes the object of a source, over what stood under its name.
 fn store_object<S: Store>(
-    alloc: Global,
+    session: &mut Session<S>,
     source: &Text,
     object: &ObjectCode,
-    log: &mut Bytes,
-    store: &mut S,
 ) -> Result<(), Halt>
     requires { IsTrue (is_source source.now) }
-    ensures does { (rest : Plan) → Follows (store_object source.now object.now rest) (λ _. rest) log.old (S.files store.old) result log.new (S.files store.new) }
-    ensures readable { StoresReadable object.now result (S.files store.old) (S.files store.new) }
-    ensures read { CausedBy Status.Read result (S.read_faults store.old) (S.read_faults store.new) }
-    ensures write { CausedBy Status.Write result (S.write_faults store.old) (S.write_faults store.new) }
+    ensures does { (rest : Plan) → InSession S.files (Follows (store_object source.now object.now rest) (λ _. rest)) session.old result session.new }
+    ensures readable { StoresReadable object.now result (S.files session.old.store.now) (S.files session.new.store.now) }
+    ensures cause { CausedByStore S.read_faults S.write_faults session.old result session.new }
 {
-    let file = object_name(alloc, source)?;
-    let bytes = object_bytes(alloc, object)?;
-    write_file(alloc, &file, &bytes, log, store)
+    let file = object_name(session.alloc, source)?;
+    let bytes = object_bytes(session.alloc, object)?;
+    write_file(session, &file, &bytes)
 }
 
 /// Unless an output is there already, writes the object of a source.
 pub(crate) fn store_new<S: Store>(
-    alloc: Global,
+    session: &mut Session<S>,
     source: &Text,
     object: &ObjectCode,
-    log: &mut Bytes,
-    store: &mut S,
 ) -> Result<(), Halt>
     requires named { IsTrue (is_source source.now) }
-    ensures does { StoresNew source.now object.now log.old (S.files store.old) result log.new (S.files store.new) }
-    ensures readable { StoresReadable object.now result (S.files store.old) (S.files store.new) }
-    ensures read { CausedBy Status.Read result (S.read_faults store.old) (S.read_faults store.new) }
-    ensures write { CausedBy Status.Write result (S.write_faults store.old) (S.write_faults store.new) }
+    ensures does { InSession S.files (StoresNew source.now object.now) session.old result session.new }
+    ensures readable { StoresReadable object.now result (S.files session.old.store.now) (S.files session.new.store.now) }
+    ensures cause { CausedByStore S.read_faults S.write_faults session.old result session.new }
 {
     let codes = object.programs().as_slice();
-    ask_outputs(alloc, codes, log, store)?;
-    store_object(alloc, source, object, log, store)
+    ask_outputs(session, codes)?;
+    store_object(session, source, object)
 }
 
 /// Stores the object of a source, and counts its bytes in the log.
 pub(crate) fn store_loaded<S: Store>(
-    alloc: Global,
+    session: &mut Session<S>,
     source: &Text,
     object: &ObjectCode,
-    log: &mut Bytes,
-    store: &mut S,
 ) -> Result<(), Halt>
     requires { IsTrue (is_source source.now) }
-    ensures does { FollowsAll (compile_programs_of source.now object.now) log.old (S.files store.old) result log.new (S.files store.new) }
-    ensures readable { StoresReadable object.now result (S.files store.old) (S.files store.new) }
-    ensures read { CausedBy Status.Read result (S.read_faults store.old) (S.read_faults store.new) }
-    ensures write { CausedBy Status.Write result (S.write_faults store.old) (S.write_faults store.new) }
+    ensures does { InSession S.files (FollowsAll (compile_programs_of source.now object.now)) session.old result session.new }
+    ensures readable { StoresReadable object.now result (S.files session.old.store.now) (S.files session.new.store.now) }
+    ensures cause { CausedByStore S.read_faults S.write_faults session.old result session.new }
 {
-    let file = object_name(alloc, source)?;
-    let bytes = object_bytes(alloc, object)?;
-    write_file(alloc, &file, &bytes, log, store)?;
-    say_object(alloc, &file, bytes.len() as u64, log)?;
+    let file = object_name(session.alloc, source)?;
+    let bytes = object_bytes(session.alloc, object)?;
+    write_file(session, &file, &bytes)?;
+    say_object(session.alloc, &file, bytes.len() as u64, &mut session.log)?;
     Ok(())
 }

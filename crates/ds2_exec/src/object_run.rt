@@ -3,7 +3,7 @@ ghost use Rattle.std.specs.Prelude.{◌≤◌};
 ghost use Rattle.ds2_machine.specs.declared.machine.TheConstants.{MOST_BUDGET};
 ghost use Rattle.ds2_answer.specs.ObjectPlans.{object_plan};
 ghost use Rattle.ds2_exec.specs.ExecOutcomes.{ExecutesPlan, OverStore, ExecEndsAs};
-ghost use Rattle.ds2_store_steps.specs.Halts.{CausedBy, FollowsAll};
+ghost use Rattle.ds2_store_steps.specs.Halts.{CausedByStore, FollowsAll, InSession};
 ghost use Rattle.ds2_outside.specs.Causes.{HasCause};
 
 use crate::programs::run_programs;
@@ -13,7 +13,7 @@ use ds2_base::{Bytes, List, OutOfMemory};
 use ds2_group_job::StageRun;
 use ds2_object::ObjectCode;
 use ds2_outside::Store;
-use ds2_store_steps::{Halt, ask_outputs, inputs_of, read_tables, references_of};
+use ds2_store_steps::{Halt, Session, ask_outputs, inputs_of, read_tables, references_of};
 use ds2_value::Value;
 use std::alloc::Global;
 
@@ -27,23 +27,21 @@ pub struct ExecEnd {
 
 /// Reads the tables of an object, asks for its outputs, and runs its programs, with the text for the log.
 pub fn run_object<S: Store>(
-    alloc: Global,
+    session: &mut Session<S>,
     object: &ObjectCode,
     budget: u64,
-    log: &mut Bytes,
-    store: &mut S,
 ) -> Result<(), Halt>
     requires budget { budget ≤ MOST_BUDGET }
-    ensures does { OverStore (S.files store.old) (λ files there. FollowsAll (object_plan object.now budget files there) log.old (S.files store.old) result log.new (S.files store.new)) }
-    ensures read { CausedBy Status.Read result (S.read_faults store.old) (S.read_faults store.new) }
-    ensures write { CausedBy Status.Write result (S.write_faults store.old) (S.write_faults store.new) }
+    ensures does { OverStore (S.files session.old.store.now) (λ files there. InSession S.files (FollowsAll (object_plan object.now budget files there)) session.old result session.new) }
+    ensures cause { CausedByStore S.read_faults S.write_faults session.old result session.new }
 {
+    let alloc = session.alloc;
     let codes = object.programs().as_slice();
     let named = references_of(alloc, codes)?;
     let references = named.as_slice();
     let names = inputs_of(alloc, references)?;
-    let stored = read_tables(alloc, references, names.as_slice(), log, store)?;
-    ask_outputs(alloc, codes, log, store)?;
+    let stored = read_tables(session, references, names.as_slice())?;
+    ask_outputs(session, codes)?;
     let input = RunInput {
         codes,
         stored: stored.as_slice(),
@@ -52,11 +50,9 @@ pub fn run_object<S: Store>(
         budget,
     };
     run_programs(
-        alloc,
+        session,
         &input,
         &|a: Global, stage: &StageRun, given: &[Value]| stage.run(a, given),
-        log,
-        store,
     )
 }
 
@@ -77,8 +73,18 @@ pub fn exec<S: Store>(
     ensures read { HasCause (S.read_faults store.old) (S.read_faults store.new) (ExecEndsAs Status.Read result) }
     ensures write { HasCause (S.write_faults store.old) (S.write_faults store.new) (ExecEndsAs Status.Write result) }
 {
-    let mut log = List::new(alloc);
-    match run_object(alloc, object, budget, &mut log, store) {
+    let mut session = Session {
+        alloc,
+        log: List::new(alloc),
+        store,
+    };
+    let ran = run_object(&mut session, object, budget);
+    let Session {
+        alloc: _,
+        log,
+        store: _store,
+    } = session;
+    match ran {
         Ok(()) => Ok(ExecEnd {
             status: Status::Done,
             log,

@@ -16,7 +16,7 @@ ghost use Rattle.ds2_answer.specs.Plan.{Plan, each_in_turn};
 ghost use Rattle.ds2_answer.specs.ProgramPlans.{ProgramLeft, program_then, programs_plan};
 ghost use Rattle.ds2_answer.specs.StagesLeft.{grain_of_stages};
 ghost use Rattle.ds2_verdicts.specs.ThreadVerdicts.{verdict_named};
-ghost use Rattle.ds2_store_steps.specs.Halts.{CausedBy, Follows, FollowsAll};
+ghost use Rattle.ds2_store_steps.specs.Halts.{CausedByStore, Follows, FollowsAll, InSession};
 ghost use Rattle.ds2_exec.specs.CodeRuns.{AreLinked, rows_counted};
 ghost use Rattle.ds2_exec.specs.LocalCodes.{IsIndependentOver, IsIndependentWhereLocal};
 ghost use Rattle.ds2_exec.specs.OutputSinks.{HaveKept, IsCodeEnd, code_end_then, left_by_run, sinks_then, tables_kept, write_sink_then};
@@ -28,7 +28,6 @@ use crate::output_sink::OutputSink;
 use crate::run_input::{RunInput, Running};
 use crate::stages::{StageEnd, count_stages, grains_of, stage_ends};
 use crate::workers::workers_of;
-use ds2_answer::Status;
 use ds2_answer::lines::{say_count, say_lines, say_table};
 use ds2_base::{Bytes, List, OutOfMemory, Text};
 use ds2_code::ProgramParts;
@@ -37,8 +36,8 @@ use ds2_outside::Store;
 use ds2_reading::{HashKey, Tables};
 use ds2_scope::NameSet;
 use ds2_store_steps::{
-    Halt, KeptTable, end_in_fault, names_kept, references_of, references_of_code, table_file,
-    tables_referred, write_file,
+    Halt, KeptTable, Session, end_in_fault, names_kept, references_of, references_of_code,
+    table_file, tables_referred, write_file,
 };
 use ds2_unit::{OutputSinks, RunEnd};
 use ds2_valid_code::ProgramCode;
@@ -127,34 +126,22 @@ fn run_code<F: Fn(Global, &StageRun, &[Value]) -> Result<ThreadEnd, OutOfMemory>
 }
 
 // Writes a table.
-fn write_one<S: Store>(
-    alloc: Global,
-    table: &OutputSink,
-    log: &mut Bytes,
-    store: &mut S,
-) -> Result<(), Halt>
-    ensures does { (rest : Plan) → Follows (write_sink_then table.now rest) (λ _. rest) log.old (S.files store.old) result log.new (S.files store.new) }
-    ensures read { CausedBy Status.Read result (S.read_faults store.old) (S.read_faults store.new) }
-    ensures write { CausedBy Status.Write result (S.write_faults store.old) (S.write_faults store.new) }
+fn write_one<S: Store>(session: &mut Session<S>, table: &OutputSink) -> Result<(), Halt>
+    ensures does { (rest : Plan) → InSession S.files (Follows (write_sink_then table.now rest) (λ _. rest)) session.old result session.new }
+    ensures cause { CausedByStore S.read_faults S.write_faults session.old result session.new }
 {
-    let file = table_file(alloc, &table.written.name)?;
-    write_file(alloc, &file, &table.written.text, log, store)
+    let file = table_file(session.alloc, &table.written.name)?;
+    write_file(session, &file, &table.written.text)
 }
 
 // Writes tables in their order, up to the first that fails.
-fn write_tables<S: Store>(
-    alloc: Global,
-    tables: &[OutputSink],
-    log: &mut Bytes,
-    store: &mut S,
-) -> Result<(), Halt>
-    ensures does { (rest : Plan) → Follows (each_in_turn write_sink_then tables.now rest) (λ _. rest) log.old (S.files store.old) result log.new (S.files store.new) }
-    ensures read { CausedBy Status.Read result (S.read_faults store.old) (S.read_faults store.new) }
-    ensures write { CausedBy Status.Write result (S.write_faults store.old) (S.write_faults store.new) }
+fn write_tables<S: Store>(session: &mut Session<S>, tables: &[OutputSink]) -> Result<(), Halt>
+    ensures does { (rest : Plan) → InSession S.files (Follows (each_in_turn write_sink_then tables.now rest) (λ _. rest)) session.old result session.new }
+    ensures cause { CausedByStore S.read_faults S.write_faults session.old result session.new }
 {
     let mut left = tables;
     while let [table, after @ ..] = left {
-        write_one(alloc, table, log, store)?;
+        write_one(session, table)?;
         left = after;
     }
     Ok(())
@@ -194,31 +181,26 @@ fn say_counts(alloc: Global, end: &CodeEnd, log: &mut Bytes) -> Result<(), OutOf
 }
 
 // Writes the tables of a program that has ended normally, and counts in the log what it did.
-fn finish<S: Store>(
-    alloc: Global,
-    end: &CodeEnd,
-    log: &mut Bytes,
-    store: &mut S,
-) -> Result<(), Halt>
-    ensures does { (rest : Plan) → Follows (sinks_then Normal end.now.stages end.now.executed end.now.tables rest) (λ _. rest) log.old (S.files store.old) result log.new (S.files store.new) }
-    ensures read { CausedBy Status.Read result (S.read_faults store.old) (S.read_faults store.new) }
-    ensures write { CausedBy Status.Write result (S.write_faults store.old) (S.write_faults store.new) }
+fn finish<S: Store>(session: &mut Session<S>, end: &CodeEnd) -> Result<(), Halt>
+    ensures does { (rest : Plan) → InSession S.files (Follows (sinks_then Normal end.now.stages end.now.executed end.now.tables rest) (λ _. rest)) session.old result session.new }
+    ensures cause { CausedByStore S.read_faults S.write_faults session.old result session.new }
 {
-    write_tables(alloc, end.tables.as_slice(), log, store)?;
-    say_counts(alloc, end, log)?;
+    write_tables(session, end.tables.as_slice())?;
+    say_counts(session.alloc, end, &mut session.log)?;
     Ok(())
 }
 
 // Says the lines of a program that has ended, and then writes its tables or says its fault.
-fn leave<S: Store>(alloc: Global, end: &CodeEnd, log: &mut Bytes, store: &mut S) -> Result<(), Halt>
-    ensures does { (rest : Plan) → Follows (code_end_then end.now rest) (λ _. rest) log.old (S.files store.old) result log.new (S.files store.new) }
-    ensures read { CausedBy Status.Read result (S.read_faults store.old) (S.read_faults store.new) }
-    ensures write { CausedBy Status.Write result (S.write_faults store.old) (S.write_faults store.new) }
+fn leave<S: Store>(session: &mut Session<S>, end: &CodeEnd) -> Result<(), Halt>
+    ensures does { (rest : Plan) → InSession S.files (Follows (code_end_then end.now rest) (λ _. rest)) session.old result session.new }
+    ensures cause { CausedByStore S.read_faults S.write_faults session.old result session.new }
 {
-    say_lines(end.lines.as_slice(), log)?;
+    say_lines(end.lines.as_slice(), &mut session.log)?;
     match end.ending {
-        Ending::Normal => finish(alloc, end, log, store),
-        Ending::Faulted { kind, place } => Err(end_in_fault(alloc, kind, place, log)),
+        Ending::Normal => finish(session, end),
+        Ending::Faulted { kind, place } => {
+            Err(end_in_fault(session.alloc, kind, place, &mut session.log))
+        }
     }
 }
 
@@ -253,29 +235,21 @@ fn kept_tables(alloc: Global, sinks: List<OutputSink>) -> Result<List<KeptTable>
 }
 
 // Says what a program has left, writes its tables, and gives those of which rows are kept.
-fn settle<S: Store>(
-    alloc: Global,
-    end: CodeEnd,
-    log: &mut Bytes,
-    store: &mut S,
-) -> Result<List<KeptTable>, Halt>
-    ensures does { (rest : Plan) → Follows (code_end_then end rest) (λ _. rest) log.old (S.files store.old) result log.new (S.files store.new) }
+fn settle<S: Store>(session: &mut Session<S>, end: CodeEnd) -> Result<List<KeptTable>, Halt>
+    ensures does { (rest : Plan) → InSession S.files (Follows (code_end_then end rest) (λ _. rest)) session.old result session.new }
     ensures kept { IfOk result (λ tables. tables ≡ tables_kept end.tables) }
-    ensures read { CausedBy Status.Read result (S.read_faults store.old) (S.read_faults store.new) }
-    ensures write { CausedBy Status.Write result (S.write_faults store.old) (S.write_faults store.new) }
+    ensures cause { CausedByStore S.read_faults S.write_faults session.old result session.new }
 {
-    leave(alloc, &end, log, store)?;
-    Ok(kept_tables(alloc, end.tables)?)
+    leave(session, &end)?;
+    Ok(kept_tables(session.alloc, end.tables)?)
 }
 
 // Runs a program, and gives those of its tables of which rows are kept.
 fn run_program<F: Fn(Global, &StageRun, &[Value]) -> Result<ThreadEnd, OutOfMemory>, S: Store>(
-    alloc: Global,
+    session: &mut Session<S>,
     running: &Running<F>,
     code: &ProgramCode,
     made: &[List<KeptTable>],
-    log: &mut Bytes,
-    store: &mut S,
 ) -> Result<List<KeptTable>, Halt>
     requires callable { F.IsAlwaysCallable running.now.run.now }
     requires right { RunsStages (F.post running.now.run.now) }
@@ -283,14 +257,14 @@ fn run_program<F: Fn(Global, &StageRun, &[Value]) -> Result<ThreadEnd, OutOfMemo
     requires tables { AreTablesOfCode code.now (tables_held (record { stored = running.now.stored.now; made = made.now }) code.now) }
     requires budget { running.now.budget ≤ MOST_BUDGET }
     requires independent { IsIndependentWhereLocal (verdict_named running.now.verdicts.now) code.now }
-    ensures does { (rest : Plan) → Follows (program_then (run_of_code (verdict_named running.now.verdicts.now) running.now.budget code.now (record { stored = running.now.stored.now; made = made.now })) rest) (λ _. rest) log.old (S.files store.old) result log.new (S.files store.new) }
+    ensures does { (rest : Plan) → InSession S.files (Follows (program_then (run_of_code (verdict_named running.now.verdicts.now) running.now.budget code.now (record { stored = running.now.stored.now; made = made.now })) rest) (λ _. rest)) session.old result session.new }
     ensures made { IfOk result (λ tables. HaveKept (contains (pointwise nat_eq) running.now.kept.now) tables (ProgramLeft.tables (run_of_code (verdict_named running.now.verdicts.now) running.now.budget code.now (record { stored = running.now.stored.now; made = made.now })))) }
-    ensures read { CausedBy Status.Read result (S.read_faults store.old) (S.read_faults store.new) }
-    ensures write { CausedBy Status.Write result (S.write_faults store.old) (S.write_faults store.new) }
+    ensures cause { CausedByStore S.read_faults S.write_faults session.old result session.new }
 {
+    let alloc = session.alloc;
     let tables = tables_of_code(alloc, code, running.stored, made, running.key)?;
     let end = run_code(alloc, running, code, &tables)?;
-    settle(alloc, end, log, store)
+    settle(session, end)
 }
 
 // ---- programs
@@ -311,11 +285,9 @@ impl Drop for KeptNames {
 /// that one, on workers where its verdict is local or on the caller's thread, with the same answer. A program that ends without fault writes
 /// its tables; the first fault ends the command. Rows are kept only of tables that a program names.
 pub fn run_programs<F: Fn(Global, &StageRun, &[Value]) -> Result<ThreadEnd, OutOfMemory>, S: Store>(
-    alloc: Global,
+    session: &mut Session<S>,
     input: &RunInput,
     run: &F,
-    log: &mut Bytes,
-    store: &mut S,
 ) -> Result<(), Halt>
     requires callable { F.IsAlwaysCallable run.now }
     requires right { RunsStages (F.post run.now) }
@@ -323,10 +295,10 @@ pub fn run_programs<F: Fn(Global, &StageRun, &[Value]) -> Result<ThreadEnd, OutO
     requires linked { AreLinked input.now.codes.now input.now.stored.now }
     requires budget { input.now.budget ≤ MOST_BUDGET }
     requires independent { AllByRecursion (IsIndependentWhereLocal (verdict_named input.now.verdicts.now)) input.now.codes.now }
-    ensures does { FollowsAll (programs_plan (map (run_of_code (verdict_named input.now.verdicts.now) input.now.budget) input.now.codes.now) (held_from_store input.now.stored.now)) log.old (S.files store.old) result log.new (S.files store.new) }
-    ensures read { CausedBy Status.Read result (S.read_faults store.old) (S.read_faults store.new) }
-    ensures write { CausedBy Status.Write result (S.write_faults store.old) (S.write_faults store.new) }
+    ensures does { InSession S.files (FollowsAll (programs_plan (map (run_of_code (verdict_named input.now.verdicts.now) input.now.budget) input.now.codes.now) (held_from_store input.now.stored.now))) session.old result session.new }
+    ensures cause { CausedByStore S.read_faults S.write_faults session.old result session.new }
 {
+    let alloc = session.alloc;
     let codes = input.codes;
     let stored = input.stored;
     let references = references_of(alloc, codes)?;
@@ -346,7 +318,7 @@ pub fn run_programs<F: Fn(Global, &StageRun, &[Value]) -> Result<ThreadEnd, OutO
     let mut left = codes;
     while let [code, after @ ..] = left {
         let _parts = code.parts();
-        let tables = run_program(alloc, &running, code, made.as_slice(), log, store)?;
+        let tables = run_program(session, &running, code, made.as_slice())?;
         made.push(tables)?;
         left = after;
     }

@@ -8,6 +8,10 @@ use Rattle.ds2_store_steps.specs.Halts.{Follows, HaltsPlan, LeadsOn}
 use Rattle.ds2_store_steps.specs.PlanOutcomes.{CutShort, TornFile, files_told_with}
 use Rattle.ds2_answer.specs.Plan.{Plan, Stops, Logs, ReadsFile, AsksFor, WritesFile, each_in_turn}
 
+-- what holds of a store as a call has left it holds of it at the end of the session
+pub store_ends : {S : Type 0} (P : S → Type 0) (left end : S) → end ≡ left → P left → P end
+store_ends P left end is holds = subst P (sym is) holds
+
 not_torn : (told : Option Files) (name bytes : List ℕ) → TornFile told name bytes told
 not_torn None name bytes = tt
 not_torn (Some files) name bytes = inl refl

@@ -4,8 +4,9 @@ use Rattle.ds2_outside.specs.Causes.{HasCause}
 use Rattle.ds2_outside.specs.Files.{Files}
 use Rattle.ds2_store_steps.specs.declared.halt.Halt.{Halt}
 use Rattle.ds2_store_steps.specs.declared.halt.Halt.TheVariants.{Ended, OutOfMemory}
+use Rattle.ds2_store_steps.specs.declared.session.Session.{Session}
 use Rattle.ds2_answer.specs.declared.status.Status.{Status}
-use Rattle.ds2_answer.specs.declared.status.Status.TheVariants.{Done}
+use Rattle.ds2_answer.specs.declared.status.Status.TheVariants.{Done, Read, Write}
 use Rattle.ds2_store_steps.specs.PlanOutcomes.{CameOfPlan, CutShort}
 use Rattle.ds2_answer.specs.Plan.{Plan, Stops}
 
@@ -42,3 +43,13 @@ HaltsAs status (Err OutOfMemory) = ⊥
 -- a count of faults never falls, and has risen where a call has ended the command with the status of such a fault
 abbrev pub CausedBy : {T : Type 0} → Status → Result T Halt → ℕ → ℕ → Type 0
 CausedBy status result before now = HasCause before now (HaltsAs status result)
+
+-- a call holds the store of its session, and where it has ended the command with Read or Write, a count of faults of that store has risen
+pub record CausedByStore {S T : Type 0} (reads writes : S → ℕ) (before : Session S) (result : Result T Halt) (now : Session S) : Type 0 where
+  pub same_store : now.store.ghost_name ≡ before.store.ghost_name
+  pub read : CausedBy Read result (reads before.store.now) (reads now.store.now)
+  pub write : CausedBy Write result (writes before.store.now) (writes now.store.now)
+
+-- what a call leaves in a session: this, of its text for the log and of the files that its store tells
+abbrev pub InSession : {S T : Type 0} → (files : S → Option Files) → (Leaves : List ℕ → Option Files → Result T Halt → List ℕ → Option Files → Type 0) → Session S → Result T Halt → Session S → Type 0
+InSession files Leaves before result now = Leaves before.log (files before.store.now) result now.log (files now.store.now)

@@ -3,11 +3,12 @@ ghost use Rattle.std.specs.Prelude.{◌≡◌, ◌<◌, ◌^◌, IfOk};
 ghost use Rattle.ds2_answer.specs.Answer.{table_file};
 ghost use Rattle.ds2_answer.specs.Plan.{Plan, WritesFile};
 ghost use Rattle.ds2_store_steps.specs.FileReads.{AsksForFile, ReadsWholeFile};
-ghost use Rattle.ds2_store_steps.specs.Halts.{CausedBy, Follows};
+ghost use Rattle.ds2_store_steps.specs.Halts.{CausedByStore, Follows, InSession};
 
 use crate::Halt;
 use crate::halt::{fail_read, fail_write, refuse_file};
-use ds2_answer::{FileKind, Status};
+use crate::session::Session;
+use ds2_answer::FileKind;
 use ds2_base::{Bytes, Name, OutOfMemory, Text};
 use ds2_outside::{Failed, ReadStop, Store, WriteStop};
 use std::alloc::Global;
@@ -22,61 +23,47 @@ pub fn table_file(alloc: Global, name: &Name) -> Result<Text, OutOfMemory>
 
 /// Reads a file whole. One that is absent or longer than its limit ends the command with File, a read that fails with
 /// Read; the text has the line on it then.
-pub fn read_file<S: Store>(
-    alloc: Global,
-    name: &Text,
-    limit: u64,
-    log: &mut Bytes,
-    store: &mut S,
-) -> Result<Bytes, Halt>
+pub fn read_file<S: Store>(session: &mut Session<S>, name: &Text, limit: u64) -> Result<Bytes, Halt>
     requires { limit < 2 ^ 63 }
-    ensures loads { ReadsWholeFile limit name.now log.old (S.files store.old) result log.new (S.files store.new) }
-    ensures read { CausedBy Status.Read result (S.read_faults store.old) (S.read_faults store.new) }
-    ensures write { CausedBy Status.Write result (S.write_faults store.old) (S.write_faults store.new) }
+    ensures loads { InSession S.files (ReadsWholeFile limit name.now) session.old result session.new }
+    ensures cause { CausedByStore S.read_faults S.write_faults session.old result session.new }
 {
-    match store.read(alloc, name, limit) {
+    let alloc = session.alloc;
+    match session.store.read(alloc, name, limit) {
         Ok(bytes) if bytes.len() as u64 > limit => {
-            Err(refuse_file(alloc, name, FileKind::TooLarge, log))
+            Err(refuse_file(alloc, name, FileKind::TooLarge, &mut session.log))
         }
         Ok(bytes) => Ok(bytes),
-        Err(ReadStop::Absent) => Err(refuse_file(alloc, name, FileKind::Absent, log)),
-        Err(ReadStop::Failed) => Err(fail_read(alloc, name, log)),
+        Err(ReadStop::Absent) => Err(refuse_file(alloc, name, FileKind::Absent, &mut session.log)),
+        Err(ReadStop::Failed) => Err(fail_read(alloc, name, &mut session.log)),
         Err(ReadStop::OutOfMemory) => Err(Halt::OutOfMemory),
     }
 }
 
 /// Whether there is a file of this name. A question that fails ends the command with Read; the text has the line on it then.
-pub(crate) fn has_file<S: Store>(
-    alloc: Global,
-    name: &Text,
-    log: &mut Bytes,
-    store: &mut S,
-) -> Result<bool, Halt>
-    ensures asks { AsksForFile name.now log.old (S.files store.old) result log.new (S.files store.new) }
-    ensures read { CausedBy Status.Read result (S.read_faults store.old) (S.read_faults store.new) }
-    ensures write { CausedBy Status.Write result (S.write_faults store.old) (S.write_faults store.new) }
+pub(crate) fn has_file<S: Store>(session: &mut Session<S>, name: &Text) -> Result<bool, Halt>
+    ensures asks { InSession S.files (AsksForFile name.now) session.old result session.new }
+    ensures cause { CausedByStore S.read_faults S.write_faults session.old result session.new }
 {
-    match store.has(name) {
+    match session.store.has(name) {
         Ok(there) => Ok(there),
-        Err(Failed) => Err(fail_read(alloc, name, log)),
+        Err(Failed) => Err(fail_read(session.alloc, name, &mut session.log)),
     }
 }
 
 /// Writes a file. A write that fails ends the command with Write; the text has the line on it then.
 pub fn write_file<S: Store>(
-    alloc: Global,
+    session: &mut Session<S>,
     name: &Text,
     bytes: &Bytes,
-    log: &mut Bytes,
-    store: &mut S,
 ) -> Result<(), Halt>
-    ensures does { (rest : Plan) → Follows (WritesFile name.now bytes.now rest) (λ _. rest) log.old (S.files store.old) result log.new (S.files store.new) }
-    ensures read { CausedBy Status.Read result (S.read_faults store.old) (S.read_faults store.new) }
-    ensures write { CausedBy Status.Write result (S.write_faults store.old) (S.write_faults store.new) }
+    ensures does { (rest : Plan) → InSession S.files (Follows (WritesFile name.now bytes.now rest) (λ _. rest)) session.old result session.new }
+    ensures cause { CausedByStore S.read_faults S.write_faults session.old result session.new }
 {
-    match store.write(alloc, name, bytes) {
+    let alloc = session.alloc;
+    match session.store.write(alloc, name, bytes) {
         Ok(()) => Ok(()),
-        Err(WriteStop::Failed) => Err(fail_write(alloc, name, log)),
+        Err(WriteStop::Failed) => Err(fail_write(alloc, name, &mut session.log)),
         Err(WriteStop::OutOfMemory) => Err(Halt::OutOfMemory),
     }
 }

@@ -6,12 +6,13 @@ ghost use Rattle.ds2_answer.specs.Answer.{table_file};
 ghost use Rattle.ds2_answer.specs.Lines.{exists_line};
 ghost use Rattle.ds2_answer.specs.ObjectPlans.{outputs_of_code};
 ghost use Rattle.ds2_answer.specs.TablePlans.{none_made};
-ghost use Rattle.ds2_store_steps.specs.Halts.{CausedBy, StopsAs};
+ghost use Rattle.ds2_store_steps.specs.Halts.{CausedByStore, InSession, StopsAs};
 ghost use Rattle.ds2_store_steps.specs.OutputAsks.{AsksNewOutput, AsksOutputs, made_behind, output_named};
 
 use crate::Halt;
 use crate::files::{has_file, table_file};
 use crate::halt::refuse_output;
+use crate::session::Session;
 use ds2_answer::Status;
 use ds2_base::{Bytes, Name, OutOfMemory};
 use ds2_code::OutputPart;
@@ -31,20 +32,14 @@ fn refuse_made(alloc: Global, name: &Name, log: &mut Bytes) -> Halt
 }
 
 // Refuses an output whose file is there.
-fn ask_file<S: Store>(
-    alloc: Global,
-    name: &Name,
-    log: &mut Bytes,
-    store: &mut S,
-) -> Result<(), Halt>
-    ensures asks { AsksNewOutput name.now log.old (S.files store.old) result log.new (S.files store.new) }
-    ensures read { CausedBy Status.Read result (S.read_faults store.old) (S.read_faults store.new) }
-    ensures write { CausedBy Status.Write result (S.write_faults store.old) (S.write_faults store.new) }
+fn ask_file<S: Store>(session: &mut Session<S>, name: &Name) -> Result<(), Halt>
+    ensures asks { InSession S.files (AsksNewOutput name.now) session.old result session.new }
+    ensures cause { CausedByStore S.read_faults S.write_faults session.old result session.new }
 {
-    let file = table_file(alloc, name)?;
-    let there = has_file(alloc, &file, log, store)?;
+    let file = table_file(session.alloc, name)?;
+    let there = has_file(session, &file)?;
     if there {
-        Err(refuse_output(alloc, &file, log))
+        Err(refuse_output(session.alloc, &file, &mut session.log))
     } else {
         Ok(())
     }
@@ -52,43 +47,37 @@ fn ask_file<S: Store>(
 
 // Refuses an output that is there and may not be written over, and adds its name to those that are made.
 fn ask_output<S: Store>(
-    alloc: Global,
+    session: &mut Session<S>,
     made: &mut NameSet,
     output: &OutputPart,
-    log: &mut Bytes,
-    store: &mut S,
 ) -> Result<(), Halt>
-    ensures asks { AsksOutputs (contains (pointwise nat_eq) made.old) (output_named output.now ∷ []) log.old (S.files store.old) result log.new (S.files store.new) }
+    ensures asks { InSession S.files (AsksOutputs (contains (pointwise nat_eq) made.old) (output_named output.now ∷ [])) session.old result session.new }
     ensures made { OnOk result ((name : Items ℕ) → contains (pointwise nat_eq) made.new name ≡ made_behind (contains (pointwise nat_eq) made.old) (output_named output.now ∷ []) name) }
-    ensures read { CausedBy Status.Read result (S.read_faults store.old) (S.read_faults store.new) }
-    ensures write { CausedBy Status.Write result (S.write_faults store.old) (S.write_faults store.new) }
+    ensures cause { CausedByStore S.read_faults S.write_faults session.old result session.new }
 {
-    let is_new = add_name(alloc, made, output.name.as_str().as_bytes())?;
+    let is_new = add_name(session.alloc, made, output.name.as_str().as_bytes())?;
     if output.overwrites {
         Ok(())
     } else if is_new {
-        ask_file(alloc, &output.name, log, store)
+        ask_file(session, &output.name)
     } else {
-        Err(refuse_made(alloc, &output.name, log))
+        Err(refuse_made(session.alloc, &output.name, &mut session.log))
     }
 }
 
 // The same of the outputs of a program.
 fn ask_program<S: Store>(
-    alloc: Global,
+    session: &mut Session<S>,
     made: &mut NameSet,
     outputs: &[OutputPart],
-    log: &mut Bytes,
-    store: &mut S,
 ) -> Result<(), Halt>
-    ensures asks { AsksOutputs (contains (pointwise nat_eq) made.old) (map output_named outputs.now) log.old (S.files store.old) result log.new (S.files store.new) }
+    ensures asks { InSession S.files (AsksOutputs (contains (pointwise nat_eq) made.old) (map output_named outputs.now)) session.old result session.new }
     ensures made { OnOk result ((name : Items ℕ) → contains (pointwise nat_eq) made.new name ≡ made_behind (contains (pointwise nat_eq) made.old) (map output_named outputs.now) name) }
-    ensures read { CausedBy Status.Read result (S.read_faults store.old) (S.read_faults store.new) }
-    ensures write { CausedBy Status.Write result (S.write_faults store.old) (S.write_faults store.new) }
+    ensures cause { CausedByStore S.read_faults S.write_faults session.old result session.new }
 {
     let mut left = outputs;
     'outputs: while let [output, after @ ..] = left {
-        ask_output(alloc, made, output, log, store)?;
+        ask_output(session, made, output)?;
         left = after;
     }
     Ok(())
@@ -96,21 +85,15 @@ fn ask_program<S: Store>(
 
 /// Asks for the file of each output that may not be written over, program by program. The first that is there, or whose table an earlier
 /// output makes, ends the command.
-pub fn ask_outputs<S: Store>(
-    alloc: Global,
-    codes: &[ProgramCode],
-    log: &mut Bytes,
-    store: &mut S,
-) -> Result<(), Halt>
-    ensures asks { AsksOutputs none_made (flat_map outputs_of_code codes.now) log.old (S.files store.old) result log.new (S.files store.new) }
-    ensures read { CausedBy Status.Read result (S.read_faults store.old) (S.read_faults store.new) }
-    ensures write { CausedBy Status.Write result (S.write_faults store.old) (S.write_faults store.new) }
+pub fn ask_outputs<S: Store>(session: &mut Session<S>, codes: &[ProgramCode]) -> Result<(), Halt>
+    ensures asks { InSession S.files (AsksOutputs none_made (flat_map outputs_of_code codes.now)) session.old result session.new }
+    ensures cause { CausedByStore S.read_faults S.write_faults session.old result session.new }
 {
-    let mut made = NameSet::new(alloc);
+    let mut made = NameSet::new(session.alloc);
     let mut left = codes;
     'codes: while let [code, after @ ..] = left {
         let outputs = code.parts().program.outputs.as_slice();
-        ask_program(alloc, &mut made, outputs, log, store)?;
+        ask_program(session, &mut made, outputs)?;
         left = after;
     }
     Ok(())

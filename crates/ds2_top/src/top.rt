@@ -7,6 +7,7 @@ use ds2_answer::Status;
 use ds2_base::{List, Text};
 use ds2_commands::{StageRun, sources_are_read};
 use ds2_outside::{Gate, Sink, Store};
+use ds2_store_steps::Session;
 use ds2_value::Value;
 use std::alloc::Global;
 use std::sync::Wait;
@@ -29,9 +30,18 @@ pub fn ds2_alone<T: Store, L: Sink>(
         result }
 {
     sources_are_read();
-    let mut text = List::new(alloc);
+    let mut session = Session {
+        alloc,
+        log: List::new(alloc),
+        store,
+    };
     let run = |a: Global, stage: &StageRun, given: &[Value]| stage.run(a, given);
-    let ran = do_words(alloc, words, &run, &mut text, store);
+    let ran = do_words(&mut session, words, &run);
+    let Session {
+        alloc: _,
+        log: text,
+        store: _store,
+    } = session;
     report_end(alloc, ran, &text, log)
 }
 
@@ -51,8 +61,17 @@ pub fn ds2<T: Store, L: Sink, G: Gate + Sync>(
         result }
 {
     sources_are_read();
-    let mut text = List::new(alloc);
+    let mut session = Session {
+        alloc,
+        log: List::new(alloc),
+        store,
+    };
     let run_on = |a: Global, stage: &StageRun, given: &[Value]| stage.run_on(rt, a, given, gate);
-    let ran = do_words(alloc, words, &run_on, &mut text, store);
+    let ran = do_words(&mut session, words, &run_on);
+    let Session {
+        alloc: _,
+        log: text,
+        store: _store,
+    } = session;
     report_end(alloc, ran, &text, log)
 }

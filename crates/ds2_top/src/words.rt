@@ -2,7 +2,7 @@
 ghost use Rattle.ds2_commands.specs.AnswersOfTexts.{SourcesRead};
 ghost use Rattle.ds2_answer.specs.CommandLines.{command_line_of};
 ghost use Rattle.ds2_answer.specs.Lines.{usage_line};
-ghost use Rattle.ds2_store_steps.specs.Halts.{CausedBy, StopsAs};
+ghost use Rattle.ds2_store_steps.specs.Halts.{CausedByStore, InSession, StopsAs};
 ghost use Rattle.ds2_commands.specs.CommandOutcomes.{DoesCommand};
 ghost use Rattle.ds2_commands.specs.StageRuns.{RunsStages};
 
@@ -11,7 +11,7 @@ use ds2_answer::{Status, read_command_line};
 use ds2_base::{Bytes, OutOfMemory, Text};
 use ds2_commands::{StageRun, ThreadEnd, do_command};
 use ds2_outside::Store;
-use ds2_store_steps::Halt;
+use ds2_store_steps::{Halt, Session};
 use ds2_value::Value;
 use std::alloc::Global;
 
@@ -29,15 +29,14 @@ fn refuse_words(log: &mut Bytes) -> Halt
 pub(crate) fn do_words<
     F: Fn(Global, &StageRun, &[Value]) -> Result<ThreadEnd, OutOfMemory>,
     S: Store,
->(alloc: Global, words: &[Text], run: &F, log: &mut Bytes, store: &mut S) -> Result<(), Halt>
+>(session: &mut Session<S>, words: &[Text], run: &F) -> Result<(), Halt>
     requires callable { F.IsAlwaysCallable run.now }
     requires right { RunsStages (F.post run.now) }
-    ensures does { (sources : SourcesRead) → DoesCommand sources (command_line_of words.now) log.old (S.files store.old) result log.new (S.files store.new) }
-    ensures read { CausedBy Status.Read result (S.read_faults store.old) (S.read_faults store.new) }
-    ensures write { CausedBy Status.Write result (S.write_faults store.old) (S.write_faults store.new) }
+    ensures does { (sources : SourcesRead) → InSession S.files (DoesCommand sources (command_line_of words.now)) session.old result session.new }
+    ensures cause { CausedByStore S.read_faults S.write_faults session.old result session.new }
 {
-    match read_command_line(alloc, words)? {
-        Some(line) => do_command(alloc, &line, run, log, store),
-        None => Err(refuse_words(log)),
+    match read_command_line(session.alloc, words)? {
+        Some(line) => do_command(session, &line, run),
+        None => Err(refuse_words(&mut session.log)),
     }
 }

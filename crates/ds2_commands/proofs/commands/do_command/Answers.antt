@@ -6,25 +6,25 @@ use Rattle.ds2_commands.proofs.commands.do_command.Goals as goal
 
 pub returns-in-Run-clause-does : goal.returns-in-Run-clause-does
 returns-in-Run-clause-does g c sources =
-    subst (λ (line : CommandLine). DoesCommand sources (Some line) c.args.log.now (g.S.Store.files c.args.store.now) c.run_source.result c.run_source.new.log (g.S.Store.files c.run_source.new.store)) (sym c.in-Run.is)
-    (runs_line sources c.args.log.now c.run_source.new.log (g.S.Store.files c.args.store.now) (g.S.Store.files c.run_source.new.store) c.run_source.result c.in-Run.source c.in-Run.threads c.in-Run.budget (c.run_source.ensures.does sources))
+    subst (λ (line : CommandLine). DoesCommand sources (Some line) c.args.session.now.log (g.S.Store.files c.args.session.now.store.now) c.run_source.result c.run_source.new.session.log (g.S.Store.files c.run_source.new.session.store.now)) (sym c.in-Run.is)
+    (runs_line sources c.args.session.now.log c.run_source.new.session.log (g.S.Store.files c.args.session.now.store.now) (g.S.Store.files c.run_source.new.session.store.now) c.run_source.result c.in-Run.source c.in-Run.threads c.in-Run.budget (c.run_source.ensures.does sources))
 
 pub returns-in-Compile-clause-does : goal.returns-in-Compile-clause-does
 returns-in-Compile-clause-does g c sources =
-    subst (λ (line : CommandLine). DoesCommand sources (Some line) c.args.log.now (g.S.Store.files c.args.store.now) c.compile_source.result c.compile_source.new.log (g.S.Store.files c.compile_source.new.store)) (sym c.in-Compile.is)
-    (compiles_line sources c.args.log.now c.compile_source.new.log (g.S.Store.files c.args.store.now) (g.S.Store.files c.compile_source.new.store) c.compile_source.result c.in-Compile.source (c.compile_source.ensures.does sources))
+    subst (λ (line : CommandLine). DoesCommand sources (Some line) c.args.session.now.log (g.S.Store.files c.args.session.now.store.now) c.compile_source.result c.compile_source.new.session.log (g.S.Store.files c.compile_source.new.session.store.now)) (sym c.in-Compile.is)
+    (compiles_line sources c.args.session.now.log c.compile_source.new.session.log (g.S.Store.files c.args.session.now.store.now) (g.S.Store.files c.compile_source.new.session.store.now) c.compile_source.result c.in-Compile.source (c.compile_source.ensures.does sources))
 
 pub returns-in-Exec-clause-does : goal.returns-in-Exec-clause-does
 returns-in-Exec-clause-does g c sources =
-    subst (λ (line : CommandLine). DoesCommand sources (Some line) c.args.log.now (g.S.Store.files c.args.store.now) c.exec_object.result c.exec_object.new.log (g.S.Store.files c.exec_object.new.store)) (sym c.in-Exec.is)
-    (execs_line sources c.args.log.now c.exec_object.new.log (g.S.Store.files c.args.store.now) (g.S.Store.files c.exec_object.new.store) c.exec_object.result c.in-Exec.object c.in-Exec.budget c.exec_object.ensures.does)
+    subst (λ (line : CommandLine). DoesCommand sources (Some line) c.args.session.now.log (g.S.Store.files c.args.session.now.store.now) c.exec_object.result c.exec_object.new.session.log (g.S.Store.files c.exec_object.new.session.store.now)) (sym c.in-Exec.is)
+    (execs_line sources c.args.session.now.log c.exec_object.new.session.log (g.S.Store.files c.args.session.now.store.now) (g.S.Store.files c.exec_object.new.session.store.now) c.exec_object.result c.in-Exec.object c.in-Exec.budget c.exec_object.ensures.does)
 
 pub returns-in-Check-clause-does : goal.returns-in-Check-clause-does
 returns-in-Check-clause-does g c sources =
-    subst (λ (line : CommandLine). DoesCommand sources (Some line) c.args.log.now (g.S.Store.files c.args.store.now) c.check_source.result c.check_source.new.log (g.S.Store.files c.check_source.new.store)) (sym c.in-Check.is)
-    (checks_line sources c.args.log.now c.check_source.new.log (g.S.Store.files c.args.store.now) (g.S.Store.files c.check_source.new.store) c.check_source.result c.in-Check.source (c.check_source.ensures.does sources))
+    subst (λ (line : CommandLine). DoesCommand sources (Some line) c.args.session.now.log (g.S.Store.files c.args.session.now.store.now) c.check_source.result c.check_source.new.session.log (g.S.Store.files c.check_source.new.session.store.now)) (sym c.in-Check.is)
+    (checks_line sources c.args.session.now.log c.check_source.new.session.log (g.S.Store.files c.args.session.now.store.now) (g.S.Store.files c.check_source.new.session.store.now) c.check_source.result c.in-Check.source (c.check_source.ensures.does sources))
 
 pub returns-in-Demo-clause-does : goal.returns-in-Demo-clause-does
 returns-in-Demo-clause-does g c sources =
-    subst (λ (line : CommandLine). DoesCommand sources (Some line) c.args.log.now (g.S.Store.files c.args.store.now) c.show_demo.result c.show_demo.new.log (g.S.Store.files c.args.store.now)) (sym c.in-Demo.is)
-    (shows_line sources c.in-Demo.n c.args.log.now c.show_demo.new.log (g.S.Store.files c.args.store.now) c.show_demo.result (c.show_demo.ensures.does sources))
+    subst (λ (line : CommandLine). DoesCommand sources (Some line) c.args.session.now.log (g.S.Store.files c.args.session.now.store.now) c.show_demo.result c.show_demo.new.log (g.S.Store.files c.args.session.now.store.now)) (sym c.in-Demo.is)
+    (shows_line sources c.in-Demo.n c.args.session.now.log c.show_demo.new.log (g.S.Store.files c.args.session.now.store.now) c.show_demo.result (c.show_demo.ensures.does sources))

@@ -14,8 +14,8 @@ returns-in_err-files-clause-does g c sources = demo_short sources c.args.n c.arg
 
 pub returns-clause-does : goal.returns-clause-does
 returns-clause-does g c sources =
-    demo_ran sources c.args.n c.args.log.now c.end_demo.new.log c.end_demo.result c.in_ok-job.job c.new-text.result c.in_ok-files.files c.run_source-ran.result c.run_source-ran.new.log (Some c.run_source-ran.new.store)
-    c.in_ok-job.ensures c.new-text.ensures c.in_ok-files.ensures (c.run_source-ran.ensures.does sources) c.run_source-ran.ensures.read c.run_source-ran.ensures.write c.end_demo.ensures
+    demo_ran sources c.args.n c.args.log.now c.end_demo.new.log c.end_demo.result c.in_ok-job.job c.new.result c.in_ok-files.files c.run_source-ran.result c.run_source-ran.new.session.log (Some c.run_source-ran.new.session.store.now)
+    c.in_ok-job.ensures c.new.ensures c.in_ok-files.ensures (c.run_source-ran.ensures.does sources) c.run_source-ran.ensures.cause.read c.run_source-ran.ensures.cause.write c.end_demo.ensures
 
 pub returns-clause-unread : goal.returns-clause-unread
 returns-clause-unread g c = demo_unread c.sources_are_read.ensures c.args.n c.args.log.now c.end_demo.new.log c.end_demo.result (returns-clause-does g c c.sources_are_read.ensures)

@@ -17,4 +17,4 @@ run_programs-requires-clause-independent g c =
 pub returns-clause-does : goal.returns-clause-does
 returns-clause-does g c =
     ran_loaded c.args.asked.now.budget c.args.loaded.now c.as_slice-codes.result.now c.as_slice-stored.result.now c.as_slice-verdicts.result.now (c.as_slice-codes.ensures ∙ c.programs.ensures.value) c.as_slice-stored.ensures c.as_slice-verdicts.ensures
-    c.args.log.now c.run_programs.new.log (g.S.Store.files c.args.store.now) (g.S.Store.files c.run_programs.new.store) c.run_programs.result c.run_programs.ensures.does
+    c.args.session.now.log c.run_programs.new.session.log (g.S.Store.files c.args.session.now.store.now) (g.S.Store.files c.run_programs.new.session.store.now) c.run_programs.result c.run_programs.ensures.does

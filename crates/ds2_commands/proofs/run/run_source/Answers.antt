@@ -8,10 +8,10 @@ run_loaded-requires-clause-runs g c = loaded_runs _ _ _ _ _ _ (c.in_ok-loaded.en
 
 pub returns-in_err-loaded-clause-does : goal.returns-in_err-loaded-clause-does
 returns-in_err-loaded-clause-does g c sources =
-    source_ends sources c.args.asked.now.source.now (runs_with c.args.asked.now.source.now c.args.asked.now.budget) c.args.log.now c.load_source.new.log (g.S.Store.files c.args.store.now) (g.S.Store.files c.load_source.new.store) c.in_err-loaded.field-0.0
+    source_ends sources c.args.asked.now.source.now (runs_with c.args.asked.now.source.now c.args.asked.now.budget) c.args.session.now.log c.load_source.new.session.log (g.S.Store.files c.args.session.now.store.now) (g.S.Store.files c.load_source.new.session.store.now) c.in_err-loaded.field-0.0
     c.from_residual.result c.from_residual.ensures.1 (c.in_err-loaded.ensures.loads sources)
 
 pub returns-clause-does : goal.returns-clause-does
 returns-clause-does g c sources =
-    source_does sources c.args.asked.now.source.now (runs_with c.args.asked.now.source.now c.args.asked.now.budget) c.in_ok-loaded.loaded c.args.log.now c.load_source.new.log c.run_loaded.new.log (g.S.Store.files c.args.store.now) (g.S.Store.files c.load_source.new.store)
-    (g.S.Store.files c.run_loaded.new.store) c.run_loaded.result (c.in_ok-loaded.ensures.loads sources) c.run_loaded.ensures.does (λ keeps. c.run_loaded.ensures.readable)
+    source_does sources c.args.asked.now.source.now (runs_with c.args.asked.now.source.now c.args.asked.now.budget) c.in_ok-loaded.loaded c.args.session.now.log c.load_source.new.session.log c.run_loaded.new.session.log (g.S.Store.files c.args.session.now.store.now) (g.S.Store.files c.load_source.new.session.store.now)
+    (g.S.Store.files c.run_loaded.new.session.store.now) c.run_loaded.result (c.in_ok-loaded.ensures.loads sources) c.run_loaded.ensures.does (λ keeps. c.run_loaded.ensures.readable)

@@ -12,14 +12,14 @@ load_tree-requires g c = c.in-Ok.ensures.tree c.requires
 
 pub returns-in-Ok-clause-loads : goal.returns-in-Ok-clause-loads
 returns-in-Ok-clause-loads g c sources =
-    text_tree c.one_source_answer.ensures sources c.args.text.now (source_tree c.in-Ok.tree) c.args.log.now c.load_tree.new.log (g.S.Store.files c.args.store.now) (g.S.Store.files c.load_tree.new.store)
+    text_tree c.one_source_answer.ensures sources c.args.text.now (source_tree c.in-Ok.tree) c.args.session.now.log c.load_tree.new.session.log (g.S.Store.files c.args.session.now.store.now) (g.S.Store.files c.load_tree.new.session.store.now)
     c.load_tree.result c.in-Ok.ensures.answer c.load_tree.ensures.loads
 
 pub returns-in-Err-Refused-clause-loads : goal.returns-in-Err-Refused-clause-loads
 returns-in-Err-Refused-clause-loads g c sources =
-    text_refused c.one_source_answer.ensures sources c.args.text.now c.in-Err-Refused.refusal c.args.log.now c.refuse_source.new.log (g.S.Store.files c.args.store.now) (g.S.Store.files c.args.store.now) c.refuse_source.result
+    text_refused c.one_source_answer.ensures sources c.args.text.now c.in-Err-Refused.refusal c.args.session.now.log c.refuse_source.new.log (g.S.Store.files c.args.session.now.store.now) (g.S.Store.files c.args.session.now.store.now) c.refuse_source.result
     (subst (λ (stop : Stop SourceRefusal). GivesSourceAnswer c.args.text.now (Err stop)) c.in-Err-Refused.field-0-is c.in-Err-Refused.ensures.answer) c.refuse_source.ensures refl
 
 pub returns-in-Err-OutOfMemory-clause-loads : goal.returns-in-Err-OutOfMemory-clause-loads
 returns-in-Err-OutOfMemory-clause-loads g c sources =
-    loads_short (λ files go. with_tree (sources.answer_for c.args.text.now) files go) c.args.log.now c.args.log.now (g.S.Store.files c.args.store.now) (g.S.Store.files c.args.store.now) refl
+    loads_short (λ files go. with_tree (sources.answer_for c.args.text.now) files go) c.args.session.now.log c.args.session.now.log (g.S.Store.files c.args.session.now.store.now) (g.S.Store.files c.args.session.now.store.now) refl

@@ -29,36 +29,36 @@ run_programs-requires-clause-linked g c =
 
 pub returns-in_err-named-clause-does : goal.returns-in_err-named-clause-does
 returns-in_err-named-clause-does g c =
-    object_unnamed c.args.object.now c.args.budget c.args.log.now c.args.log.now (g.S.Store.files c.args.store.now) (g.S.Store.files c.args.store.now) c.from_residual.result c.from_residual.ensures.1 refl
+    object_unnamed c.args.object.now c.args.budget c.args.session.now.log c.args.session.now.log (g.S.Store.files c.args.session.now.store.now) (g.S.Store.files c.args.session.now.store.now) c.from_residual.result c.from_residual.ensures.1 refl
 
 pub returns-in_err-names-clause-does : goal.returns-in_err-names-clause-does
 returns-in_err-names-clause-does g c =
-    object_unnamed c.args.object.now c.args.budget c.args.log.now c.args.log.now (g.S.Store.files c.args.store.now) (g.S.Store.files c.args.store.now) c.from_residual-in_err-names.result c.from_residual-in_err-names.ensures.1 refl
+    object_unnamed c.args.object.now c.args.budget c.args.session.now.log c.args.session.now.log (g.S.Store.files c.args.session.now.store.now) (g.S.Store.files c.args.session.now.store.now) c.from_residual-in_err-names.result c.from_residual-in_err-names.ensures.1 refl
 
 pub returns-in_err-stored-clause-does : goal.returns-in_err-stored-clause-does
 returns-in_err-stored-clause-does g c =
-    object_is c.as_slice-codes.result.now c.args.object.now c.args.budget (g.S.Store.files c.args.store.now) c.args.log.now (g.S.Store.files c.read_tables.new.store) c.read_tables.new.log c.from_residual-in_err-stored.result (c.as_slice-codes.ensures ∙ c.programs.ensures.value)
-    (object_unread c.as_slice-codes.result.now c.args.budget c.as_slice-references.result.now c.as_slice.result.now c.args.log.now c.read_tables.new.log (g.S.Store.files c.args.store.now) (g.S.Store.files c.read_tables.new.store) c.in_err-stored.field-0.0
+    object_is c.as_slice-codes.result.now c.args.object.now c.args.budget (g.S.Store.files c.args.session.now.store.now) c.args.session.now.log (g.S.Store.files c.read_tables.new.session.store.now) c.read_tables.new.session.log c.from_residual-in_err-stored.result (c.as_slice-codes.ensures ∙ c.programs.ensures.value)
+    (object_unread c.as_slice-codes.result.now c.args.budget c.as_slice-references.result.now c.as_slice.result.now c.args.session.now.log c.read_tables.new.session.log (g.S.Store.files c.args.session.now.store.now) (g.S.Store.files c.read_tables.new.session.store.now) c.in_err-stored.field-0.0
     c.from_residual-in_err-stored.result (c.as_slice-references.ensures ∙ c.in_ok-named.ensures)
     (c.as_slice.ensures ∙ inputs_are c.as_slice-codes.result.now c.as_slice-references.result.now c.in_ok-names.names (c.as_slice-references.ensures ∙ c.in_ok-named.ensures) c.in_ok-names.ensures)
     c.from_residual-in_err-stored.ensures.1 c.in_err-stored.ensures.loads)
 
 pub returns-in_err-ask_outputs-clause-does : goal.returns-in_err-ask_outputs-clause-does
 returns-in_err-ask_outputs-clause-does g c =
-    object_is c.as_slice-codes.result.now c.args.object.now c.args.budget (g.S.Store.files c.args.store.now) c.args.log.now (g.S.Store.files c.ask_outputs.new.store) c.ask_outputs.new.log c.from_residual-in_err-ask_outputs.result (c.as_slice-codes.ensures ∙ c.programs.ensures.value)
-    (object_then c.as_slice-codes.result.now c.args.budget c.as_slice-references.result.now c.as_slice.result.now c.in_ok-stored.stored c.args.log.now c.read_tables.new.log c.ask_outputs.new.log (g.S.Store.files c.args.store.now) (g.S.Store.files c.read_tables.new.store)
-    (g.S.Store.files c.ask_outputs.new.store) c.from_residual-in_err-ask_outputs.result (c.as_slice-references.ensures ∙ c.in_ok-named.ensures)
+    object_is c.as_slice-codes.result.now c.args.object.now c.args.budget (g.S.Store.files c.args.session.now.store.now) c.args.session.now.log (g.S.Store.files c.ask_outputs.new.session.store.now) c.ask_outputs.new.session.log c.from_residual-in_err-ask_outputs.result (c.as_slice-codes.ensures ∙ c.programs.ensures.value)
+    (object_then c.as_slice-codes.result.now c.args.budget c.as_slice-references.result.now c.as_slice.result.now c.in_ok-stored.stored c.args.session.now.log c.read_tables.new.session.log c.ask_outputs.new.session.log (g.S.Store.files c.args.session.now.store.now) (g.S.Store.files c.read_tables.new.session.store.now)
+    (g.S.Store.files c.ask_outputs.new.session.store.now) c.from_residual-in_err-ask_outputs.result (c.as_slice-references.ensures ∙ c.in_ok-named.ensures)
     (c.as_slice.ensures ∙ inputs_are c.as_slice-codes.result.now c.as_slice-references.result.now c.in_ok-names.names (c.as_slice-references.ensures ∙ c.in_ok-named.ensures) c.in_ok-names.ensures)
     c.in_ok-stored.ensures.loads
-    (outputs_there c.as_slice-codes.result.now c.args.budget c.in_ok-stored.stored c.read_tables.new.log c.ask_outputs.new.log (g.S.Store.files c.read_tables.new.store) (g.S.Store.files c.ask_outputs.new.store) c.in_err-ask_outputs.field-0.0
+    (outputs_there c.as_slice-codes.result.now c.args.budget c.in_ok-stored.stored c.read_tables.new.session.log c.ask_outputs.new.session.log (g.S.Store.files c.read_tables.new.session.store.now) (g.S.Store.files c.ask_outputs.new.session.store.now) c.in_err-ask_outputs.field-0.0
     c.from_residual-in_err-ask_outputs.result c.from_residual-in_err-ask_outputs.ensures.1 c.in_err-ask_outputs.ensures.asks))
 
 pub returns-clause-does : goal.returns-clause-does
 returns-clause-does g c =
-    object_is c.as_slice-codes.result.now c.args.object.now c.args.budget (g.S.Store.files c.args.store.now) c.args.log.now (g.S.Store.files c.run_programs.new.store) c.run_programs.new.log c.run_programs.result (c.as_slice-codes.ensures ∙ c.programs.ensures.value)
-    (object_then c.as_slice-codes.result.now c.args.budget c.as_slice-references.result.now c.as_slice.result.now c.in_ok-stored.stored c.args.log.now c.read_tables.new.log c.run_programs.new.log (g.S.Store.files c.args.store.now) (g.S.Store.files c.read_tables.new.store)
-    (g.S.Store.files c.run_programs.new.store) c.run_programs.result (c.as_slice-references.ensures ∙ c.in_ok-named.ensures)
+    object_is c.as_slice-codes.result.now c.args.object.now c.args.budget (g.S.Store.files c.args.session.now.store.now) c.args.session.now.log (g.S.Store.files c.run_programs.new.session.store.now) c.run_programs.new.session.log c.run_programs.result (c.as_slice-codes.ensures ∙ c.programs.ensures.value)
+    (object_then c.as_slice-codes.result.now c.args.budget c.as_slice-references.result.now c.as_slice.result.now c.in_ok-stored.stored c.args.session.now.log c.read_tables.new.session.log c.run_programs.new.session.log (g.S.Store.files c.args.session.now.store.now) (g.S.Store.files c.read_tables.new.session.store.now)
+    (g.S.Store.files c.run_programs.new.session.store.now) c.run_programs.result (c.as_slice-references.ensures ∙ c.in_ok-named.ensures)
     (c.as_slice.ensures ∙ inputs_are c.as_slice-codes.result.now c.as_slice-references.result.now c.in_ok-names.names (c.as_slice-references.ensures ∙ c.in_ok-named.ensures) c.in_ok-names.ensures)
     c.in_ok-stored.ensures.loads
-    (outputs_not_there c.as_slice-codes.result.now c.args.budget c.in_ok-stored.stored c.as_slice-2.result.now c.read_tables.new.log c.ask_outputs.new.log c.run_programs.new.log (g.S.Store.files c.read_tables.new.store) (g.S.Store.files c.ask_outputs.new.store)
-    (g.S.Store.files c.run_programs.new.store) c.run_programs.result c.as_slice-2.ensures c.in_ok-ask_outputs.ensures.asks c.run_programs.ensures.does))
+    (outputs_not_there c.as_slice-codes.result.now c.args.budget c.in_ok-stored.stored c.as_slice-2.result.now c.read_tables.new.session.log c.ask_outputs.new.session.log c.run_programs.new.session.log (g.S.Store.files c.read_tables.new.session.store.now) (g.S.Store.files c.ask_outputs.new.session.store.now)
+    (g.S.Store.files c.run_programs.new.session.store.now) c.run_programs.result c.as_slice-2.ensures c.in_ok-ask_outputs.ensures.asks c.run_programs.ensures.does))

@@ -12,12 +12,12 @@ use Rattle.ds2_exec.proofs.programs.run_programs.Goals as goal
 
 pub returns-in_err-references-clause-does : goal.returns-in_err-references-clause-does
 returns-in_err-references-clause-does g c =
-    no_memory (plan_of (verdict_named c.args.input.now.verdicts.now) c.args.input.now.budget c.args.input.now.stored.now c.args.input.now.codes.now []) (λ (_ : Unit {0}). Stops Done) c.args.log.now c.args.log.now (g.S.Store.files c.args.store.now) (g.S.Store.files c.args.store.now) c.from_residual.result
+    no_memory (plan_of (verdict_named c.args.input.now.verdicts.now) c.args.input.now.budget c.args.input.now.stored.now c.args.input.now.codes.now []) (λ (_ : Unit {0}). Stops Done) c.args.session.now.log c.args.session.now.log (g.S.Store.files c.args.session.now.store.now) (g.S.Store.files c.args.session.now.store.now) c.from_residual.result
     c.from_residual.ensures.1 refl
 
 pub returns-in_err-names-clause-does : goal.returns-in_err-names-clause-does
 returns-in_err-names-clause-does g c =
-    no_memory (plan_of (verdict_named c.args.input.now.verdicts.now) c.args.input.now.budget c.args.input.now.stored.now c.args.input.now.codes.now []) (λ (_ : Unit {0}). Stops Done) c.args.log.now c.args.log.now (g.S.Store.files c.args.store.now) (g.S.Store.files c.args.store.now) c.from_residual-in_err-names.result
+    no_memory (plan_of (verdict_named c.args.input.now.verdicts.now) c.args.input.now.budget c.args.input.now.stored.now c.args.input.now.codes.now []) (λ (_ : Unit {0}). Stops Done) c.args.session.now.log c.args.session.now.log (g.S.Store.files c.args.session.now.store.now) (g.S.Store.files c.args.session.now.store.now) c.from_residual-in_err-names.result
     c.from_residual-in_err-names.ensures.1 refl
 
 pub key_of_run-requires : goal.key_of_run-requires
@@ -25,16 +25,17 @@ key_of_run-requires g c = c.requires.linked.links
 
 pub returns-in_err-key-clause-does : goal.returns-in_err-key-clause-does
 returns-in_err-key-clause-does g c =
-    no_memory (plan_of (verdict_named c.args.input.now.verdicts.now) c.args.input.now.budget c.args.input.now.stored.now c.args.input.now.codes.now []) (λ (_ : Unit {0}). Stops Done) c.args.log.now c.args.log.now (g.S.Store.files c.args.store.now) (g.S.Store.files c.args.store.now) c.from_residual-in_err-key.result
+    no_memory (plan_of (verdict_named c.args.input.now.verdicts.now) c.args.input.now.budget c.args.input.now.stored.now c.args.input.now.codes.now []) (λ (_ : Unit {0}). Stops Done) c.args.session.now.log c.args.session.now.log (g.S.Store.files c.args.session.now.store.now) (g.S.Store.files c.args.session.now.store.now) c.from_residual-in_err-key.result
     c.from_residual-in_err-key.ensures.1 refl
 
 pub loop-left-init : goal.loop-left-init
 loop-left-init g c =
     let keeps = contains (pointwise nat_eq) c.in_ok-names.names in
     record {
-      run = running_begins keeps (verdict_named c.args.input.now.verdicts.now) c.args.input.now.budget c.args.input.now.stored.now c.args.input.now.codes.now c.as_slice.result.now c.new-made.result c.args.log.now (g.S.Store.files c.args.store.now) c.requires.fit c.requires.linked
+      run = running_begins keeps (verdict_named c.args.input.now.verdicts.now) c.args.input.now.budget c.args.input.now.stored.now c.args.input.now.codes.now c.as_slice.result.now c.new-made.result c.args.session.now.log (g.S.Store.files c.args.session.now.store.now) c.requires.fit c.requires.linked
           (c.as_slice.ensures ∙ c.in_ok-references.ensures) c.in_ok-names.ensures c.new-made.ensures;
       independent = c.requires.independent;
+      same_store = refl;
       reads = omega arith;
       writes = omega arith;
     }
@@ -53,8 +54,9 @@ loop-left-preserved g c = record {
   run = run_another _ (verdict_named c.args.input.now.verdicts.now) c.args.input.now.budget c.args.input.now.stored.now c.args.input.now.codes.now _ _ _ _ _ _ _ _ (item_is _ _ c.in-len1-up.len_at_least c.code-item.is) (run_kept _ _ c.args.input.now.budget c.args.input.now.stored.now c.args.input.now.codes.now _ _ _ _ _ _ _ c.as_slice-in-len1-up.ensures c.loop-left.invariant.run) _ _ _ _ _ c.parts-parts.ensures.valid c.as_slice-in-len1-up.ensures c.in_ok-push.ensures.ok
       c.in_ok-tables.ensures.made c.in_ok-tables.ensures.does;
   independent = (first_local (verdict_named c.args.input.now.verdicts.now) _ _ _ (item_is _ _ c.in-len1-up.len_at_least c.code-item.is) c.loop-left.invariant.independent).1;
-  reads = omega (arith, c.in_ok-tables.ensures.read);
-  writes = omega (arith, c.in_ok-tables.ensures.write);
+  same_store = c.in_ok-tables.ensures.cause.same_store ∙ c.loop-left.invariant.same_store;
+  reads = omega (arith, c.in_ok-tables.ensures.cause.read);
+  writes = omega (arith, c.in_ok-tables.ensures.cause.write);
 }
 
 pub returns-clause-does : goal.returns-clause-does

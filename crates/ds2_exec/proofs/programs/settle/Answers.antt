@@ -4,12 +4,12 @@ use Rattle.ds2_exec.proofs.programs.settle.Goals as goal
 
 pub returns-in_err-leave-clause-does : goal.returns-in_err-leave-clause-does
 returns-in_err-leave-clause-does g c rest =
-    program_halts (code_end_then c.args.end rest) rest c.args.log.now c.leave.new.log (g.S.Store.files c.args.store.now) (g.S.Store.files c.leave.new.store) c.in_err-leave.field-0.0 c.from_residual.result c.from_residual.ensures.1
+    program_halts (code_end_then c.args.end rest) rest c.args.session.now.log c.leave.new.session.log (g.S.Store.files c.args.session.now.store.now) (g.S.Store.files c.leave.new.session.store.now) c.in_err-leave.field-0.0 c.from_residual.result c.from_residual.ensures.1
     (c.in_err-leave.ensures.does rest)
 
 pub returns-in_err-kept_tables-clause-does : goal.returns-in_err-kept_tables-clause-does
 returns-in_err-kept_tables-clause-does g c rest =
-    program_unkept (code_end_then c.args.end rest) rest c.args.log.now c.leave.new.log (g.S.Store.files c.args.store.now) (g.S.Store.files c.leave.new.store) c.from_residual-in_err-kept_tables.result c.from_residual-in_err-kept_tables.ensures.1
+    program_unkept (code_end_then c.args.end rest) rest c.args.session.now.log c.leave.new.session.log (g.S.Store.files c.args.session.now.store.now) (g.S.Store.files c.leave.new.session.store.now) c.from_residual-in_err-kept_tables.result c.from_residual-in_err-kept_tables.ensures.1
     (c.in_ok-leave.ensures.does rest)
 
 pub returns-clause-does : goal.returns-clause-does

@@ -6,9 +6,9 @@ use Rattle.ds2_exec.proofs.programs.write_one.Goals as goal
 
 pub returns-in_err-file-clause-does : goal.returns-in_err-file-clause-does
 returns-in_err-file-clause-does g c rest =
-    no_memory (write_sink_then c.args.table.now rest) (λ (_ : Unit {0}). rest) c.args.log.now c.args.log.now (g.S.Store.files c.args.store.now) (g.S.Store.files c.args.store.now) c.from_residual.result c.from_residual.ensures.1 refl
+    no_memory (write_sink_then c.args.table.now rest) (λ (_ : Unit {0}). rest) c.args.session.now.log c.args.session.now.log (g.S.Store.files c.args.session.now.store.now) (g.S.Store.files c.args.session.now.store.now) c.from_residual.result c.from_residual.ensures.1 refl
 
 pub returns-clause-does : goal.returns-clause-does
 returns-clause-does g c rest =
-    table_written c.args.table.now c.in_ok-file.file c.args.table.now.written.text rest c.args.log.now c.write_file.new.log (g.S.Store.files c.args.store.now) (g.S.Store.files c.write_file.new.store) c.write_file.result
+    table_written c.args.table.now c.in_ok-file.file c.args.table.now.written.text rest c.args.session.now.log c.write_file.new.session.log (g.S.Store.files c.args.session.now.store.now) (g.S.Store.files c.write_file.new.session.store.now) c.write_file.result
     c.in_ok-file.ensures refl (c.write_file.ensures.does rest)

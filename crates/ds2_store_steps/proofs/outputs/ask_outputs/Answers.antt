@@ -1,4 +1,4 @@
-use Rattle.std.proofs.Common.{ℕ, List, arith, ap, flat_map, ◌∙◌}
+use Rattle.std.proofs.Common.{ℕ, List, arith, ap, flat_map, refl, ◌∙◌}
 use Rattle.std.specs.Prelude.{nat_eq}
 use Rattle.std.specs.Cmp.Lexicographic.{pointwise}
 use Rattle.std.specs.HashSet.{contains}
@@ -12,8 +12,9 @@ use Rattle.ds2_store_steps.proofs.outputs.ask_outputs.Goals as goal
 
 pub codes-init : goal.codes-init
 codes-init g c = record {
-  asked = asking_begins none_made (contains (pointwise nat_eq) c.new-made.result) (flat_map outputs_of_code c.args.codes.now) c.args.log.now (g.S.Store.files c.args.store.now)
+  asked = asking_begins none_made (contains (pointwise nat_eq) c.new-made.result) (flat_map outputs_of_code c.args.codes.now) c.args.session.now.log (g.S.Store.files c.args.session.now.store.now)
       (λ name. ap (λ (keys : List (List ℕ)). list_any (pointwise nat_eq name) keys) c.new-made.ensures);
+  same_store = refl;
   reads = omega arith;
   writes = omega arith;
 }
@@ -25,8 +26,9 @@ pub codes-preserved : goal.codes-preserved
 codes-preserved g c = record {
   asked = asked_program _ _ _ _ _ _ _ _ _ _ _ _ _ _ (item_is _ _ c.in-len1-up.len_at_least c.code-item.is) (c.as_slice-outputs.ensures ∙ ap (λ (x : StagedParts). x.program.outputs) c.parts.ensures.value) c.codes.invariant.asked
       c.in_ok-ask_program.ensures.asks c.in_ok-ask_program.ensures.made;
-  reads = omega (arith, c.in_ok-ask_program.ensures.read);
-  writes = omega (arith, c.in_ok-ask_program.ensures.write);
+  same_store = c.in_ok-ask_program.ensures.cause.same_store ∙ c.codes.invariant.same_store;
+  reads = omega (arith, c.in_ok-ask_program.ensures.cause.read);
+  writes = omega (arith, c.in_ok-ask_program.ensures.cause.write);
 }
 
 pub returns-in_err-ask_program-clause-asks : goal.returns-in_err-ask_program-clause-asks

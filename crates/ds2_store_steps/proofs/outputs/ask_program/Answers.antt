@@ -1,4 +1,4 @@
-use Rattle.std.proofs.Common.{arith, ap, map, refl}
+use Rattle.std.proofs.Common.{arith, ap, map, refl, ◌∙◌}
 use Rattle.std.specs.Prelude.{nat_eq}
 use Rattle.std.specs.Cmp.Lexicographic.{pointwise}
 use Rattle.std.specs.HashSet.{contains}
@@ -9,7 +9,8 @@ use Rattle.ds2_store_steps.proofs.outputs.ask_program.Goals as goal
 
 pub outputs-init : goal.outputs-init
 outputs-init g c = record {
-  asked = asking_begins (contains (pointwise nat_eq) c.args.made.now) (contains (pointwise nat_eq) c.args.made.now) (map output_named c.args.outputs.now) c.args.log.now (g.S.Store.files c.args.store.now) (λ name. refl);
+  asked = asking_begins (contains (pointwise nat_eq) c.args.made.now) (contains (pointwise nat_eq) c.args.made.now) (map output_named c.args.outputs.now) c.args.session.now.log (g.S.Store.files c.args.session.now.store.now) (λ name. refl);
+  same_store = refl;
   reads = omega arith;
   writes = omega arith;
 }
@@ -17,8 +18,9 @@ outputs-init g c = record {
 pub outputs-preserved : goal.outputs-preserved
 outputs-preserved g c = record {
   asked = asked_output _ _ _ _ _ _ _ _ _ _ _ _ _ (item_is _ _ c.in-len1-up.len_at_least c.output-item.is) c.outputs.invariant.asked c.in_ok-ask_output.ensures.asks c.in_ok-ask_output.ensures.made;
-  reads = omega (arith, c.in_ok-ask_output.ensures.read);
-  writes = omega (arith, c.in_ok-ask_output.ensures.write);
+  same_store = c.in_ok-ask_output.ensures.cause.same_store ∙ c.outputs.invariant.same_store;
+  reads = omega (arith, c.in_ok-ask_output.ensures.cause.read);
+  writes = omega (arith, c.in_ok-ask_output.ensures.cause.write);
 }
 
 pub returns-clause-asks : goal.returns-clause-asks
