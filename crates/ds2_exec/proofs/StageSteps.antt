@@ -15,6 +15,7 @@ use Rattle.ds2_code_answer.specs.CodeAnswer.{code_opening, code_program, code_un
 use Rattle.ds2_code_answer.specs.CodeLoads.{code_group_count, code_loads, slots_of_stage}
 use Rattle.ds2_code_answer.specs.CodeTables.{tables_of_stage}
 use Rattle.ds2_same_meaning.specs.SameMeaning.{number_of_bys}
+use Rattle.ds2_locality.specs.declared.locality.Verdict.{Verdict}
 use Rattle.ds2_unit.specs.Grains.{IsGrainOfReading}
 use Rattle.ds2_unit.specs.Threads.{AreGrainsOf}
 use Rattle.ds2_unit.specs.ProgramRun.{grain_asked, note_of_stage}
@@ -22,7 +23,7 @@ use Rattle.ds2_unit.specs.declared.program_end.StageNote.{StageNote}
 use Rattle.ds2_answer.specs.ObjectPlans.{stage_in_code}
 use Rattle.ds2_answer.specs.StagesLeft.{VerdictsTold, grain_of_stages, grain_told, name_of_stage, stages_left}
 use Rattle.ds2_exec.specs.declared.stages.StageEnd.{StageEnd}
-use Rattle.ds2_exec.specs.StageEnds.{GrainFits, stage_noted, stage_told, stages_noted}
+use Rattle.ds2_exec.specs.StageEnds.{GrainFits, grains_told, stage_noted, stage_told, stages_noted, verdict_told}
 
 -- ---- the thread programs of an answer
 
@@ -89,68 +90,70 @@ few_stages code (stage ∷ next ∷ stages) tables budget grain c few = absurd (
 
 -- what the notes of an answer tell of at most one thread program
 pub noted_all : (told : VerdictsTold) (stages : List ProgramParts) (answers : List StageAnswer) → length stages ≤ 1 → length answers ≤ 1
-    → map stage_told (stages_noted told stages (reverse (map note_of_stage answers))) ≡ reverse (stages_left told (map stage_in_code stages) answers (map (λ (s : StageAnswer). s.executed) answers))
+    → map stage_told (stages_noted (verdict_told told stages) stages (reverse (map note_of_stage answers)))
+    ≡ reverse (stages_left told (map stage_in_code stages) answers (map (λ (s : StageAnswer). s.executed) answers))
 noted_all told [] answers few one = refl
 noted_all told (s ∷ []) [] few one = refl
 noted_all told (s ∷ []) (a ∷ []) few one = refl
 noted_all told (s ∷ []) (a ∷ b ∷ answers) few one = absurd (omega (arith, one))
 noted_all told (s ∷ t ∷ stages) answers few one = absurd (omega (arith, few))
 
+-- ---- the verdict and the grain of at most one thread program
+
+pub no_stage_told : (told : VerdictsTold) (stages : List ProgramParts) → length stages < 1 → None ≡ verdict_told told stages
+no_stage_told told [] none = refl
+no_stage_told told (s ∷ stages) none = absurd (omega (arith, none))
+
+pub first_stage_told : (told : VerdictsTold) (stages : List ProgramParts) (stage : ProgramParts) (name : List ℕ) (verdict : Option Verdict) → 1 ≤ length stages → stage ≡ get_or stages 0 stage → name ≡ name_of_stage stage.name → verdict ≡ told name
+    → verdict ≡ verdict_told told stages
+first_stage_told told [] stage name verdict some first name_is verdict_is = absurd (omega (arith, some))
+first_stage_told told (s ∷ stages) stage name verdict some first name_is verdict_is = verdict_is ∙ ap told (name_is ∙ ap (λ (x : ProgramParts). name_of_stage x.name) first)
+
+pub no_grains : (verdict : Option Verdict) (stages : List ProgramParts) (grains : List ℕ) → length stages < 1 → grains ≡ [] → grains ≡ grains_told verdict stages
+no_grains verdict [] grains none grains_are = grains_are
+no_grains verdict (s ∷ stages) grains none grains_are = absurd (omega (arith, none))
+
+pub first_grain : {E : Type 0} (verdict : Option Verdict) (stages : List ProgramParts) (stage : ProgramParts) (bys grain : ℕ) (result : Result (List ℕ) E) → 1 ≤ length stages → stage ≡ get_or stages 0 stage → bys ≡ number_of_bys stage.reading
+    → grain ≡ grain_told verdict bys → IfOk result (λ grains. grains ≡ grain ∷ []) → IfOk result (λ grains. grains ≡ grains_told verdict stages)
+first_grain verdict stages stage bys grain (Err e) some first bys_are grain_is grains_are = grains_are
+first_grain verdict [] stage bys grain (Ok grains) some first bys_are grain_is grains_are = absurd (omega (arith, some))
+first_grain verdict (s ∷ stages) stage bys grain (Ok grains) some first bys_are grain_is grains_are =
+    grains_are ∙ ap (λ (g : ℕ). g ∷ []) (grain_is ∙ ap (grain_told verdict) (bys_are ∙ ap (λ (x : ProgramParts). number_of_bys x.reading) first))
+
+module _ (told : VerdictsTold) (verdict : Option Verdict) where
+  -- it fits the thread program's reading statement where that of the verdict that is told does
+  pub grains_are_of : (stages : List ProgramParts) (grains : List ℕ) → verdict ≡ verdict_told told stages → grains ≡ grains_told verdict stages → AllByRecursion (GrainFits told) stages → AreGrainsOf stages grains
+  grains_are_of [] grains verdict_is grains_are fit = grains_are
+  grains_are_of (s ∷ stages) grains verdict_is grains_are fit =
+      subst (λ (gs : List ℕ). AreGrainsOf (s ∷ stages) gs) (sym grains_are) (subst (λ (v : Option Verdict). IsGrainOfReading s.reading (grain_told v (number_of_bys s.reading))) (sym verdict_is) fit.0, refl)
+
+  pub grains_asked : (stages : List ProgramParts) (grains : List ℕ) → verdict ≡ verdict_told told stages → grains ≡ grains_told verdict stages → length stages ≤ 1 → grain_asked grains ≡ grain_of_stages told (map stage_in_code stages)
+  grains_asked [] grains verdict_is grains_are few = ap grain_asked grains_are
+  grains_asked (s ∷ []) grains verdict_is grains_are few = ap grain_asked grains_are ∙ ap (λ (v : Option Verdict). grain_told v (number_of_bys s.reading)) verdict_is
+  grains_asked (s ∷ t ∷ stages) grains verdict_is grains_are few = absurd (omega (arith, few))
+
 -- ---- the first of some thread programs, and the first of some notes
 
--- no grain fits no thread program
-pub none_fit : (stages : List ProgramParts) (grains : List ℕ) → length stages < 1 → grains ≡ [] → AreGrainsOf stages grains
-none_fit [] grains none grains_are = grains_are
-none_fit (s ∷ stages) grains none grains_are = absurd (omega (arith, none))
+-- what is told of the first one is told of all
+pub first_noted : {E : Type 0} (verdict : Option Verdict) (stages : List ProgramParts) (stage : ProgramParts) (notes : List StageNote) (result : Result (List StageEnd) E) → 1 ≤ length stages → stage ≡ get_or stages 0 stage
+    → IfOk result (λ ends. ends ≡ stages_noted verdict (stage ∷ []) notes) → IfOk result (λ ends. ends ≡ stages_noted verdict stages notes)
+first_noted verdict stages stage notes (Err e) some first ends_are = ends_are
+first_noted verdict stages stage notes (Ok ends) some first ends_are = ends_are ∙ by stages some first notes
+  where
+    by : (ss : List ProgramParts) → 1 ≤ length ss → stage ≡ get_or ss 0 stage → (ns : List StageNote) → stages_noted verdict (stage ∷ []) ns ≡ stages_noted verdict ss ns
+    by [] some first ns = absurd (omega (arith, some))
+    by (s ∷ ss) some first [] = refl
+    by (s ∷ ss) some first (n ∷ ns) = ap (λ (x : ProgramParts). stage_noted verdict x n ∷ []) first
 
-pub none_asked : (told : VerdictsTold) (stages : List ProgramParts) (grains : List ℕ) → length stages < 1 → grains ≡ [] → grain_asked grains ≡ grain_of_stages told (map stage_in_code stages)
-none_asked told [] grains none grains_are = ap grain_asked grains_are
-none_asked told (s ∷ stages) grains none grains_are = absurd (omega (arith, none))
-
-module _ (told : VerdictsTold) (stages : List ProgramParts) (stage : ProgramParts) (some : 1 ≤ length stages) (first : stage ≡ get_or stages 0 stage) where
-  -- the grain that is told of a thread program
-  abbrev grain_of : ProgramParts → ℕ
-  grain_of s = grain_told (told (name_of_stage s.name)) (number_of_bys s.reading)
-
-  pub one_fits : {E : Type 0} (grain : ℕ) (result : Result (List ℕ) E) → grain ≡ grain_of stage → AllByRecursion (GrainFits told) stages → IfOk result (λ grains. grains ≡ grain ∷ []) → IfOk result (λ grains. AreGrainsOf stages grains)
-  one_fits grain (Err e) grain_is fit grains_are = grains_are
-  one_fits grain (Ok grains) grain_is fit grains_are = by stages some first fit
-    where
-      by : (ss : List ProgramParts) → 1 ≤ length ss → stage ≡ get_or ss 0 stage → AllByRecursion (GrainFits told) ss → AreGrainsOf ss grains
-      by [] some first fit = absurd (omega (arith, some))
-      by (s ∷ ss) some first fit =
-          let is : grain_of s ≡ grain = ap grain_of (sym first) ∙ sym grain_is in
-          subst (λ (gs : List ℕ). AreGrainsOf (s ∷ ss) gs) (sym grains_are) (subst (λ (g : ℕ). IsGrainOfReading s.reading g) is fit.0, refl)
-
-  pub one_asked : {E : Type 0} (grain : ℕ) (result : Result (List ℕ) E) → grain ≡ grain_of stage → length stages ≤ 1 → IfOk result (λ grains. grains ≡ grain ∷ [])
-      → IfOk result (λ grains. grain_asked grains ≡ grain_of_stages told (map stage_in_code stages))
-  one_asked grain (Err e) grain_is few grains_are = grains_are
-  one_asked grain (Ok grains) grain_is few grains_are = ap grain_asked grains_are ∙ grain_is ∙ by stages some first few
-    where
-      by : (ss : List ProgramParts) → 1 ≤ length ss → stage ≡ get_or ss 0 stage → length ss ≤ 1 → grain_of stage ≡ grain_of_stages told (map stage_in_code ss)
-      by [] some first few = absurd (omega (arith, some))
-      by (s ∷ []) some first few = ap grain_of first
-      by (s ∷ t ∷ ss) some first few = absurd (omega (arith, few))
-
-  -- what is told of the first one is told of all
-  pub first_noted : {E : Type 0} (notes : List StageNote) (result : Result (List StageEnd) E) → IfOk result (λ ends. ends ≡ stages_noted told (stage ∷ []) notes) → IfOk result (λ ends. ends ≡ stages_noted told stages notes)
-  first_noted notes (Err e) ends_are = ends_are
-  first_noted notes (Ok ends) ends_are = ends_are ∙ by stages some first notes
-    where
-      by : (ss : List ProgramParts) → 1 ≤ length ss → stage ≡ get_or ss 0 stage → (ns : List StageNote) → stages_noted told (stage ∷ []) ns ≡ stages_noted told ss ns
-      by [] some first ns = absurd (omega (arith, some))
-      by (s ∷ ss) some first [] = refl
-      by (s ∷ ss) some first (n ∷ ns) = ap (λ (x : ProgramParts). stage_noted told x n ∷ []) first
-
-pub none_noted : (told : VerdictsTold) (stages : List ProgramParts) (notes : List StageNote) (ends : List StageEnd) → length stages < 1 → ends ≡ [] → ends ≡ stages_noted told stages notes
-none_noted told [] notes ends none ends_are = ends_are
-none_noted told (s ∷ stages) notes ends none ends_are = absurd (omega (arith, none))
+pub none_noted : (verdict : Option Verdict) (stages : List ProgramParts) (notes : List StageNote) (ends : List StageEnd) → length stages < 1 → ends ≡ [] → ends ≡ stages_noted verdict stages notes
+none_noted verdict [] notes ends none ends_are = ends_are
+none_noted verdict (s ∷ stages) notes ends none ends_are = absurd (omega (arith, none))
 
 -- without a note nothing is told, and with one what it tells
-pub noted_without : (told : VerdictsTold) (stage : ProgramParts) (notes : List StageNote) → length notes < 1 → stages_noted told (stage ∷ []) notes ≡ []
-noted_without told stage [] none = refl
-noted_without told stage (n ∷ notes) none = absurd (omega (arith, none))
+pub noted_without : (verdict : Option Verdict) (stage : ProgramParts) (notes : List StageNote) → length notes < 1 → stages_noted verdict (stage ∷ []) notes ≡ []
+noted_without verdict stage [] none = refl
+noted_without verdict stage (n ∷ notes) none = absurd (omega (arith, none))
 
-pub noted_with : (told : VerdictsTold) (stage : ProgramParts) (notes : List StageNote) (note : StageNote) → 1 ≤ length notes → note ≡ get_or notes 0 note → stages_noted told (stage ∷ []) notes ≡ stage_noted told stage note ∷ []
-noted_with told stage [] note some first = absurd (omega (arith, some))
-noted_with told stage (n ∷ notes) note some first = ap (λ (x : StageNote). stage_noted told stage x ∷ []) (sym first)
+pub noted_with : (verdict : Option Verdict) (stage : ProgramParts) (notes : List StageNote) (note : StageNote) → 1 ≤ length notes → note ≡ get_or notes 0 note → stages_noted verdict (stage ∷ []) notes ≡ stage_noted verdict stage note ∷ []
+noted_with verdict stage [] note some first = absurd (omega (arith, some))
+noted_with verdict stage (n ∷ notes) note some first = ap (λ (x : StageNote). stage_noted verdict stage x ∷ []) (sym first)

@@ -9,6 +9,7 @@ use Rattle.ds2_code.specs.declared.parts.OutputPart.{OutputPart}
 use Rattle.ds2_code.specs.declared.parts.ProgramParts.{ProgramParts}
 use Rattle.ds2_code.specs.declared.parts.Slot.{Slot}
 use Rattle.ds2_code.specs.declared.parts.StagedParts.{StagedParts}
+use Rattle.ds2_locality.specs.declared.locality.Verdict.{Verdict}
 use Rattle.ds2_same_meaning.specs.ProgramMeaning.{MadeTable}
 use Rattle.ds2_same_meaning.specs.SameMeaning.{code_tables_made}
 use Rattle.ds2_unit.specs.Outputs.{columns_of_output}
@@ -60,10 +61,10 @@ sink_ended keeps made = record { written = made_as_text made; kept = if keeps ma
 
 -- ---- what a program leaves
 
--- what a program's code leaves whose run has ended so, with what its sink has taken
-abbrev pub left_by_run : VerdictsTold → List ProgramParts → OutputSinks OutputSink → RunEnd → CodeEnd
-left_by_run told stages sink end =
-    record { tables = sink.outputs.items; lines = sink.lines; ending = end.ending; executed = end.executed; stages = stages_noted told stages end.stages }
+-- what a program's code leaves whose run has ended so, with what its sink has taken and the verdict on its thread program, where one is told
+abbrev pub left_by_run : Option Verdict → List ProgramParts → OutputSinks OutputSink → RunEnd → CodeEnd
+left_by_run verdict stages sink end =
+    record { tables = sink.outputs.items; lines = sink.lines; ending = end.ending; executed = end.executed; stages = stages_noted verdict stages end.stages }
 
 -- a program's code has ended as its answer says
 pub record IsCodeEnd (keeps : List ℕ → Bool) (told : VerdictsTold) (code : StagedParts) (answer : Answer) (end : CodeEnd) : Type 0 where

@@ -3,6 +3,7 @@ ghost use Rattle.std.specs.Prelude.{◌≡◌, ◌≤◌, ◌∷◌, ◌++◌, [
 ghost use Rattle.std.specs.Cmp.Lexicographic.{pointwise};
 ghost use Rattle.std.specs.HashSet.{contains};
 ghost use Rattle.std.specs.List.{AllByRecursion};
+ghost use Rattle.std.specs.Option.{option_copied};
 ghost use Rattle.ds2_value.specs.declared.fault.Ending.TheVariants.{Normal};
 ghost use Rattle.ds2_table.specs.Table.{IsTable};
 ghost use Rattle.ds2_code_answer.specs.CodeAnswer.{code_answer};
@@ -26,7 +27,7 @@ use crate::key::key_of_run;
 use crate::output_rows::sinks_of;
 use crate::output_sink::OutputSink;
 use crate::run_input::{RunInput, Running};
-use crate::stages::{StageEnd, count_stages, grains_of, stage_ends};
+use crate::stages::{StageEnd, count_stages, grains_of, stage_ends, verdict_told};
 use crate::workers::workers_of;
 use ds2_answer::lines::{say_count, say_lines, say_table};
 use ds2_base::{Bytes, List, OutOfMemory, Text};
@@ -42,7 +43,7 @@ use ds2_store_steps::{
 use ds2_unit::{OutputSinks, RunEnd};
 use ds2_valid_code::ProgramCode;
 use ds2_value::{Ending, Value};
-use ds2_verdicts::ThreadVerdict;
+use ds2_verdicts::Verdict;
 use std::alloc::Global;
 
 /// What a program's code leaves: the tables of its outputs, the lines that it put, its ending, how many instructions its units executed, and
@@ -73,17 +74,17 @@ fn tables_of_code(
     tables_referred(alloc, references.as_slice(), stored, made, key)
 }
 
-// What a program's code leaves whose run has ended so, with what its sink has taken.
+// What a program's code leaves whose run has ended so, with what its sink has taken and the verdict on its thread program, where one is told.
 fn code_end(
     alloc: Global,
     stages: &[ProgramParts],
-    verdicts: &[ThreadVerdict],
+    verdict: Option<&Verdict>,
     sink: OutputSinks<OutputSink>,
     end: RunEnd,
 ) -> Result<CodeEnd, OutOfMemory>
-    ensures { IfOk result (λ left. left ≡ left_by_run (verdict_named verdicts.now) stages.now sink end) }
+    ensures { IfOk result (λ left. left ≡ left_by_run (option_copied verdict.entry) stages.now sink end) }
 {
-    let stages = stage_ends(alloc, stages, verdicts, end.stages.as_slice())?;
+    let stages = stage_ends(alloc, stages, verdict, end.stages.as_slice())?;
     Ok(CodeEnd {
         tables: List::of(sink.outputs),
         lines: sink.lines,
@@ -111,18 +112,18 @@ fn run_code<F: Fn(Global, &StageRun, &[Value]) -> Result<ThreadEnd, OutOfMemory>
 {
     let parts = code.parts();
     let stages = parts.stages.as_slice();
-    let verdicts = running.verdicts;
-    let grains = grains_of(alloc, stages, verdicts)?;
+    let verdict = verdict_told(stages, running.verdicts);
+    let grains = grains_of(alloc, stages, verdict)?;
     let program = ProgramRun {
         code,
         tables,
         budget: running.budget,
         grains: &grains,
-        workers: workers_of(parts, verdicts, running.threads),
+        workers: workers_of(&parts.program, verdict, running.threads),
     };
     let mut sink = sinks_of(alloc, code, running.kept)?;
     let end = run_into(alloc, &program, running.run, &mut sink)?;
-    code_end(alloc, stages, verdicts, sink, end)
+    code_end(alloc, stages, verdict, sink, end)
 }
 
 // Writes a table.

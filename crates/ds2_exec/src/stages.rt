@@ -1,17 +1,11 @@
 //! The thread program that a program reads from: the grain of its groups, and what the log tells of it behind its end.
-ghost use Rattle.std.specs.Prelude.{◌≡◌, ◌≤◌, ◌++◌, ◌∷◌, None, [], length, map, option_map, IfOk, IfSome, OnOk, Some};
-ghost use Rattle.std.specs.List.{AllByRecursion};
+ghost use Rattle.std.specs.Prelude.{◌≡◌, ◌++◌, ◌∷◌, None, [], option_map, IfOk, OnOk};
 ghost use Rattle.std.specs.Option.{option_copied};
-ghost use Rattle.ds2_locality.specs.declared.locality.Verdict.TheVariants.{Local};
 ghost use Rattle.ds2_answer.specs.Lines.{count_line, thread_line, verdict_text};
-ghost use Rattle.ds2_answer.specs.ObjectPlans.{stage_in_code};
-ghost use Rattle.ds2_answer.specs.StagesLeft.{grain_of_stages, grain_told, name_of_stage};
+ghost use Rattle.ds2_answer.specs.StagesLeft.{grain_told, name_of_stage};
 ghost use Rattle.ds2_same_meaning.specs.SameMeaning.{number_of_bys};
-ghost use Rattle.ds2_unit.specs.Threads.{AreGrainsOf};
-ghost use Rattle.ds2_unit.specs.ProgramRun.{grain_asked};
 ghost use Rattle.ds2_verdicts.specs.ThreadVerdicts.{verdict_named};
-ghost use Rattle.ds2_exec.specs.LocalCodes.{IsToldLocal};
-ghost use Rattle.ds2_exec.specs.StageEnds.{GrainFits, stage_noted, stages_counted, stages_noted};
+ghost use Rattle.ds2_exec.specs.StageEnds.{grains_told, stage_noted, stages_counted, stages_noted, verdict_told};
 
 use ds2_answer::lines::{say_count, say_thread, verdict_text};
 use ds2_base::{Bytes, List, OutOfMemory, Text};
@@ -55,6 +49,19 @@ fn verdict_named<'v>(verdicts: &'v [ThreadVerdict], name: &str) -> Option<&'v Ve
     None
 }
 
+/// The verdict on the thread program that a program reads from, where it reads from one and a verdict is told.
+pub(crate) fn verdict_told<'v>(
+    stages: &[ProgramParts],
+    verdicts: &'v [ThreadVerdict],
+) -> Option<&'v Verdict>
+    ensures { option_copied result ≡ verdict_told (verdict_named verdicts.now) stages.now }
+{
+    match stages {
+        [] => None,
+        [stage, ..] => verdict_named(verdicts, name_of(stage)),
+    }
+}
+
 // ---- grains
 
 // How many BY variables a reading has.
@@ -88,14 +95,6 @@ fn grain_told(verdict: Option<&Verdict>, bys: usize) -> u32
     }
 }
 
-// The grain of a thread program.
-fn grain_of(stage: &ProgramParts, verdicts: &[ThreadVerdict]) -> u32
-    ensures { result ≡ grain_told (verdict_named verdicts.now (name_of_stage stage.now.name)) (number_of_bys stage.now.reading) }
-{
-    let verdict = verdict_named(verdicts, name_of(stage));
-    grain_told(verdict, number_of_bys(&stage.reading))
-}
-
 // One number, as a list.
 fn one_grain(alloc: Global, grain: u32) -> Result<List<u32>, OutOfMemory>
     ensures { IfOk result (λ grains. grains ≡ grain ∷ []) }
@@ -105,43 +104,17 @@ fn one_grain(alloc: Global, grain: u32) -> Result<List<u32>, OutOfMemory>
     Ok(grains)
 }
 
-/// The grain of the thread program that a program reads from, where it reads from one.
+/// The grain of the thread program that a program reads from, where it reads from one, on which this verdict is told, or none.
 pub(crate) fn grains_of(
     alloc: Global,
     stages: &[ProgramParts],
-    verdicts: &[ThreadVerdict],
+    verdict: Option<&Verdict>,
 ) -> Result<List<u32>, OutOfMemory>
-    requires few { length stages.now ≤ 1 }
-    requires fit { AllByRecursion (GrainFits (verdict_named verdicts.now)) stages.now }
-    ensures fit { IfOk result (λ grains. AreGrainsOf stages.now grains) }
-    ensures asked { IfOk result (λ grains. grain_asked grains ≡ grain_of_stages (verdict_named verdicts.now) (map stage_in_code stages.now)) }
+    ensures { IfOk result (λ grains. grains ≡ grains_told (option_copied verdict.entry) stages.now) }
 {
     match stages {
         [] => Ok(List::new(alloc)),
-        [stage, ..] => one_grain(alloc, grain_of(stage, verdicts)),
-    }
-}
-
-// ---- the grain of a local thread program
-
-// The grain of a verdict that says that a thread program is local.
-fn local_by(verdict: Option<&Verdict>) -> Option<u32>
-    ensures { IfSome result (λ grain. option_copied verdict.entry ≡ Some (Local grain)) }
-{
-    match verdict {
-        Some(Verdict::Local { grain }) => Some(*grain),
-        Some(Verdict::NotLocal { .. }) => None,
-        None => None,
-    }
-}
-
-/// The grain of the one thread program that a program reads from, where its verdict says that it is local.
-pub(crate) fn local_grain(stages: &[ProgramParts], verdicts: &[ThreadVerdict]) -> Option<u32>
-    ensures { IfSome result (λ grain. IsToldLocal (verdict_named verdicts.now) stages.now grain) }
-{
-    match stages {
-        [stage] => local_by(verdict_named(verdicts, name_of(stage))),
-        _ => None,
+        [stage, ..] => one_grain(alloc, grain_told(verdict, number_of_bys(&stage.reading))),
     }
 }
 
@@ -157,20 +130,19 @@ fn text_told(alloc: Global, verdict: Option<&Verdict>) -> Result<Option<Text>, O
     }
 }
 
-// What is told of a thread program with this note.
+// What is told of a thread program with this note, on which this verdict is told, or none.
 fn stage_end(
     alloc: Global,
     stage: &ProgramParts,
-    verdicts: &[ThreadVerdict],
+    verdict: Option<&Verdict>,
     note: &StageNote,
 ) -> Result<StageEnd, OutOfMemory>
-    ensures { IfOk result (λ end. end ≡ stage_noted (verdict_named verdicts.now) stage.now note.now) }
+    ensures { IfOk result (λ end. end ≡ stage_noted (option_copied verdict.entry) stage.now note.now) }
 {
-    let name = name_of(stage);
-    let verdict = text_told(alloc, verdict_named(verdicts, name))?;
+    let text = text_told(alloc, verdict)?;
     Ok(StageEnd {
-        name: Text::of(alloc, name)?,
-        verdict,
+        name: Text::of(alloc, name_of(stage))?,
+        verdict: text,
         groups: note.groups,
         executed: note.executed,
     })
@@ -181,31 +153,31 @@ fn stage_end(
 fn noted_end(
     alloc: Global,
     stage: &ProgramParts,
-    verdicts: &[ThreadVerdict],
+    verdict: Option<&Verdict>,
     notes: &[StageNote],
 ) -> Result<List<StageEnd>, OutOfMemory>
-    ensures { IfOk result (λ ends. ends ≡ stages_noted (verdict_named verdicts.now) (stage.now ∷ []) notes.now) }
+    ensures { IfOk result (λ ends. ends ≡ stages_noted (option_copied verdict.entry) (stage.now ∷ []) notes.now) }
 {
     let mut ends = List::new(alloc);
     let [note, ..] = notes else {
         return Ok(ends);
     };
-    ends.push(stage_end(alloc, stage, verdicts, note)?)?;
+    ends.push(stage_end(alloc, stage, verdict, note)?)?;
     Ok(ends)
 }
 
-/// What is told of the thread program that a program has read from, where it has read from one.
+/// What is told of the thread program that a program has read from, where it has read from one, on which this verdict is told, or none.
 pub(crate) fn stage_ends(
     alloc: Global,
     stages: &[ProgramParts],
-    verdicts: &[ThreadVerdict],
+    verdict: Option<&Verdict>,
     notes: &[StageNote],
 ) -> Result<List<StageEnd>, OutOfMemory>
-    ensures { IfOk result (λ ends. ends ≡ stages_noted (verdict_named verdicts.now) stages.now notes.now) }
+    ensures { IfOk result (λ ends. ends ≡ stages_noted (option_copied verdict.entry) stages.now notes.now) }
 {
     match stages {
         [] => Ok(List::new(alloc)),
-        [stage, ..] => noted_end(alloc, stage, verdicts, notes),
+        [stage, ..] => noted_end(alloc, stage, verdict, notes),
     }
 }
 

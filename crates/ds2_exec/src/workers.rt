@@ -1,12 +1,12 @@
 //! On how many workers the groups of a thread program run.
-ghost use Rattle.std.specs.Prelude.{◌≡◌, ◌≤◌, IfSome};
-ghost use Rattle.ds2_verdicts.specs.ThreadVerdicts.{verdict_named};
-ghost use Rattle.ds2_exec.specs.LocalCodes.{IsLocalByVerdict};
+ghost use Rattle.std.specs.Prelude.{◌≡◌, ◌≤◌, IfSome, Some};
+ghost use Rattle.std.specs.Option.{option_copied};
+ghost use Rattle.ds2_locality.specs.declared.locality.Verdict.TheVariants.{Local};
+ghost use Rattle.ds2_exec.specs.LocalCodes.{IsLocalVerdict};
 ghost use Rattle.ds2_exec.specs.Workers.{threads_of_reading, within_workers, workers_given};
 
-use crate::stages::local_grain;
-use ds2_code::{ProgramParts, ReadingPart, StagedParts};
-use ds2_verdicts::ThreadVerdict;
+use ds2_code::{ProgramParts, ReadingPart};
+use ds2_verdicts::Verdict;
 
 /// The most workers of a thread program.
 const MOST_WORKERS: u32 = 64;
@@ -46,18 +46,29 @@ fn workers_given(program: &ProgramParts, threads: Option<u32>) -> u32
     within_workers(asked)
 }
 
+// The grain of a verdict that says that a thread program is local.
+fn local_grain(verdict: Option<&Verdict>) -> Option<u32>
+    ensures { IfSome result (λ grain. option_copied verdict.entry ≡ Some (Local grain)) }
+{
+    match verdict {
+        Some(Verdict::Local { grain }) => Some(*grain),
+        Some(Verdict::NotLocal { .. }) => None,
+        None => None,
+    }
+}
+
 /// On how many workers the groups of the thread program may run from which a program reads: on as many as it gets, where its verdict is local.
 pub(crate) fn workers_of(
-    parts: &StagedParts,
-    verdicts: &[ThreadVerdict],
+    program: &ProgramParts,
+    verdict: Option<&Verdict>,
     threads: Option<u32>,
 ) -> Option<u32>
-    ensures given { IfSome result (λ n. n ≡ workers_given threads parts.now.program.reading) }
+    ensures given { IfSome result (λ n. n ≡ workers_given threads program.now.reading) }
     ensures within { IfSome result (λ n. (1 ≤ n) × (n ≤ 64)) }
-    ensures local { IfSome result (λ _. IsLocalByVerdict (verdict_named verdicts.now) parts.now.stages) }
+    ensures local { IfSome result (λ _. IsLocalVerdict (option_copied verdict.entry)) }
 {
-    match local_grain(parts.stages.as_slice(), verdicts) {
+    match local_grain(verdict) {
         None => None,
-        Some(_) => Some(workers_given(&parts.program, threads)),
+        Some(_) => Some(workers_given(program, threads)),
     }
 }
