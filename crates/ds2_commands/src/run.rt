@@ -4,9 +4,9 @@ ghost use Rattle.ds2_compile.specs.AnswersOfTexts.{SourcesRead};
 ghost use Rattle.ds2_answer.specs.Words.{is_source};
 ghost use Rattle.ds2_answer.specs.declared.words.TheConstants.{MOST_BUDGET};
 ghost use Rattle.ds2_exec.specs.StageRuns.{RunsStages};
-ghost use Rattle.ds2_store_steps.specs.Halts.{CausedByStore, FollowsAll, InSession};
+ghost use Rattle.ds2_store_steps.specs.Halts.{CausedByStore, InSession};
 ghost use Rattle.ds2_commands.specs.CommandOutcomes.{DoesSource, runs_with};
-ghost use Rattle.ds2_commands.specs.SourceLoads.{IsRunnableObject, RunsLoaded, StoresReadable, loaded_plan};
+ghost use Rattle.ds2_commands.specs.SourceLoads.{IsRunnableObject, RunsLoaded, StoresReadable};
 
 use crate::loaded::Loaded;
 use crate::source_run::SourceRun;
@@ -20,33 +20,6 @@ use ds2_outside::Store;
 use ds2_store_steps::{Halt, Session};
 use ds2_value::Value;
 use std::alloc::Global;
-
-// Runs the programs of a source.
-fn run_codes<F: Fn(Global, &StageRun, &[Value]) -> Result<ThreadEnd, OutOfMemory>, S: Store>(
-    session: &mut Session<S>,
-    asked: &SourceRun,
-    loaded: &Loaded,
-    run: &F,
-) -> Result<(), Halt>
-    requires callable { F.IsAlwaysCallable run.now }
-    requires right { RunsStages (F.post run.now) }
-    requires runs { IsRunnableObject loaded.now }
-    requires budget { asked.now.budget ≤ MOST_BUDGET }
-    ensures does { InSession S.files (FollowsAll (loaded_plan asked.now.budget loaded.now)) session.old result session.new }
-    ensures cause { CausedByStore S.read_faults S.write_faults session.old result session.new }
-{
-    let codes = loaded.object.programs().as_slice();
-    let stored = loaded.stored.as_slice();
-    let verdicts = loaded.verdicts.as_slice();
-    let input = RunInput {
-        codes,
-        stored,
-        verdicts,
-        threads: asked.threads,
-        budget: asked.budget,
-    };
-    run_programs(session, &input, run)
-}
 
 // Unless an output is there already, stores the object of a source and runs its programs.
 fn run_loaded<F: Fn(Global, &StageRun, &[Value]) -> Result<ThreadEnd, OutOfMemory>, S: Store>(
@@ -66,7 +39,17 @@ fn run_loaded<F: Fn(Global, &StageRun, &[Value]) -> Result<ThreadEnd, OutOfMemor
 {
     codes_do_as_programs();
     store_new(session, asked.source, &loaded.object)?;
-    run_codes(session, asked, loaded, run)
+    let codes = loaded.object.programs().as_slice();
+    let stored = loaded.stored.as_slice();
+    let verdicts = loaded.verdicts.as_slice();
+    let input = RunInput {
+        codes,
+        stored,
+        verdicts,
+        threads: asked.threads,
+        budget: asked.budget,
+    };
+    run_programs(session, &input, run)
 }
 
 /// `run`: compiles a source, stores its object and runs its programs, their thread programs by `run`.

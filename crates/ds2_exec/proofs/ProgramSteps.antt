@@ -1,5 +1,5 @@
 -- From what a program leaves to the programs behind it.
-use Rattle.std.proofs.Common.{◌≡◌, ◌∙◌, IfOk, IsErrAnd, Bool, true, false, bytes_eq, ℕ, List, [], ◌∷◌, ◌++◌, length, map, Option, Some, None, Result, Ok, Err, refl, sym, ap, subst, append_assoc}
+use Rattle.std.proofs.Common.{◌≡◌, ◌∙◌, IsErrAnd, Bool, true, false, bytes_eq, ℕ, List, [], ◌∷◌, ◌++◌, length, map, Option, Some, None, Result, Ok, Err, refl, sym, ap, subst, append_assoc}
 use Rattle.std.specs.Prelude.{if◌then◌else◌, reverse}
 use Rattle.std.proofs.lemmas.List.{append-nil, reverse-append, reverse-reverse}
 use Rattle.std.proofs.lemmas.Slice.Eq.{bytes_eq-Decides}
@@ -12,17 +12,16 @@ use Rattle.ds2_table.specs.Table.{Contents}
 use Rattle.ds2_csv.specs.Text as csv
 use Rattle.ds2_outside.specs.Files.{Files}
 use Rattle.ds2_code.specs.declared.parts.StagedParts.{StagedParts}
-use Rattle.ds2_code_answer.specs.CodeAnswer.{code_answer}
 use Rattle.ds2_same_meaning.specs.ProgramMeaning.{MadeTable}
 use Rattle.ds2_same_meaning.specs.SameMeaning.{code_tables_made}
 use Rattle.ds2_answer.specs.declared.status.Status.TheVariants as ended
 use Rattle.ds2_answer.specs.Answer.{table_file}
-use Rattle.ds2_answer.specs.HeldTables.{HeldTables, NamedTable, contents_named, made_by_name, tables_held}
+use Rattle.ds2_answer.specs.HeldTables.{HeldTables, NamedTable, contents_named, made_by_name}
 use Rattle.ds2_answer.specs.Lines.{count_line, error_line, fault_text, line_put, lines_put, table_line, thread_line}
-use Rattle.ds2_answer.specs.ObjectPlans.{answer_over, run_of_code, stages_of_code}
+use Rattle.ds2_answer.specs.ObjectPlans.{answer_over, run_of_code}
 use Rattle.ds2_answer.specs.Plan.{Plan, Logs, WritesFile, each_in_turn}
 use Rattle.ds2_answer.specs.ProgramPlans.{ProgramLeft, count_rows_then, count_stage_then, end_then, program_then, put_then, write_then}
-use Rattle.ds2_answer.specs.StagesLeft.{VerdictsTold, grain_of_stages}
+use Rattle.ds2_answer.specs.StagesLeft.{VerdictsTold}
 use Rattle.ds2_store_steps.specs.declared.halt.Halt.{Halt}
 use Rattle.ds2_store_steps.specs.declared.halt.Halt.TheVariants.{OutOfMemory}
 use Rattle.ds2_exec.specs.declared.output_sink.OutputSink.{OutputSink}
@@ -106,14 +105,11 @@ module _ (keeps : List ℕ → Bool) (told : VerdictsTold) where
   ends_alike (Faulted fault place) stages instructions made rest = refl
 
   -- a program leaves what its code has left
-  pub program_is : (code : StagedParts) (budget : ℕ) (held : HeldTables) (tables : List Contents) (end : CodeEnd) → tables ≡ tables_held held code
-      → IsCodeEnd keeps told code (code_answer code tables budget (grain_of_stages told (stages_of_code code))) end
+  pub program_is : (code : StagedParts) (budget : ℕ) (held : HeldTables) (end : CodeEnd) → IsCodeEnd keeps told code (answer_over told code budget held) end
       → (rest : Plan) → code_end_then end rest ≡ program_then (run_of_code told budget code held) rest
-  program_is code budget held tables end tables_are is rest =
+  program_is code budget held end ends rest =
       let answer : Answer = answer_over told code budget held in
       let made : List MadeTable = code_tables_made code.program answer.rows in
-      let ends : IsCodeEnd keeps told code answer end =
-      subst (λ (ts : List Contents). IsCodeEnd keeps told code (code_answer code ts budget (grain_of_stages told (stages_of_code code))) end) tables_are is in
       (λ i. each_in_turn put_then (ends.lines i) (sinks_then end.ending end.stages (ends.counted i) (ends.tables i) rest))
       ∙ ap (each_in_turn put_then answer.lines)
       (ends_alike end.ending end.stages answer.executed made rest ∙ (λ i. end_then (sym ends.ended i) (ends.noted i) answer.executed (map made_by_name made) rest))
@@ -130,20 +126,11 @@ module _ (keeps : List ℕ → Bool) (told : VerdictsTold) where
       by false k false e same = same
 
   -- of the tables that a program leaves those are kept that are told
-  pub tables_left : (code : StagedParts) (budget : ℕ) (held : HeldTables) (tables : List Contents) (end : CodeEnd) (kept : List NamedTable) → tables ≡ tables_held held code
-      → IsCodeEnd keeps told code (code_answer code tables budget (grain_of_stages told (stages_of_code code))) end
+  pub tables_left : (code : StagedParts) (budget : ℕ) (held : HeldTables) (end : CodeEnd) (kept : List NamedTable) → IsCodeEnd keeps told code (answer_over told code budget held) end
       → kept ≡ tables_kept end.tables → HaveKept keeps kept (ProgramLeft.tables (run_of_code told budget code held))
-  tables_left code budget held tables end kept tables_are is kept_is name keep =
+  tables_left code budget held end kept ends kept_is name keep =
       let answer : Answer = answer_over told code budget held in
-      let ends : IsCodeEnd keeps told code answer end =
-      subst (λ (ts : List Contents). IsCodeEnd keeps told code (code_answer code ts budget (grain_of_stages told (stages_of_code code))) end) tables_are is in
       ap (λ (ts : List NamedTable). contents_named ts name) (kept_is ∙ ap tables_kept ends.tables) ∙ kept_alike (code_tables_made code.program answer.rows) name keep
-
-  pub settled_left : (code : StagedParts) (budget : ℕ) (held : HeldTables) (tables : List Contents) (end : CodeEnd) (result : Result (List NamedTable) Halt) → tables ≡ tables_held held code
-      → IsCodeEnd keeps told code (code_answer code tables budget (grain_of_stages told (stages_of_code code))) end
-      → IfOk result (λ kept. kept ≡ tables_kept end.tables) → IfOk result (λ kept. HaveKept keeps kept (ProgramLeft.tables (run_of_code told budget code held)))
-  settled_left code budget held tables end (Ok kept) tables_are is kept_is = tables_left code budget held tables end kept tables_are is kept_is
-  settled_left code budget held tables end (Err e) tables_are is none = none
 
 -- lines that were put, said one behind the other
 pub leads_lines : (lines : List (List ℕ)) (rest : Plan) (said log : List ℕ) (told : Option Files) → log ≡ said ++ lines_put lines → LeadsOn (each_in_turn put_then lines rest) rest said told log told
@@ -239,11 +226,6 @@ module _ (end : CodeEnd) (rest : Plan) where
   fault_ends fault place said log told now halt ends same = line_ends ended.Fault (error_line (fault_text fault) place) said told now halt log tt ends same
 
 -- ---- a program as its code
-
--- a program was run as its code
-pub program_runs : {T : Type 0} (whole plan rest : Plan) (said log : List ℕ) (told now : Option Files) (result : Result T Halt) → plan ≡ whole → Follows plan (λ (_ : T). rest) said told result log now
-    → Follows whole (λ (_ : T). rest) said told result log now
-program_runs {T} whole plan rest said log told now result is does = subst (λ (s : Plan). Follows {T = T} s (λ _. rest) said told result log now) is does
 
 -- a program has halted
 pub program_halts : {T : Type 0} (plan rest : Plan) (said log : List ℕ) (told now : Option Files) (halt : Halt) (result : Result T Halt) → IsErrAnd result (λ e. e ≡ halt)

@@ -10,7 +10,7 @@ use Rattle.ds2_code_answer.specs.CodeAnswer.{code_answer}
 use Rattle.ds2_code_answer.specs.CodeTables.{AreTablesOfCode}
 use Rattle.ds2_answer.specs.declared.status.Status.TheVariants as ended
 use Rattle.ds2_answer.specs.HeldTables.{HeldTables, NamedTable, tables_held}
-use Rattle.ds2_answer.specs.ObjectPlans.{left_by_code, references_of, run_of_code, stages_of_code}
+use Rattle.ds2_answer.specs.ObjectPlans.{answer_over, left_by_code, references_of, run_of_code, stages_of_code}
 use Rattle.ds2_answer.specs.Plan.{Plan, Stops}
 use Rattle.ds2_answer.specs.ProgramPlans.{ProgramLeft, program_then, programs_plan}
 use Rattle.ds2_answer.specs.StagesLeft.{VerdictsTold, grain_of_stages}
@@ -19,9 +19,11 @@ use Rattle.ds2_store_steps.specs.declared.halt.Halt.TheVariants.{OutOfMemory}
 use Rattle.ds2_store_steps.specs.CodeReferences.{IsKeptName}
 use Rattle.ds2_exec.specs.CodeRuns.{AreLinked}
 use Rattle.ds2_store_steps.specs.Halts.{Follows, FollowsAll, HaltsPlan, LeadsOn}
-use Rattle.ds2_exec.specs.OutputSinks.{HaveKept}
+use Rattle.ds2_exec.specs.declared.programs.CodeEnd.{CodeEnd}
+use Rattle.ds2_exec.specs.OutputSinks.{HaveKept, IsCodeEnd, code_end_then, tables_kept}
 use Rattle.ds2_exec.specs.StageEnds.{GrainsFit}
 use Rattle.ds2_exec.proofs.CodeSteps.{RunsLeft, code_makes, next_runs, next_tables, others_run, runs_begin}
+use Rattle.ds2_exec.proofs.ProgramSteps.{program_is, tables_left}
 use Rattle.ds2_store_steps.proofs.Leading.{does_on, halts_with, leads_none, no_memory}
 
 -- tables as they are held
@@ -77,7 +79,7 @@ module _ (keeps : List ℕ → Bool) (verdicts : VerdictsTold) (budget : ℕ) (s
         (subst (λ (l : ProgramLeft). LeadsOn (program_then l plan_behind) plan_behind text between log now) run_same (ran plan_behind))
 
     -- it was run, and tables of it are kept
-    pub run_another : (some : List NamedTable) (made behind : List (List NamedTable)) (log : List ℕ) (now : Option Files) → IsValidStaged code → kept ≡ made → behind ≡ made ++ some ∷ []
+    run_another : (some : List NamedTable) (made behind : List (List NamedTable)) (log : List ℕ) (now : Option Files) → IsValidStaged code → kept ≡ made → behind ≡ made ++ some ∷ []
         → HaveKept keeps some (ProgramLeft.tables (run_of_code verdicts budget code (held_with stored kept)))
         → ((rest : Plan) → LeadsOn (program_then (run_of_code verdicts budget code (held_with stored kept)) rest) rest text between log now)
         → AreRunSoFar keeps verdicts budget stored codes' after behind said told log now
@@ -90,21 +92,49 @@ module _ (keeps : List ℕ → Bool) (verdicts : VerdictsTold) (budget : ℕ) (s
       leads = led_behind log now ran;
     }
 
+    -- it was run and has left this, and those of its tables are kept of which rows are
+    pub run_settled : (end : CodeEnd) (some : List NamedTable) (made behind : List (List NamedTable)) (log : List ℕ) (now : Option Files) → IsValidStaged code → kept ≡ made → behind ≡ made ++ some ∷ []
+        → IsCodeEnd keeps verdicts code (answer_over verdicts code budget (held_with stored kept)) end → some ≡ tables_kept end.tables
+        → ((rest : Plan) → LeadsOn (code_end_then end rest) rest text between log now) → AreRunSoFar keeps verdicts budget stored codes' after behind said told log now
+    run_settled end some made behind log now valid made_is behind_is ends some_is ran =
+        run_another some made behind log now valid made_is behind_is (tables_left keeps verdicts code budget (held_with stored kept) end some ends some_is)
+        (λ rest. subst (λ (p : Plan). LeadsOn p rest text between log now) (program_is keeps verdicts code budget (held_with stored kept) end ends rest) (ran rest))
+
+    -- there was no memory to run it
+    pub run_unbegun : (result : Result (Unit {0}) Halt) → IsErrAnd result (λ e. e ≡ OutOfMemory) → FollowsAll (plan_of verdicts budget stored codes' []) said told result text between
+    run_unbegun result err =
+        let next = plan_of verdicts budget stored (code ∷ after) run.all in
+        does_on (plan_of verdicts budget stored codes' []) next (λ (_ : Unit {0}). Stops ended.Done) said text told between result text between first_leads
+        (no_memory next (λ (_ : Unit {0}). Stops ended.Done) text text between between result err refl)
+
     -- it has halted
-    pub run_halts : (T : Type 0) (log : List ℕ) (now : Option Files) (halt : Halt) (result : Result (Unit {0}) Halt) → IsErrAnd result (λ e. e ≡ halt)
+    run_halts : (T : Type 0) (log : List ℕ) (now : Option Files) (halt : Halt) (result : Result (Unit {0}) Halt) → IsErrAnd result (λ e. e ≡ halt)
         → ((rest : Plan) → Follows {T = T} (program_then (run_of_code verdicts budget code (held_with stored kept)) rest) (λ _. rest) text between (Err halt) log now)
         → FollowsAll (plan_of verdicts budget stored codes' []) said told result log now
     run_halts T log now halt result err ran =
         halts_with (plan_of verdicts budget stored codes' []) (plan_of verdicts budget stored (code ∷ after) run.all) (λ (_ : Unit {0}). Stops ended.Done) (λ (_ : T). plan_behind) said text told between now halt result log err first_leads
         (subst (λ (l : ProgramLeft). HaltsPlan (program_then l plan_behind) text between halt log now) run_same (ran plan_behind))
 
+    -- it was run and has left this, in which the command has halted
+    pub settled_halts : (T : Type 0) (end : CodeEnd) (log : List ℕ) (now : Option Files) (halt : Halt) (result : Result (Unit {0}) Halt) → IsErrAnd result (λ e. e ≡ halt)
+        → IsCodeEnd keeps verdicts code (answer_over verdicts code budget (held_with stored kept)) end
+        → ((rest : Plan) → Follows {T = T} (code_end_then end rest) (λ _. rest) text between (Err halt) log now) → FollowsAll (plan_of verdicts budget stored codes' []) said told result log now
+    settled_halts T end log now halt result err ends ran =
+        run_halts T log now halt result err (λ rest. subst (λ (p : Plan). HaltsPlan p text between halt log now) (program_is keeps verdicts code budget (held_with stored kept) end ends rest) (ran rest))
+
     -- it was run, and there was no memory to keep its tables
-    pub run_unkept : (log : List ℕ) (now : Option Files) (result : Result (Unit {0}) Halt) → IsErrAnd result (λ e. e ≡ OutOfMemory)
+    run_unkept : (log : List ℕ) (now : Option Files) (result : Result (Unit {0}) Halt) → IsErrAnd result (λ e. e ≡ OutOfMemory)
         → ((rest : Plan) → LeadsOn (program_then (run_of_code verdicts budget code (held_with stored kept)) rest) rest text between log now)
         → FollowsAll (plan_of verdicts budget stored codes' []) said told result log now
     run_unkept log now result err ran =
         does_on (plan_of verdicts budget stored codes' []) plan_behind (λ (_ : Unit {0}). Stops ended.Done) said log told now result log now (led_behind log now ran)
         (no_memory plan_behind (λ (_ : Unit {0}). Stops ended.Done) log log now now result err refl)
+
+    pub settled_unkept : (end : CodeEnd) (log : List ℕ) (now : Option Files) (result : Result (Unit {0}) Halt) → IsErrAnd result (λ e. e ≡ OutOfMemory)
+        → IsCodeEnd keeps verdicts code (answer_over verdicts code budget (held_with stored kept)) end
+        → ((rest : Plan) → LeadsOn (code_end_then end rest) rest text between log now) → FollowsAll (plan_of verdicts budget stored codes' []) said told result log now
+    settled_unkept end log now result err ends ran =
+        run_unkept log now result err (λ rest. subst (λ (p : Plan). LeadsOn p rest text between log now) (program_is keeps verdicts code budget (held_with stored kept) end ends rest) (ran rest))
 
   -- all programs were run
   pub run_all : (left : List StagedParts) (kept : List (List NamedTable)) (said log : List ℕ) (told now : Option Files) → left ≡ [] → AreRunSoFar keeps verdicts budget stored codes' left kept said told log now

@@ -6,21 +6,19 @@ ghost use Rattle.std.specs.List.{AllByRecursion};
 ghost use Rattle.std.specs.Option.{option_copied};
 ghost use Rattle.ds2_value.specs.declared.fault.Ending.TheVariants.{Normal};
 ghost use Rattle.ds2_table.specs.Table.{IsTable};
-ghost use Rattle.ds2_code_answer.specs.CodeAnswer.{code_answer};
 ghost use Rattle.ds2_code_answer.specs.CodeTables.{AreTablesOfCode};
 ghost use Rattle.ds2_machine.specs.declared.machine.TheConstants.{MOST_BUDGET};
 ghost use Rattle.ds2_group_job.specs.StageRuns.{RunsStages};
 ghost use Rattle.ds2_answer.specs.HeldTables.{held_from_store, tables_held};
 ghost use Rattle.ds2_answer.specs.Lines.{count_line};
-ghost use Rattle.ds2_answer.specs.ObjectPlans.{run_of_code, stages_of_code};
+ghost use Rattle.ds2_answer.specs.ObjectPlans.{answer_over, run_of_code};
 ghost use Rattle.ds2_answer.specs.Plan.{Plan, each_in_turn};
-ghost use Rattle.ds2_answer.specs.ProgramPlans.{ProgramLeft, program_then, programs_plan};
-ghost use Rattle.ds2_answer.specs.StagesLeft.{grain_of_stages};
+ghost use Rattle.ds2_answer.specs.ProgramPlans.{programs_plan};
 ghost use Rattle.ds2_verdicts.specs.ThreadVerdicts.{verdict_named};
 ghost use Rattle.ds2_store_steps.specs.Halts.{CausedByStore, Follows, FollowsAll, InSession};
 ghost use Rattle.ds2_exec.specs.CodeRuns.{AreLinked, rows_counted};
-ghost use Rattle.ds2_exec.specs.LocalCodes.{IsIndependentOver, IsIndependentWhereLocal};
-ghost use Rattle.ds2_exec.specs.OutputSinks.{HaveKept, IsCodeEnd, code_end_then, left_by_run, sinks_then, tables_kept, write_sink_then};
+ghost use Rattle.ds2_exec.specs.LocalCodes.{IsIndependentWhereLocal};
+ghost use Rattle.ds2_exec.specs.OutputSinks.{IsCodeEnd, code_end_then, left_by_run, sinks_then, tables_kept, write_sink_then};
 ghost use Rattle.ds2_exec.specs.StageEnds.{GrainsFit, stages_counted};
 
 use crate::key::key_of_run;
@@ -94,29 +92,30 @@ fn code_end(
     })
 }
 
-// Runs a program's code over its tables. Rows are kept of tables of the names that are kept.
+// Runs a program's code over those of the tables that are held that it names. Rows are kept of tables of the names that are kept.
 fn run_code<F: Fn(Global, &StageRun, &[Value]) -> Result<ThreadEnd, OutOfMemory>>(
     alloc: Global,
     running: &Running<F>,
     code: &ProgramCode,
-    tables: &Tables,
+    made: &[List<KeptTable>],
 ) -> Result<CodeEnd, OutOfMemory>
     requires callable { F.IsAlwaysCallable running.now.run.now }
     requires right { RunsStages (F.post running.now.run.now) }
     requires fit { GrainsFit (verdict_named running.now.verdicts.now) code.now }
-    requires tables { AreTablesOfCode code.now tables.now }
+    requires tables { AreTablesOfCode code.now (tables_held (record { stored = running.now.stored.now; made = made.now }) code.now) }
     requires budget { running.now.budget ≤ MOST_BUDGET }
-    requires independent { IsIndependentOver (verdict_named running.now.verdicts.now) code.now tables.now running.now.budget }
+    requires independent { IsIndependentWhereLocal (verdict_named running.now.verdicts.now) code.now }
     ensures { IfOk result (λ end. IsCodeEnd (contains (pointwise nat_eq) running.now.kept.now) (verdict_named running.now.verdicts.now) code.now
-        (code_answer code.now tables.now running.now.budget (grain_of_stages (verdict_named running.now.verdicts.now) (stages_of_code code.now))) end) }
+        (answer_over (verdict_named running.now.verdicts.now) code.now running.now.budget (record { stored = running.now.stored.now; made = made.now })) end) }
 {
+    let tables = tables_of_code(alloc, code, running.stored, made, running.key)?;
     let parts = code.parts();
     let stages = parts.stages.as_slice();
     let verdict = verdict_told(stages, running.verdicts);
     let grains = grains_of(alloc, stages, verdict)?;
     let program = ProgramRun {
         code,
-        tables,
+        tables: &tables,
         budget: running.budget,
         grains: &grains,
         workers: workers_of(&parts.program, verdict, running.threads),
@@ -245,29 +244,6 @@ fn settle<S: Store>(session: &mut Session<S>, end: CodeEnd) -> Result<List<KeptT
     Ok(kept_tables(session.alloc, end.tables)?)
 }
 
-// Runs a program, and gives those of its tables of which rows are kept.
-fn run_program<F: Fn(Global, &StageRun, &[Value]) -> Result<ThreadEnd, OutOfMemory>, S: Store>(
-    session: &mut Session<S>,
-    running: &Running<F>,
-    code: &ProgramCode,
-    made: &[List<KeptTable>],
-) -> Result<List<KeptTable>, Halt>
-    requires callable { F.IsAlwaysCallable running.now.run.now }
-    requires right { RunsStages (F.post running.now.run.now) }
-    requires fit { GrainsFit (verdict_named running.now.verdicts.now) code.now }
-    requires tables { AreTablesOfCode code.now (tables_held (record { stored = running.now.stored.now; made = made.now }) code.now) }
-    requires budget { running.now.budget ≤ MOST_BUDGET }
-    requires independent { IsIndependentWhereLocal (verdict_named running.now.verdicts.now) code.now }
-    ensures does { (rest : Plan) → InSession S.files (Follows (program_then (run_of_code (verdict_named running.now.verdicts.now) running.now.budget code.now (record { stored = running.now.stored.now; made = made.now })) rest) (λ _. rest)) session.old result session.new }
-    ensures made { IfOk result (λ tables. HaveKept (contains (pointwise nat_eq) running.now.kept.now) tables (ProgramLeft.tables (run_of_code (verdict_named running.now.verdicts.now) running.now.budget code.now (record { stored = running.now.stored.now; made = made.now })))) }
-    ensures cause { CausedByStore S.read_faults S.write_faults session.old result session.new }
-{
-    let alloc = session.alloc;
-    let tables = tables_of_code(alloc, code, running.stored, made, running.key)?;
-    let end = run_code(alloc, running, code, &tables)?;
-    settle(session, end)
-}
-
 // ---- programs
 
 // The names of the tables of which rows are kept, which are let go by a call.
@@ -319,7 +295,8 @@ pub fn run_programs<F: Fn(Global, &StageRun, &[Value]) -> Result<ThreadEnd, OutO
     let mut left = codes;
     while let [code, after @ ..] = left {
         let _parts = code.parts();
-        let tables = run_program(session, &running, code, made.as_slice())?;
+        let end = run_code(alloc, &running, code, made.as_slice())?;
+        let tables = settle(session, end)?;
         made.push(tables)?;
         left = after;
     }

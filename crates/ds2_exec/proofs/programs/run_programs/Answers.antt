@@ -1,13 +1,14 @@
-use Rattle.std.proofs.Common.{[], arith, refl, ◌∙◌}
+use Rattle.std.proofs.Common.{List, [], arith, refl, ◌∙◌}
 use Rattle.std.specs.Prelude.{nat_eq}
 use Rattle.std.specs.Cmp.Lexicographic.{pointwise}
 use Rattle.std.specs.HashSet.{contains}
 use Rattle.ds2_verdicts.specs.ThreadVerdicts.{verdict_named}
+use Rattle.ds2_answer.specs.HeldTables.{NamedTable}
 use Rattle.ds2_answer.specs.Plan.{Stops}
 use Rattle.ds2_answer.specs.declared.status.Status.TheVariants.{Done}
 use Rattle.ds2_exec.proofs.LocalSteps.{first_local}
 use Rattle.ds2_store_steps.proofs.Leading.{item_is, no_memory, none_is_left}
-use Rattle.ds2_exec.proofs.RunSteps.{next_program, plan_of, run_all, run_another, run_halts, run_kept, run_unkept, running_begins}
+use Rattle.ds2_exec.proofs.RunSteps.{next_program, plan_of, run_all, run_kept, run_settled, run_unbegun, running_begins, settled_halts, settled_unkept}
 use Rattle.ds2_exec.proofs.programs.run_programs.Goals as goal
 
 pub returns-in_err-references-clause-does : goal.returns-in_err-references-clause-does
@@ -40,19 +41,19 @@ loop-left-init g c =
       writes = omega arith;
     }
 
-pub run_program-requires-clause-fit : goal.run_program-requires-clause-fit
-run_program-requires-clause-fit g c = (next_program _ (verdict_named c.args.input.now.verdicts.now) _ _ c.args.input.now.codes.now _ _ _ _ _ _ _ _ (item_is _ _ c.in-len1-up.len_at_least c.code-item.is) (run_kept _ _ c.args.input.now.budget c.args.input.now.stored.now c.args.input.now.codes.now _ _ _ _ _ _ _ c.as_slice-in-len1-up.ensures c.loop-left.invariant.run)).0
+pub run_code-requires-clause-fit : goal.run_code-requires-clause-fit
+run_code-requires-clause-fit g c = (next_program _ (verdict_named c.args.input.now.verdicts.now) _ _ c.args.input.now.codes.now _ _ _ _ _ _ _ _ (item_is _ _ c.in-len1-up.len_at_least c.code-item.is) (run_kept _ _ c.args.input.now.budget c.args.input.now.stored.now c.args.input.now.codes.now _ _ _ _ _ _ _ c.as_slice-in-len1-up.ensures c.loop-left.invariant.run)).0
 
-pub run_program-requires-clause-tables : goal.run_program-requires-clause-tables
-run_program-requires-clause-tables g c = (next_program _ (verdict_named c.args.input.now.verdicts.now) _ _ c.args.input.now.codes.now _ _ _ _ _ _ _ _ (item_is _ _ c.in-len1-up.len_at_least c.code-item.is) (run_kept _ _ c.args.input.now.budget c.args.input.now.stored.now c.args.input.now.codes.now _ _ _ _ _ _ _ c.as_slice-in-len1-up.ensures c.loop-left.invariant.run)).1
+pub run_code-requires-clause-tables : goal.run_code-requires-clause-tables
+run_code-requires-clause-tables g c = (next_program _ (verdict_named c.args.input.now.verdicts.now) _ _ c.args.input.now.codes.now _ _ _ _ _ _ _ _ (item_is _ _ c.in-len1-up.len_at_least c.code-item.is) (run_kept _ _ c.args.input.now.budget c.args.input.now.stored.now c.args.input.now.codes.now _ _ _ _ _ _ _ c.as_slice-in-len1-up.ensures c.loop-left.invariant.run)).1
 
-pub run_program-requires-clause-independent : goal.run_program-requires-clause-independent
-run_program-requires-clause-independent g c = (first_local (verdict_named c.args.input.now.verdicts.now) _ _ _ (item_is _ _ c.in-len1-up.len_at_least c.code-item.is) c.loop-left.invariant.independent).0
+pub run_code-requires-clause-independent : goal.run_code-requires-clause-independent
+run_code-requires-clause-independent g c = (first_local (verdict_named c.args.input.now.verdicts.now) _ _ _ (item_is _ _ c.in-len1-up.len_at_least c.code-item.is) c.loop-left.invariant.independent).0
 
 pub loop-left-preserved : goal.loop-left-preserved
 loop-left-preserved g c = record {
-  run = run_another _ (verdict_named c.args.input.now.verdicts.now) c.args.input.now.budget c.args.input.now.stored.now c.args.input.now.codes.now _ _ _ _ _ _ _ _ (item_is _ _ c.in-len1-up.len_at_least c.code-item.is) (run_kept _ _ c.args.input.now.budget c.args.input.now.stored.now c.args.input.now.codes.now _ _ _ _ _ _ _ c.as_slice-in-len1-up.ensures c.loop-left.invariant.run) _ _ _ _ _ c.parts-parts.ensures.valid c.as_slice-in-len1-up.ensures c.in_ok-push.ensures.ok
-      c.in_ok-tables.ensures.made c.in_ok-tables.ensures.does;
+  run = run_settled _ (verdict_named c.args.input.now.verdicts.now) c.args.input.now.budget c.args.input.now.stored.now c.args.input.now.codes.now _ _ _ _ _ _ _ _ (item_is _ _ c.in-len1-up.len_at_least c.code-item.is) (run_kept _ _ c.args.input.now.budget c.args.input.now.stored.now c.args.input.now.codes.now _ _ _ _ _ _ _ c.as_slice-in-len1-up.ensures c.loop-left.invariant.run) c.in_ok-end.end _ _ _ _ _ c.parts-parts.ensures.valid c.as_slice-in-len1-up.ensures c.in_ok-push.ensures.ok
+      c.in_ok-end.ensures c.in_ok-tables.ensures.kept c.in_ok-tables.ensures.does;
   independent = (first_local (verdict_named c.args.input.now.verdicts.now) _ _ _ (item_is _ _ c.in-len1-up.len_at_least c.code-item.is) c.loop-left.invariant.independent).1;
   same_store = c.in_ok-tables.ensures.cause.same_store ∙ c.loop-left.invariant.same_store;
   reads = omega (arith, c.in_ok-tables.ensures.cause.read);
@@ -64,10 +65,15 @@ returns-clause-does g c = run_all _ (verdict_named c.args.input.now.verdicts.now
 
 pub returns-in_err-tables-clause-does : goal.returns-in_err-tables-clause-does
 returns-in_err-tables-clause-does g c =
-    run_halts _ (verdict_named c.args.input.now.verdicts.now) c.args.input.now.budget c.args.input.now.stored.now c.args.input.now.codes.now _ _ _ _ _ _ _ _ (item_is _ _ c.in-len1-up.len_at_least c.code-item.is) (run_kept _ _ c.args.input.now.budget c.args.input.now.stored.now c.args.input.now.codes.now _ _ _ _ _ _ _ c.as_slice-in-len1-up.ensures c.loop-left.invariant.run) (Unit {0}) _ _ _ c.from_residual-in_err-tables.result
-    c.from_residual-in_err-tables.ensures.1 c.in_err-tables.ensures.does
+    settled_halts _ (verdict_named c.args.input.now.verdicts.now) c.args.input.now.budget c.args.input.now.stored.now c.args.input.now.codes.now _ _ _ _ _ _ _ _ (item_is _ _ c.in-len1-up.len_at_least c.code-item.is) (run_kept _ _ c.args.input.now.budget c.args.input.now.stored.now c.args.input.now.codes.now _ _ _ _ _ _ _ c.as_slice-in-len1-up.ensures c.loop-left.invariant.run) (List NamedTable) c.in_ok-end.end _ _ _ c.from_residual-in_err-tables.result
+    c.from_residual-in_err-tables.ensures.1 c.in_ok-end.ensures c.in_err-tables.ensures.does
+
+pub returns-in_err-end-clause-does : goal.returns-in_err-end-clause-does
+returns-in_err-end-clause-does g c =
+    run_unbegun _ (verdict_named c.args.input.now.verdicts.now) c.args.input.now.budget c.args.input.now.stored.now c.args.input.now.codes.now _ _ _ _ _ _ _ _ (item_is _ _ c.in-len1-up.len_at_least c.code-item.is) (run_kept _ _ c.args.input.now.budget c.args.input.now.stored.now c.args.input.now.codes.now _ _ _ _ _ _ _ c.as_slice-in-len1-up.ensures c.loop-left.invariant.run) c.from_residual-in_err-end.result
+    c.from_residual-in_err-end.ensures.1
 
 pub returns-in_err-push-clause-does : goal.returns-in_err-push-clause-does
 returns-in_err-push-clause-does g c =
-    run_unkept _ (verdict_named c.args.input.now.verdicts.now) c.args.input.now.budget c.args.input.now.stored.now c.args.input.now.codes.now _ _ _ _ _ _ _ _ (item_is _ _ c.in-len1-up.len_at_least c.code-item.is) (run_kept _ _ c.args.input.now.budget c.args.input.now.stored.now c.args.input.now.codes.now _ _ _ _ _ _ _ c.as_slice-in-len1-up.ensures c.loop-left.invariant.run) _ _ c.from_residual-in_err-push.result
-    c.from_residual-in_err-push.ensures.1 c.in_ok-tables.ensures.does
+    settled_unkept _ (verdict_named c.args.input.now.verdicts.now) c.args.input.now.budget c.args.input.now.stored.now c.args.input.now.codes.now _ _ _ _ _ _ _ _ (item_is _ _ c.in-len1-up.len_at_least c.code-item.is) (run_kept _ _ c.args.input.now.budget c.args.input.now.stored.now c.args.input.now.codes.now _ _ _ _ _ _ _ c.as_slice-in-len1-up.ensures c.loop-left.invariant.run) c.in_ok-end.end _ _ c.from_residual-in_err-push.result
+    c.from_residual-in_err-push.ensures.1 c.in_ok-end.ensures c.in_ok-tables.ensures.does
