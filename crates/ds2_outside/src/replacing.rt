@@ -108,17 +108,8 @@ fn place_if_absent<R: Files>(rt: &R, new: &str, name: &str) -> io::Result<()> {
     }
 }
 
-// Writes the new file and gives it the name.
-fn fill_and_place<R: Files>(
-    rt: &R,
-    file: R::File,
-    new: &str,
-    name: &str,
-    bytes: &[u8],
-    mode: Option<u32>,
-    placing: Placing,
-) -> io::Result<()> {
-    fill(file, bytes, mode)?;
+// Gives the new file the name.
+fn place<R: Files>(rt: &R, new: &str, name: &str, placing: Placing) -> io::Result<()> {
     match placing {
         Placing::Replacing => fs::rename(rt, new, name),
         Placing::IfAbsent => place_if_absent(rt, new, name),
@@ -150,7 +141,10 @@ pub(crate) fn replace_file<R: Files>(
 ) -> io::Result<()> {
     let mode = replaced_mode(rt, name)?;
     let (new, file) = create_beside(rt, alloc, name, mode.unwrap_or(NEW_MODE))?;
-    let placed = fill_and_place(rt, file, new.as_str(), name, bytes, mode, placing);
+    let placed = match fill(file, bytes, mode) {
+        Ok(()) => place(rt, new.as_str(), name, placing),
+        refused => refused,
+    };
     if placed.is_err() {
         let _left_over = fs::remove_file(rt, new.as_str());
     }
