@@ -41,6 +41,10 @@ pub fn finish<J: Job, G: Gate>(
     ensures end { IfOk result (λ f. IsStageEnd (J.answer job.now) (J.count job.now) f.end) }
     ensures ran { IfOk result (λ f. HasRunRest (J.answer job.now) (λ g. slice_index_or placed g None) (J.count job.now) f.ran) }
 {
+    let caller = Caller {
+        number: caller,
+        gate,
+    };
     let groups = job.groups();
     let mut placed = placed.into_vec();
     let mut worker = job.start(alloc)?;
@@ -49,7 +53,7 @@ pub fn finish<J: Job, G: Gate>(
     for g in 0..groups {
         let brought = placed[g as usize].take();
         note(&mut ran, g, &brought);
-        let end = answer_of(alloc, job, &mut worker, caller, g, brought, gate)?;
+        let end = answer_of(alloc, job, &mut worker, g, brought, &caller)?;
         let fault = end.is_fault();
         ends.push_reserved(end);
         if fault {
@@ -83,15 +87,21 @@ fn ended(ends: Vec<GroupEnd>, faulted: Option<u64>, ran: Vec<u64>) -> Finished
     }
 }
 
+// The caller of a stage, by its number at the gate.
+#[derive(Drop)]
+struct Caller<'g, G: Gate> {
+    number: u32,
+    gate: &'g G,
+}
+
 // A group's answer: what was brought, or a run of the caller's own.
 fn answer_of<J: Job, G: Gate>(
     alloc: Global,
     job: &J,
     worker: &mut J::Worker,
-    caller: u32,
     g: u64,
     brought: Option<GroupEnd>,
-    gate: &G,
+    caller: &Caller<'_, G>,
 ) -> Result<GroupEnd, OutOfMemory>
     requires group { g < J.count job.now }
     requires brought { Brings (J.answer job.now) g brought }
@@ -102,8 +112,8 @@ fn answer_of<J: Job, G: Gate>(
     if let Some(end) = brought {
         return Ok(end);
     }
-    gate.before(caller, g);
+    caller.gate.before(caller.number, g);
     let end = job.run(alloc, worker, g)?;
-    gate.after(caller, g);
+    caller.gate.after(caller.number, g);
     Ok(end)
 }
