@@ -28,6 +28,14 @@ use std::alloc::Global;
 use std::sync::Wait;
 use std::sync::ledger::Ledger;
 
+/// What the parties of a stage have behind the joins.
+pub struct Brought<'j, J: Answers, C: Ledger, R: Ledger> {
+    /// The pass of the caller.
+    pub caller: Pass<C, R>,
+    /// The bags of all workers, in order of number.
+    pub bags: Vec<Bag<'j, J, C, R>>,
+}
+
 /// What the caller makes of a stage.
 #[derive(Drop)]
 pub struct Concluded {
@@ -39,35 +47,34 @@ pub struct Concluded {
 }
 
 /// What the caller does behind the joins: takes in what the workers have, draws the runs that they left, and runs the groups that
-/// nobody brought, as far as they are needed. The bags are those of all workers, in order of number. What they and the caller have
-/// then makes a history that is legal and complete; where each worker ended neither early nor at a fault, their bags have each group
-/// once.
+/// nobody brought, as far as they are needed. What the workers and the caller have then makes a history that is legal and complete;
+/// where each worker ended neither early nor at a fault, their bags have each group once.
 pub fn conclude<'j, J: Job, G: Gate, C: Ledger, R: Ledger, W: Wait>(
     rt: &W,
     alloc: Global,
     job: &'j J,
     shared: &Shared<C, R>,
-    caller: Pass<C, R>,
-    bags: Vec<Bag<'j, J, C, R>>,
+    brought: Brought<'j, J, C, R>,
     gate: &G,
 ) -> Result<Concluded, OutOfMemory>
     requires groups { J.count job.now ≡ shared.now.tickets.groups }
-    requires cut { shared.now.tickets.length ≡ run_length shared.now.tickets.groups (vec_len bags) }
-    requires some { (0 < vec_len bags) × (vec_len bags ≤ 64) }
-    requires caller { IsCallerPass shared.now.tickets (vec_len bags) caller }
-    requires parts { (C.parts ≡ vec_len bags + 1) × (R.parts ≡ vec_len bags + 1) }
-    requires bags { All (λ b. IsEndedBag (J.answer job.now) shared.now.tickets b.pass (map (λ d. record { group = d.group; rows = length d.end.rows; faulted = ended_by_fault d.end.ending }) b.dones) (record { short = b.short; odd = b.odd; stop = b.stop }) × All (λ d. d.job.now ≡ job.now) b.dones) bags.items }
-    requires number { AreInOrderOfNumber (map (λ b. b.pass) bags.items) }
+    requires cut { shared.now.tickets.length ≡ run_length shared.now.tickets.groups (vec_len brought.bags) }
+    requires some { (0 < vec_len brought.bags) × (vec_len brought.bags ≤ 64) }
+    requires caller { IsCallerPass shared.now.tickets (vec_len brought.bags) brought.caller }
+    requires parts { (C.parts ≡ vec_len brought.bags + 1) × (R.parts ≡ vec_len brought.bags + 1) }
+    requires bags { All (λ b. IsEndedBag (J.answer job.now) shared.now.tickets b.pass (map (λ d. record { group = d.group; rows = length d.end.rows; faulted = ended_by_fault d.end.ending }) b.dones) (record { short = b.short; odd = b.odd; stop = b.stop }) × All (λ d. d.job.now ≡ job.now) b.dones) brought.bags.items }
+    requires number { AreInOrderOfNumber (map (λ b. b.pass) brought.bags.items) }
     ensures end { IfOk result (λ c. IsStageEnd (J.answer job.now) (J.count job.now) c.end) }
-    ensures ended { IfOk result (λ c. HasEnded (J.answer job.now) shared.now.tickets (map (λ b. record { drawn = shown (view_of b.pass.seat); runs = map (λ d. record { group = d.group; rows = length d.end.rows; faulted = ended_by_fault d.end.ending }) b.dones }) bags.entry.items) c.ran c.seat) }
-    ensures whole { IfOk result (λ _. All (λ b. EndedInFull (record { short = b.short; odd = b.odd; stop = b.stop }) (map (λ d. record { group = d.group; rows = length d.end.rows; faulted = ended_by_fault d.end.ending }) b.dones)) bags.entry.items → HaveEachOnce (J.count job.now) (map (λ b. record { drawn = shown (view_of b.pass.seat); runs = map (λ d. record { group = d.group; rows = length d.end.rows; faulted = ended_by_fault d.end.ending }) b.dones }) bags.entry.items)) }
-    ensures history { IfOk result (λ c. ComesOfHistory (J.answer job.now) (J.count job.now) (vec_len bags.entry) c.end) }
+    ensures ended { IfOk result (λ c. HasEnded (J.answer job.now) shared.now.tickets (map (λ b. record { drawn = shown (view_of b.pass.seat); runs = map (λ d. record { group = d.group; rows = length d.end.rows; faulted = ended_by_fault d.end.ending }) b.dones }) brought.entry.bags.items) c.ran c.seat) }
+    ensures whole { IfOk result (λ _. All (λ b. EndedInFull (record { short = b.short; odd = b.odd; stop = b.stop }) (map (λ d. record { group = d.group; rows = length d.end.rows; faulted = ended_by_fault d.end.ending }) b.dones)) brought.entry.bags.items → HaveEachOnce (J.count job.now) (map (λ b. record { drawn = shown (view_of b.pass.seat); runs = map (λ d. record { group = d.group; rows = length d.end.rows; faulted = ended_by_fault d.end.ending }) b.dones }) brought.entry.bags.items)) }
+    ensures history { IfOk result (λ c. ComesOfHistory (J.answer job.now) (J.count job.now) (vec_len brought.entry.bags) c.end) }
 {
     runs_are_least();
     ended_is_complete();
     whole_bags_have_all();
     ended_is_carried::<(), (), (), GroupEnd>();
     every_schedule::<(), (), (), GroupEnd>();
+    let Brought { caller, bags } = brought;
     let workers = bags.len() as u32;
     let Unpacked { passes, dones } = unpack(alloc, job, shared, bags)?;
     let (_totals, mut seat) = gather(rt, shared, caller, passes);

@@ -26,32 +26,44 @@ pub(crate) enum Went {
     Refused(Odd),
 }
 
+// A worker at work: what it shares with the others, the state that it runs groups on, its pass, and what it ran.
+#[derive(Drop)]
+pub(crate) struct AtWork<'s, 'j, J: Job, C: Ledger, R: Ledger> {
+    pub(crate) shared: &'s Shared<C, R>,
+    pub(crate) state: J::Worker,
+    pub(crate) pass: Pass<C, R>,
+    pub(crate) dones: Vec<Done<'j, J>>,
+}
+
 // Runs a group and hands it in. Room for it in the bag is made first: nothing is allocated under the lock, or between it and the bag.
 pub(crate) fn run_one<'j, J: Job, G: Gate, C: Ledger, R: Ledger, W: Wait>(
     rt: &W,
     alloc: Global,
     job: &'j J,
-    shared: &Shared<C, R>,
-    worker: &mut J::Worker,
-    pass: &mut Pass<C, R>,
-    dones: &mut Vec<Done<'j, J>>,
+    worker: &mut AtWork<'_, 'j, J, C, R>,
     g: u64,
     gate: &G,
 ) -> Went
     requires group { g < J.count job.now }
-    requires fits { J.fits job.now worker.old }
-    requires part { 0 < pass.old.parts }
-    requires of { All (λ d. d.job.now ≡ job.now) dones.old.items }
-    ensures of { All (λ d. d.job.now ≡ job.now) dones.new.items }
-    ensures gone { HasGone (J.answer job.now) (J.count job.now) g pass.old pass.new (map (λ d. record { group = d.group; rows = length d.end.rows; faulted = ended_by_fault d.end.ending }) dones.old.items) (map (λ d. record { group = d.group; rows = length d.end.rows; faulted = ended_by_fault d.end.ending }) dones.new.items) result }
-    ensures fits { goes_on result ≡ true → J.fits job.now worker.new }
+    requires fits { J.fits job.now worker.old.state }
+    requires part { 0 < worker.old.pass.parts }
+    requires of { All (λ d. d.job.now ≡ job.now) worker.old.dones.items }
+    ensures of { All (λ d. d.job.now ≡ job.now) worker.new.dones.items }
+    ensures gone { HasGone (J.answer job.now) (J.count job.now) g worker.old.pass worker.new.pass (map (λ d. record { group = d.group; rows = length d.end.rows; faulted = ended_by_fault d.end.ending }) worker.old.dones.items) (map (λ d. record { group = d.group; rows = length d.end.rows; faulted = ended_by_fault d.end.ending }) worker.new.dones.items) result }
+    ensures fits { goes_on result ≡ true → J.fits job.now worker.new.state }
 {
+    let AtWork {
+        shared,
+        state,
+        pass,
+        dones,
+    } = worker;
     if dones.reserve(1).is_err() {
         return Went::Short;
     }
     let number = pass.number();
     gate.before(number, g);
-    let Ok(done) = run_group(alloc, job, worker, g) else {
+    let Ok(done) = run_group(alloc, job, state, g) else {
         return Went::Short;
     };
     let went = keep(rt, job, shared, pass, dones, done);
@@ -77,14 +89,13 @@ fn keep<'j, J: Job, C: Ledger, R: Ledger, W: Wait>(
     ensures gone { HasGone (J.answer job.now) (J.count job.now) done.entry.group pass.old pass.new (map (λ d. record { group = d.group; rows = length d.end.rows; faulted = ended_by_fault d.end.ending }) dones.old.items) (map (λ d. record { group = d.group; rows = length d.end.rows; faulted = ended_by_fault d.end.ending }) dones.new.items) result }
     ensures calm { goes_on result ≡ true → ended_by_fault done.entry.end.ending ≡ false }
 {
-    let rows = done.rows();
-    if rows >= 1 << 31 {
+    if done.rows() >= 1 << 31 {
         return Went::Short;
     }
-    let faulted = done.is_fault();
-    match shared.hand_in(rt, job.groups(), pass, done.group(), rows, faulted) {
+    match shared.hand_in(rt, job.groups(), pass, &done) {
         Err(odd) => Went::Refused(odd),
         Ok(least) => {
+            let faulted = done.is_fault();
             dones.push_reserved(done);
             if faulted {
                 Went::Fault

@@ -22,7 +22,7 @@ mod stage;
 mod worker;
 
 pub use bag::Bag;
-pub use concluding::{Concluded, conclude};
+pub use concluding::{Brought, Concluded, conclude};
 pub use desk::Odd;
 pub use gathering::gather;
 pub use opening::{Opened, open_shared};

@@ -7,7 +7,7 @@ ghost use Rattle.ds2_stage.specs.Ended.{IsEndedBag, ComesOfHistory};
 ghost use Rattle.ds2_stage.specs.Passes.{MayWork, AreInOrderOfNumber};
 
 use crate::bag::Bag;
-use crate::concluding::{Concluded, conclude};
+use crate::concluding::{Brought, Concluded, conclude};
 use crate::opening::{Opened, open_shared};
 use crate::pass::Pass;
 use crate::shared::Shared;
@@ -43,9 +43,18 @@ pub fn run_stage<J: Job + Sync, G: Gate + Sync, W: Threads + Wait + Sync>(
         job,
         workers,
         gate,
-        Blank::new(parts),
-        Blank::new(parts),
+        Blanks {
+            count: Blank::new(parts),
+            rows: Blank::new(parts),
+        },
     )
+}
+
+// Of the ledgers that are still to be opened: that of the groups handed in, and that of their rows.
+#[derive(Drop)]
+struct Blanks {
+    count: Blank,
+    rows: Blank,
 }
 
 // The stage over two ledgers.
@@ -61,12 +70,11 @@ fn over<
     job: &J,
     workers: u32,
     gate: &G,
-    count: Blank,
-    rows: Blank,
+    blanks: Blanks,
 ) -> Result<StageEnd, OutOfMemory>
     requires workers { (1 ≤ workers) × (workers ≤ 64) }
-    requires count { (count.name ≡ C.name) × (count.parts ≡ C.parts) × (C.parts ≡ workers + 1) }
-    requires rows { (rows.name ≡ R.name) × (rows.parts ≡ R.parts) × (R.parts ≡ workers + 1) }
+    requires count { (blanks.count.name ≡ C.name) × (blanks.count.parts ≡ C.parts) × (C.parts ≡ workers + 1) }
+    requires rows { (blanks.rows.name ≡ R.name) × (blanks.rows.parts ≡ R.parts) × (R.parts ≡ workers + 1) }
     ensures end { IfOk result (λ e. IsStageEnd (J.answer job.now) (J.count job.now) e) }
     ensures history { IfOk result (λ e. ComesOfHistory (J.answer job.now) (J.count job.now) workers e) }
 {
@@ -78,13 +86,14 @@ fn over<
         shared,
         workers: passes,
         caller,
-    } = open_shared::<C, R>(alloc, count, rows, groups, workers)?;
+    } = open_shared::<C, R>(alloc, blanks.count, blanks.rows, groups, workers)?;
     let bags = run_workers(rt, alloc, job, &shared, passes.into_vec(), gate)?;
+    let brought = Brought { caller, bags };
     let Concluded {
         end,
         ran: _,
         seat: _,
-    } = conclude(rt, alloc, job, &shared, caller, bags, gate)?;
+    } = conclude(rt, alloc, job, &shared, brought, gate)?;
     Ok(end)
 }
 

@@ -13,10 +13,10 @@ ghost use Rattle.ds2_stage.specs.Working.{IsWorking};
 
 use crate::bag::Bag;
 use crate::desk::Odd;
-use crate::group::{Went, run_one};
+use crate::group::{AtWork, Went, run_one};
 use crate::pass::Pass;
 use crate::shared::Shared;
-use ds2_bags::{Answers, Done, Job};
+use ds2_bags::Job;
 use ds2_base::List;
 use ds2_outside::Gate;
 use ds2_schedule::laws::still_ascends;
@@ -32,42 +32,44 @@ pub fn work<'j, J: Job, G: Gate, C: Ledger, R: Ledger, W: Wait>(
     alloc: Global,
     job: &'j J,
     shared: &Shared<C, R>,
-    mut pass: Pass<C, R>,
+    pass: Pass<C, R>,
     gate: &G,
 ) -> Bag<'j, J, C, R>
     requires { MayWork (J.count job.now) shared.now.tickets pass }
     ensures of { All (λ d. d.job.now ≡ job.now) result.dones }
     ensures worked { HasWorked (J.answer job.now) shared.now.tickets pass result.pass (map (λ d. record { group = d.group; rows = length d.end.rows; faulted = ended_by_fault d.end.ending }) result.dones) (record { short = result.short; odd = result.odd; stop = result.stop }) }
 {
-    let mut dones = Vec::new(alloc);
-    let Ok(mut worker) = job.start(alloc) else {
-        return filled(pass, dones, true, None, None);
+    let Ok(state) = job.start(alloc) else {
+        return Bag {
+            pass,
+            dones: List::new(alloc),
+            short: true,
+            odd: None,
+            stop: None,
+        };
+    };
+    let dones = Vec::new(alloc);
+    let mut worker = AtWork {
+        shared,
+        state,
+        pass,
+        dones,
     };
     let mut next = 0;
     let mut end = 0;
     let mut least = None;
     for _ in rt.forever() {
-        let Some((g, to)) = next_group(&shared.tickets, &mut pass, next, end) else {
-            return filled(pass, dones, false, None, None);
+        let Some((g, to)) = next_group(&shared.tickets, &mut worker.pass, next, end) else {
+            return filled(worker, false, None, None);
         };
         if let Some(fault) = below(least, g) {
-            return filled(pass, dones, false, None, Some(fault));
+            return filled(worker, false, None, Some(fault));
         }
-        match run_one(
-            rt,
-            alloc,
-            job,
-            shared,
-            &mut worker,
-            &mut pass,
-            &mut dones,
-            g,
-            gate,
-        ) {
+        match run_one(rt, alloc, job, &mut worker, g, gate) {
             Went::On(fault) => least = fault,
-            Went::Fault => return filled(pass, dones, false, None, None),
-            Went::Short => return filled(pass, dones, true, None, None),
-            Went::Refused(odd) => return filled(pass, dones, false, Some(odd), None),
+            Went::Fault => return filled(worker, false, None, None),
+            Went::Short => return filled(worker, true, None, None),
+            Went::Refused(odd) => return filled(worker, false, Some(odd), None),
         }
         next = g + 1;
         end = to;
@@ -107,17 +109,23 @@ fn below(least: Option<u64>, g: u64) -> Option<u64>
     }
 }
 
-fn filled<'j, J: Answers, C: Ledger, R: Ledger>(
-    pass: Pass<C, R>,
-    dones: Vec<Done<'j, J>>,
+// What a worker brings when it ends.
+fn filled<'j, J: Job, C: Ledger, R: Ledger>(
+    worker: AtWork<'_, 'j, J, C, R>,
     short: bool,
     odd: Option<Odd>,
     stop: Option<u64>,
 ) -> Bag<'j, J, C, R>
-    ensures pass { result.pass ≡ pass }
-    ensures dones { result.dones ≡ dones.entry.items }
+    ensures pass { result.pass ≡ worker.entry.pass }
+    ensures dones { result.dones ≡ worker.entry.dones.items }
     ensures early { (result.short ≡ short) × (result.odd ≡ odd) × (result.stop ≡ stop) }
 {
+    let AtWork {
+        shared: _,
+        state: _,
+        pass,
+        dones,
+    } = worker;
     Bag {
         pass,
         dones: List::of(dones),
