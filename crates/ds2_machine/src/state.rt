@@ -24,7 +24,7 @@ use ds2_code::{Constant, HashPart, Instr, MethodPart, ParameterPart, ProgramPart
 use ds2_frames::{
     Arguments, Frames, Pile, Waiting, computed, computed_from_pair, operands_of, write_line,
 };
-use ds2_slots::{HashObjects, set};
+use ds2_slots::{HashObjects, NumberedPart, set};
 use ds2_value::{CALL_DEPTH, Fault, HashFunction, IteratorFunction, Truth, Value};
 use std::alloc::Global;
 
@@ -593,14 +593,14 @@ impl State {
         requires { self.old.at < 2 ^ 32 }
         ensures { IfOk result (λ halt. (told : UnitTold) → IsQuietStep (on_desk (hash_called code.now function number (Some part.now) (desk_of_state self.old)) (machine_of_state self.old told)) told self.new halt) }
     {
-        let given = self.objects.call(
-            alloc,
-            function,
-            number as usize,
+        let object = NumberedPart {
+            number: number as usize,
             part,
-            code.iterators.as_slice(),
-            &mut self.slots,
-        )?;
+        };
+        let walked = code.iterators.as_slice();
+        let given = self
+            .objects
+            .call(alloc, function, object, walked, &mut self.slots)?;
         self.operands.push(given)?;
         self.at += 1;
         Ok(None)
@@ -654,14 +654,13 @@ impl State {
         requires { self.old.at < 2 ^ 32 }
         ensures { IfOk result (λ halt. (told : UnitTold) → IsQuietStep (on_desk (iterator_moved function number object (Some part.now) (desk_of_state self.old)) (machine_of_state self.old told)) told self.new halt) }
     {
-        let given = self.objects.iterate(
-            alloc,
-            function,
-            number as usize,
-            object as usize,
+        let object = NumberedPart {
+            number: object as usize,
             part,
-            &mut self.slots,
-        )?;
+        };
+        let given = self
+            .objects
+            .iterate(alloc, function, number as usize, object, &mut self.slots)?;
         self.operands.push(given)?;
         self.at += 1;
         Ok(None)

@@ -2,7 +2,8 @@
 //!
 //! ```text
 //! let mut objects = HashObjects::load(alloc, code.slots.as_slice(), code.hashes.as_slice(), code.iterators.as_slice(), &tables)?;
-//! let code_of_call = objects.call(alloc, HashFunction::Find, 0, part, code.iterators.as_slice(), &mut slots)?;
+//! let object = NumberedPart { number: 0, part };
+//! let code_of_call = objects.call(alloc, HashFunction::Find, object, code.iterators.as_slice(), &mut slots)?;
 //! ```
 #![tactic(auto)]
 
@@ -14,6 +15,6 @@ mod shift;
 mod slots;
 mod tables;
 
-pub use objects::HashObjects;
+pub use objects::{HashObjects, NumberedPart};
 pub use slots::{clear, copy_all, copy_at, nulls, set, set_values, values_at};
 pub use tables::HashTables;

@@ -68,17 +68,21 @@ fn load_object<T: HashTables>(
     let Some(count) = tables.row_count(table) else {
         return Ok(object);
     };
-    add_rows(
-        alloc,
-        slots,
-        part,
-        loaded,
+    let from = LoadedTable {
         tables,
-        table,
-        count,
-        &mut object,
-    )?;
+        number: table,
+        columns: loaded,
+    };
+    add_rows(alloc, slots, part, &from, count, &mut object)?;
     Ok(object)
+}
+
+// The table that an object is loaded from, by its number, and the columns that the object takes of it.
+#[derive(Drop)]
+struct LoadedTable<'t, T: HashTables> {
+    tables: &'t T,
+    number: usize,
+    columns: &'t HashTable,
 }
 
 // Adds the items of the rows of a table, so many, in order; a row whose key is present adds none.
@@ -87,18 +91,16 @@ fn add_rows<T: HashTables>(
     alloc: Global,
     slots: &[Slot],
     part: &HashPart,
-    loaded: &HashTable,
-    tables: &T,
-    table: usize,
+    from: &LoadedTable<'_, T>,
     count: usize,
     object: &mut HashObject,
 ) -> Result<(), OutOfMemory>
     requires bounds { AreSlotTypesInBounds slots.now }
-    requires count { count ≡ length (get_or (T.tables tables.now) table []) }
-    ensures { OnOk result (object.new ≡ with_rows_added slots.now part.now loaded.now (get_or (T.tables tables.now) table []) object.old) }
+    requires count { count ≡ length (get_or (T.tables from.now.tables.now) from.now.number []) }
+    ensures { OnOk result (object.new ≡ with_rows_added slots.now part.now from.now.columns.now (get_or (T.tables from.now.tables.now) from.now.number []) object.old) }
 {
     'rows: for row in 0..count {
-        add_row(alloc, slots, part, loaded, tables, table, row, object)?;
+        add_row(alloc, slots, part, from, row, object)?;
     }
     Ok(())
 }
@@ -108,31 +110,27 @@ fn add_row<T: HashTables>(
     alloc: Global,
     slots: &[Slot],
     part: &HashPart,
-    loaded: &HashTable,
-    tables: &T,
-    table: usize,
+    from: &LoadedTable<'_, T>,
     row: usize,
     object: &mut HashObject,
 ) -> Result<(), OutOfMemory>
     requires { AreSlotTypesInBounds slots.now }
-    ensures { let values = row_in_table (T.tables tables.now) table row in OnOk result (object.new ≡ (hash_answer hash.Add (columns_for slots.now part.now.key_slots loaded.now.key_columns values) (columns_for slots.now part.now.data_slots loaded.now.data_columns values) object.old).items) }
+    ensures { let values = row_in_table (T.tables from.now.tables.now) from.now.number row in OnOk result (object.new ≡ (hash_answer hash.Add (columns_for slots.now part.now.key_slots from.now.columns.now.key_columns values) (columns_for slots.now part.now.data_slots from.now.columns.now.data_columns values) object.old).items) }
 {
     let key = columns_for(
         alloc,
         slots,
         part.key_slots.as_slice(),
-        loaded.key_columns.as_slice(),
-        tables,
-        table,
+        from.columns.key_columns.as_slice(),
+        from,
         row,
     )?;
     let item = columns_for(
         alloc,
         slots,
         part.data_slots.as_slice(),
-        loaded.data_columns.as_slice(),
-        tables,
-        table,
+        from.columns.data_columns.as_slice(),
+        from,
         row,
     )?;
     let _added = object.add(key, item)?;
@@ -146,19 +144,18 @@ fn columns_for<T: HashTables>(
     slots: &[Slot],
     numbers: &[u32],
     columns: &[u32],
-    tables: &T,
-    table: usize,
+    from: &LoadedTable<'_, T>,
     row: usize,
 ) -> Result<Row, OutOfMemory>
     requires { AreSlotTypesInBounds slots.now }
-    ensures { IfOk result (λ list. list ≡ columns_for slots.now numbers.now columns.now (row_in_table (T.tables tables.now) table row)) }
+    ensures { IfOk result (λ list. list ≡ columns_for slots.now numbers.now columns.now (row_in_table (T.tables from.now.tables.now) from.now.number row)) }
 {
     let mut list = List::new(alloc);
     for (place, number) in numbers.iter().enumerate() {
         let Some(column) = columns.get(place) else {
             return Ok(list);
         };
-        let cell = tables.cell(table, row, *column as usize);
+        let cell = from.tables.cell(from.number, row, *column as usize);
         let value = value_for(alloc, slots, *number as usize, &cell)?;
         list.push(value)?;
     }

@@ -24,6 +24,15 @@ pub struct HashObjects {
     pub iterators: List<Option<u64>>,
 }
 
+/// A hash object of a program, by its number, with the part that names its variables.
+#[derive(Clone, Copy)]
+pub struct NumberedPart<'p> {
+    /// The number of the object.
+    pub number: usize,
+    /// Its part.
+    pub part: &'p HashPart,
+}
+
 impl HashObjects {
     /// The objects of a program before its first unit: each has the rows of its table, where it names one, and `walked`, which has the
     /// object of each iterator, says how many iterators there are. They stand nowhere.
@@ -42,7 +51,7 @@ impl HashObjects {
         Ok(HashObjects { hashes, iterators })
     }
 
-    /// Calls object `number`, whose variables are the slots of `part`, and gives the code of the call. `walked` has the object of each
+    /// Calls an object, whose variables are the slots of its part, and gives the code of the call. `walked` has the object of each
     /// iterator.
     ///
     /// For want of memory the object may be empty, and slots may have other values.
@@ -50,13 +59,13 @@ impl HashObjects {
         &mut self,
         alloc: Global,
         function: HashFunction,
-        number: usize,
-        part: &HashPart,
+        object: NumberedPart<'_>,
         walked: &[u32],
         slots: &mut List<Value>,
     ) -> Result<Value, OutOfMemory>
-        ensures { IfOk result (λ given. HasCalledHash function number part.now walked.now slots.old slots.new self.old self.new given) }
+        ensures { IfOk result (λ given. HasCalledHash function object.entry.number object.entry.part.now walked.now slots.old slots.new self.old self.new given) }
     {
+        let NumberedPart { number, part } = object;
         let mut object = self.take(alloc, number);
         let HashCall { code, shift } = call_object(alloc, function, part, slots, &mut object)?;
         self.put(number, object);
@@ -64,7 +73,7 @@ impl HashObjects {
         Ok(code)
     }
 
-    /// Calls iterator `number` of an object, whose variables are the slots of `part`, and gives the code of the call.
+    /// Calls iterator `number` of an object, whose variables are the slots of its part, and gives the code of the call.
     ///
     /// For want of memory slots may have other values.
     #[tactic(auto, using(crate::proofs::Answered::moved))]
@@ -73,17 +82,17 @@ impl HashObjects {
         alloc: Global,
         function: IteratorFunction,
         number: usize,
-        object: usize,
-        part: &HashPart,
+        object: NumberedPart<'_>,
         slots: &mut List<Value>,
     ) -> Result<Value, OutOfMemory>
-        ensures { IfOk result (λ given. HasMovedHiter function number object part.now slots.old slots.new self.old self.new given) }
+        ensures { IfOk result (λ given. HasMovedHiter function number object.entry.number object.entry.part.now slots.old slots.new self.old self.new given) }
     {
         let mut hiter = Hiter {
             at: self.position(number),
         };
         let empty = HashObject::open(alloc, HashKey::new());
-        let object = match self.hashes.get(object) {
+        let NumberedPart { number: of, part } = object;
+        let object = match self.hashes.get(of) {
             None => &empty,
             Some(object) => object,
         };

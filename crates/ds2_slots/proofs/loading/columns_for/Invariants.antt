@@ -5,5 +5,5 @@ use Rattle.ds2_slots.proofs.loading.columns_for.Given as goal
 
 abbrev pub invariant-loop-place : goal.invariant-loop-place
 invariant-loop-place g l =
-    let values = row_in_table (g.T.HashTables.tables l.tables) l.table l.row in
+    let values = row_in_table (g.T.HashTables.tables l.from.tables.now) l.from.number l.row in
     l.list ++ columns_for l.slots (drop l.place l.numbers) (drop l.place l.columns) values ≡ columns_for l.slots l.numbers l.columns values

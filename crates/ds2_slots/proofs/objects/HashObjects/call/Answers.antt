@@ -8,9 +8,9 @@ use Rattle.ds2_slots.proofs.objects.HashObjects.call.Goals as goal
 
 pub returns : goal.returns
 returns c =
-    called c.args.function c.args.number c.args.part.now c.args.walked.now c.args.slots.now c.call_object.new.slots c.args.self.now _ c.in_ok-code.field-0.code (meaning_of_shift c.in_ok-code.field-0.shift) c.take-object.result c.call_object.new.object
+    called c.args.function c.args.object.number c.args.object.part.now c.args.walked.now c.args.slots.now c.call_object.new.slots c.args.self.now _ c.in_ok-code.field-0.code (meaning_of_shift c.in_ok-code.field-0.shift) c.take-object.result c.call_object.new.object
     c.take-object.ensures.taken c.in_ok-code.ensures
-    (ap (λ (z : HashObjects). z.hashes) c.put.ensures ∙ ap (λ (z : HashObjects). slice_set z.hashes c.args.number c.call_object.new.object) c.take-object.ensures.rest)
+    (ap (λ (z : HashObjects). z.hashes) c.put.ensures ∙ ap (λ (z : HashObjects). slice_set z.hashes c.args.object.number c.call_object.new.object) c.take-object.ensures.rest)
     (c.shift_all.ensures
-    ∙ ap (λ (z : List (Option ℕ)). all_shifted (meaning_of_shift c.in_ok-code.field-0.shift) c.args.number c.args.walked.now z)
+    ∙ ap (λ (z : List (Option ℕ)). all_shifted (meaning_of_shift c.in_ok-code.field-0.shift) c.args.object.number c.args.walked.now z)
     (ap (λ (z : HashObjects). z.iterators) c.put.ensures ∙ ap (λ (z : HashObjects). z.iterators) c.take-object.ensures.rest))
