@@ -15,6 +15,17 @@ use ds2_emitter::{Numbering, emit, emit_expression};
 use ds2_meaning::{Expression, Reference};
 use ds2_value::{Comparison, Ty, Value};
 
+/// The head of a counted loop.
+#[derive(Clone, Copy)]
+pub struct CountHead<'s> {
+    /// Where the loop stands.
+    pub place: Place,
+    /// The variable that counts.
+    pub variable: &'s Reference,
+    /// Whether a step was given.
+    pub has_step: bool,
+}
+
 /// A counted loop whose body is still to come: the jump to its test that was left open, the number under which its end is kept, and
 /// where its body begins.
 #[derive(Clone, Copy)]
@@ -63,15 +74,18 @@ pub fn open_count<N: Numbering>(
     names: &N,
     code: &mut List<Instr>,
     kept: u32,
-    place: Place,
-    variable: &Reference,
-    has_step: bool,
+    head: CountHead<'_>,
 ) -> Result<OpenCount, OutOfMemory>
-    ensures code { OnOk result (code.new ≡ with_begun (N.numbers names.now) place variable.now kept has_step code.old) }
-    ensures hole { IfOk result (λ started. started.hole ≡ begun_jump (N.numbers names.now) place variable.now kept has_step code.old) }
-    ensures end { IfOk result (λ started. started.end ≡ end_kept kept has_step) }
+    ensures code { OnOk result (code.new ≡ with_begun (N.numbers names.now) head.entry.place head.entry.variable.now kept head.entry.has_step code.old) }
+    ensures hole { IfOk result (λ started. started.hole ≡ begun_jump (N.numbers names.now) head.entry.place head.entry.variable.now kept head.entry.has_step code.old) }
+    ensures end { IfOk result (λ started. started.end ≡ end_kept kept head.entry.has_step) }
     ensures first { IfOk result (λ started. started.first ≡ length code.new) }
 {
+    let CountHead {
+        place,
+        variable,
+        has_step,
+    } = head;
     let end = keep_step(names, code, kept, has_step)?;
     let keep = names.store_kept(end)?;
     let set = names.store(variable)?;
@@ -212,14 +226,17 @@ pub fn close_count<N: Numbering>(
     names: &N,
     code: &mut List<Instr>,
     kept: u32,
-    place: Place,
-    variable: &Reference,
-    has_step: bool,
+    head: CountHead<'_>,
     started: OpenCount,
 ) -> Result<(), OutOfMemory>
-    ensures code { let whole = with_round (N.numbers names.now) place variable.now kept has_step started.hole started.end started.first code.old in OnOk result (code.new ≡ redirected started.first (loop_aims (length whole) (length code.old)) whole) }
-    ensures small { OnOk result (length (with_round (N.numbers names.now) place variable.now kept has_step started.hole started.end started.first code.old) < body_mark) }
+    ensures code { let whole = with_round (N.numbers names.now) head.entry.place head.entry.variable.now kept head.entry.has_step started.hole started.end started.first code.old in OnOk result (code.new ≡ redirected started.first (loop_aims (length whole) (length code.old)) whole) }
+    ensures small { OnOk result (length (with_round (N.numbers names.now) head.entry.place head.entry.variable.now kept head.entry.has_step started.hole started.end started.first code.old) < body_mark) }
 {
+    let CountHead {
+        place,
+        variable,
+        has_step,
+    } = head;
     let again = position(code)?;
     let added = step_instr(names, kept, has_step)?;
     emit_advance(names, code, place, variable, added)?;

@@ -8,7 +8,7 @@ ghost use Rattle.ds2_statement_emitter.specs.Arms.{when_tree, arm_of_chain, last
 ghost use Rattle.ds2_statement_emitter.specs.Marks.{end_mark, marked_exits};
 
 use crate::aims::{CONTINUE, END, LEAVE};
-use crate::counts::{close_count, emit_count_values, open_count};
+use crate::counts::{CountHead, close_count, emit_count_values, open_count};
 use crate::loops::{close_until, close_while, open_while};
 use crate::parts::{
     emit_invoked, emit_line, emit_open_jump, emit_open_test, emit_outputs, emit_parameters,
@@ -287,10 +287,15 @@ pub fn emit_statement<N: Numbering>(
         } => {
             emit_count_values(names, code, start, end, step)?;
             let has_step = step.is_some();
-            let started = open_count(names, code, kept, *place, variable, has_step)?;
+            let head = CountHead {
+                place: *place,
+                variable,
+                has_step,
+            };
+            let started = open_count(names, code, kept, head)?;
             let first = plus(started.end, 1)?;
             let next = emit_statements(names, code, first, body.as_slice())?;
-            close_count(names, code, kept, *place, variable, has_step, started)?;
+            close_count(names, code, kept, head, started)?;
             Ok(next)
         }
         Statement::While {
