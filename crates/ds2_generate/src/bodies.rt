@@ -48,19 +48,30 @@ fn names_of<'p, 't, 'f>(unit: &Unit<'p, 't>, frame: Frame<'p, 'f>) -> BodyNumber
     }
 }
 
-// Adds the code of a system method by its parts, whose own slots begin at a number.
+// A system method by its parts.
+#[derive(Clone, Copy)]
+struct SystemParts<'p> {
+    locals: &'p [Variable],
+    instances: &'p [Instance],
+    body: &'p [Statement],
+}
+
+// Adds the code of a system method, whose own slots begin at a number.
 fn emit_body<'p>(
     unit: &Unit<'p, '_>,
     code: &mut List<Instr>,
     first: u32,
-    locals: &'p [Variable],
-    instances: &'p [Instance],
-    body: &'p [Statement],
+    parts: SystemParts<'p>,
     written: &[u32],
 ) -> Result<(), OutOfMemory>
     requires { IsLaidOut unit.now }
-    ensures { let tree = body_in locals.now instances.now body.now in OnOk result (code.new ≡ code.old ++ code_of_body (length code.old) (OfSystem (system_numbers (tree_of_unit unit.now) first tree) tree written.now)) }
+    ensures { let tree = body_in parts.entry.locals.now parts.entry.instances.now parts.entry.body.now in OnOk result (code.new ≡ code.old ++ code_of_body (length code.old) (OfSystem (system_numbers (tree_of_unit unit.now) first tree) tree written.now)) }
 {
+    let SystemParts {
+        locals,
+        instances,
+        body,
+    } = parts;
     let table = VariableTable::new(unit.alloc, locals)?;
     let frame = Frame::System {
         first,
@@ -89,12 +100,22 @@ pub fn emit_system_method<'p>(
         None => {
             let locals: &'p [Variable] = &[];
             let body: &'p [Statement] = &[];
-            emit_body(unit, code, first, locals, instances, body, written)
+            let parts = SystemParts {
+                locals,
+                instances,
+                body,
+            };
+            emit_body(unit, code, first, parts, written)
         }
         Some(method) => {
             let locals = method.locals.as_slice();
             let body = method.body.as_slice();
-            emit_body(unit, code, first, locals, instances, body, written)
+            let parts = SystemParts {
+                locals,
+                instances,
+                body,
+            };
+            emit_body(unit, code, first, parts, written)
         }
     }
 }

@@ -15,7 +15,7 @@ returns c =
     let u = c.args.unit.now in
     let code = c.args.code.now in
     let p = tree_of_unit u in
-    let tree = body_in c.args.locals.now c.args.instances.now c.args.body.now in
-    let held = ap (λ (l : List Variable). system_numbers p c.args.first (body_in l c.args.instances.now c.args.body.now)) c.in_ok-table.ensures in
+    let tree = body_in c.args.parts.locals.now c.args.parts.instances.now c.args.parts.body.now in
+    let held = ap (λ (l : List Variable). system_numbers p c.args.first (body_in l c.args.parts.instances.now c.args.parts.body.now)) c.in_ok-table.ensures in
     let same = body_numbered p u.slots.now u.constants.now _ _ _ c.names_of-names.ensures.frame c.names_of-names.ensures.numbers c.requires.slots c.requires.constants ∙ held in
     on_ok c.emit_system.result c.emit_system.ensures (λ e. e ∙ ap (λ n. code ++ code_of_body (length code) (OfSystem n tree c.args.written.now)) same)
