@@ -188,27 +188,33 @@ fn named_call(
     }
 }
 
-/// A call of a method of an instance of a package with these methods.
+/// An instance of a package, by its name, with the methods of its package.
+#[derive(Clone, Copy)]
+pub struct KnownInstance<'k> {
+    pub name: &'k Name,
+    pub methods: &'k KnownMethods,
+}
+
+/// A call of a method of an instance of a package.
 #[cycle(judge)]
 fn instance_call(
     alloc: Global,
     scope: &Scope<'_>,
-    instance: &Name,
-    methods: &KnownMethods,
+    instance: KnownInstance<'_>,
     object: &Token,
     name: &Token,
     arguments: &[Argument],
 ) -> Result<Judgement, OutOfMemory>
-    ensures { (types : TypeScope) (sources : Items Method) → IsScopeOf types scope.now → AreKnownMethods sources methods.now → instance.now ≡ spelled_name object.now
+    ensures { (types : TypeScope) (sources : Items Method) → IsScopeOf types scope.now → AreKnownMethods sources instance.entry.methods.now → instance.entry.name.now ≡ spelled_name object.now
         → Judges (elaborated_instance_call object.now name.now sources (elaborated_arguments types (arguments_of arguments.now)) (method_named sources (spelled_name name.now))) result }
 {
     let spelled = spelled_name(alloc, name)?;
-    match method_among(methods, &spelled) {
+    match method_among(instance.methods, &spelled) {
         None => Ok(nameless(object.place)),
         Some(method) => {
             let parameters = method.parameters.as_slice();
             let passed = passed_arguments(alloc, scope, arguments, name.place, parameters)?;
-            result_of(alloc, name.place, Some(instance), method, passed)
+            result_of(alloc, name.place, Some(instance.name), method, passed)
         }
     }
 }
@@ -244,7 +250,11 @@ fn known_call(
 {
     match &known.calls {
         KnownCalls::Methods(methods) => {
-            instance_call(alloc, scope, &known.name, methods, object, name, arguments)
+            let instance = KnownInstance {
+                name: &known.name,
+                methods,
+            };
+            instance_call(alloc, scope, instance, object, name, arguments)
         }
         KnownCalls::Hash => hash_call(alloc, &known.name, object, name),
         KnownCalls::Iterator => iterator_call(alloc, &known.name, object, name),

@@ -191,14 +191,14 @@ call-returns-in-Method t c = λ types s.
 pub instance_call-returns-in-None : goal.instance_call-returns-in-None
 instance_call-returns-in-None t c = λ types sources s m k.
     let xs = elaborated_arguments types (arguments_of c.args.arguments.now) in
-    no_instance_method c.args.methods.now sources c.args.object.now c.args.name.now c.in_ok-spelled.spelled (option_copied c.method_among.result) xs c.nameless.result m c.in_ok-spelled.ensures
+    no_instance_method c.args.instance.methods.now sources c.args.object.now c.args.name.now c.in_ok-spelled.spelled (option_copied c.method_among.result) xs c.nameless.result m c.in_ok-spelled.ensures
     c.method_among.ensures (ap option_copied c.in-None.is) c.nameless.ensures
 
 pub instance_call-returns : goal.instance_call-returns
 instance_call-returns t c = λ types sources s m k.
     let xs = elaborated_arguments types (arguments_of c.args.arguments.now) in
     let known = c.in-Some.method.now in
-    an_instance_method c.args.methods.now sources c.args.object.now c.args.name.now c.in_ok-spelled.spelled (option_copied c.method_among.result) xs known c.result_of.result m c.in_ok-spelled.ensures
+    an_instance_method c.args.instance.methods.now sources c.args.object.now c.args.name.now c.in_ok-spelled.spelled (option_copied c.method_among.result) xs known c.result_of.result m c.in_ok-spelled.ensures
     c.method_among.ensures (ap option_copied c.in-Some.is)
     (λ own h.
     method_result sources (Some (spelled_name c.args.object.now)) c.args.name.now xs known c.as_slice-parameters.result.now c.in_ok-passed-in-Some.passed c.result_of.result own h
