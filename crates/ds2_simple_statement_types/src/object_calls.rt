@@ -1,12 +1,11 @@
 //! Calls on objects as statements.
 ghost use Rattle.std.specs.Prelude.{◌≡◌, List as Items, Some, map};
-ghost use Rattle.ds2_elaboration.specs.ExpressionTypes.{TypeScope, ObjectCalls, elaborated_arguments, object_in_scope, values_for};
+ghost use Rattle.ds2_elaboration.specs.ExpressionTypes.{TypeScope, ObjectCalls, elaborated_arguments, object_in_scope};
 ghost use Rattle.ds2_elaboration.specs.StatementTypes.{instance_call_refusals, instance_call_node, object_call_refusals, object_call_node};
 ghost use Rattle.ds2_elaboration.specs.Typings.{TypeRefusals};
-ghost use Rattle.ds2_reference_types.specs.Scopes.{AreKnownMethods, IsKnownObject, value_parameter};
+ghost use Rattle.ds2_reference_types.specs.Scopes.{AreKnownMethods, IsKnownObject};
 ghost use Rattle.ds2_meaning.specs.TypedStatement as typed;
 ghost use Rattle.ds2_meaning.specs.View.{parameter_tree, typed_statement};
-ghost use Rattle.ds2_meaning.specs.declared.globals.Variable.{Variable};
 ghost use Rattle.ds2_names.specs.SourceUnit.{spelled_name};
 ghost use Rattle.ds2_names.specs.Uses.{method_named};
 ghost use Rattle.ds2_tree.specs.ExpressionViews.{arguments_of};
@@ -19,36 +18,36 @@ use crate::method_scope::MethodScope;
 use crate::outcomes::{StatementOutcome, boxed};
 use crate::settings::{SettingsOutcome, settings};
 use ds2_base::{List, Name, OutOfMemory, Place};
-use ds2_expression_walk::walk::passed_arguments;
-use ds2_meaning::{Parameter, ParameterSetting, Statement};
+use ds2_expression_walk::walk::{KnownInstance, passed_arguments};
+use ds2_meaning::{ParameterSetting, Statement};
 use ds2_reference_types::names::{nameless, spelled_name};
 use ds2_reference_types::objects::{hash_call, iterator_call};
-use ds2_reference_types::scopes::{KnownCalls, KnownMethods, KnownObject, method_among};
+use ds2_reference_types::scopes::{KnownCalls, KnownObject, method_among};
 use ds2_token::Token;
 use ds2_tree::Argument;
 use std::alloc::Global;
 
-/// A call of a method of an instance of a package with these methods; it need not return a value.
+/// A call of a method of an instance of a package; it need not return a value.
 fn instance_call(
     alloc: Global,
     scope: &MethodScope<'_>,
-    instance: &Name,
-    methods: &KnownMethods,
+    instance: KnownInstance<'_>,
     object: &Token,
     name: &Token,
     arguments: &[Argument],
 ) -> Result<StatementOutcome, OutOfMemory>
-    ensures { (types : TypeScope) (sources : Items Method) → IsMethodScope types scope.now → AreKnownMethods sources methods.now → instance.now ≡ spelled_name object.now
+    ensures { (types : TypeScope) (sources : Items Method) → IsMethodScope types scope.now → AreKnownMethods sources instance.entry.methods.now → instance.entry.name.now ≡ spelled_name object.now
         → StandsAs (instance_call_refusals types object.now name.now sources (elaborated_arguments types (arguments_of arguments.now)) (method_named sources (spelled_name name.now)))
         (instance_call_node types object.now.place object.now name.now sources (elaborated_arguments types (arguments_of arguments.now)) (method_named sources (spelled_name name.now))) result }
 {
     let spelled = spelled_name(alloc, name)?;
-    match method_among(methods, &spelled) {
+    match method_among(instance.methods, &spelled) {
         None => evaluated(alloc, object.place, nameless(object.place).outcome),
         Some(method) => {
             let parameters = method.parameters.as_slice();
             let passed = passed_arguments(alloc, &scope.names, arguments, name.place, parameters)?;
-            invoked(alloc, object.place, Some(instance), method.number, passed)
+            let own = Some(instance.name);
+            invoked(alloc, object.place, own, method.number, passed)
         }
     }
 }
@@ -84,24 +83,6 @@ fn set(
     }
 }
 
-/// `setparms` of an instance of a thread program with these parameters.
-fn set_parameters(
-    alloc: Global,
-    scope: &MethodScope<'_>,
-    instance: &Name,
-    parameters: &[Parameter],
-    object: &Token,
-    name: &Token,
-    arguments: &[Argument],
-) -> Result<StatementOutcome, OutOfMemory>
-    ensures { (types : TypeScope) (variables : Items Variable) → IsMethodScope types scope.now → parameters.now ≡ map value_parameter variables → instance.now ≡ spelled_name object.now
-        → StandsAs (values_for name.now.place variables (elaborated_arguments types (arguments_of arguments.now))).refusals
-        (typed.SetParameters object.now.place (spelled_name object.now) (values_for name.now.place variables (elaborated_arguments types (arguments_of arguments.now))).values) result }
-{
-    let values = settings(alloc, &scope.names, arguments, name.place, parameters)?;
-    set(alloc, object.place, instance, values)
-}
-
 /// A call on an object that is known.
 fn known_call(
     alloc: Global,
@@ -117,7 +98,11 @@ fn known_call(
 {
     match &known.calls {
         KnownCalls::Methods(methods) => {
-            instance_call(alloc, scope, &known.name, methods, object, name, arguments)
+            let instance = KnownInstance {
+                name: &known.name,
+                methods,
+            };
+            instance_call(alloc, scope, instance, object, name, arguments)
         }
         KnownCalls::Hash => {
             let x = hash_call(alloc, &known.name, object, name)?;
@@ -129,7 +114,8 @@ fn known_call(
         }
         KnownCalls::Parameters(parameters) => {
             let all = parameters.as_slice();
-            set_parameters(alloc, scope, &known.name, all, object, name, arguments)
+            let values = settings(alloc, &scope.names, arguments, name.place, all)?;
+            set(alloc, object.place, &known.name, values)
         }
     }
 }
