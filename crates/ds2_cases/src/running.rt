@@ -181,9 +181,18 @@ fn log_of(alloc: Global, case: Case) -> Result<MemSink, OutOfMemory> {
     Ok(log)
 }
 
-// Whether two stores have the same file of a name, or both none.
-fn is_unchanged(before: &MemStore, after: &MemStore, name: &Text) -> bool {
-    match (before.file(name), after.file(name)) {
+// A store before a command and after it.
+#[derive(Clone, Copy)]
+struct Change<'s> {
+    before: &'s MemStore,
+    after: &'s MemStore,
+    // Whether the bytes of objects are told.
+    tells_objects: bool,
+}
+
+// Whether both stores have the same file of a name, or both none.
+fn is_unchanged(change: Change<'_>, name: &Text) -> bool {
+    match (change.before.file(name), change.after.file(name)) {
         (None, None) => true,
         (Some(before), Some(after)) => before.as_slice() == after.as_slice(),
         _ => false,
@@ -201,17 +210,15 @@ fn is_written(calls: &[Call], name: &Text) -> bool {
 fn add_file(
     alloc: Global,
     name: &Text,
-    before: &MemStore,
-    after: &MemStore,
-    tells_objects: bool,
+    change: Change<'_>,
     out: &mut String,
 ) -> Result<(), AllocError> {
-    if is_unchanged(before, after, name) {
+    if is_unchanged(change, name) {
         return Ok(());
     }
     add_named(alloc, "file", name.as_str(), out)?;
-    match after.file(name) {
-        Some(_) if name.as_str().ends_with(".dso") && !tells_objects => Ok(()),
+    match change.after.file(name) {
+        Some(_) if name.as_str().ends_with(".dso") && !change.tells_objects => Ok(()),
         Some(bytes) => add_contents(alloc, bytes.as_slice(), out),
         None => out.push_str("is gone\n"),
     }
@@ -221,14 +228,12 @@ fn add_file(
 fn add_written(
     alloc: Global,
     calls: &[Call],
-    before: &MemStore,
-    after: &MemStore,
-    tells_objects: bool,
+    change: Change<'_>,
     out: &mut String,
 ) -> Result<(), AllocError> {
     for (index, call) in calls.iter().enumerate() {
         if call.asked == Asked::Write && !is_written(&calls[..index], &call.name) {
-            add_file(alloc, &call.name, before, after, tells_objects, out)?;
+            add_file(alloc, &call.name, change, out)?;
         }
     }
     Ok(())
@@ -239,14 +244,12 @@ fn add_others(
     alloc: Global,
     files: &[CaseFile],
     calls: &[Call],
-    before: &MemStore,
-    after: &MemStore,
-    tells_objects: bool,
+    change: Change<'_>,
     out: &mut String,
 ) -> Result<(), AllocError> {
     for file in files {
         if !is_written(calls, &file.name) {
-            add_file(alloc, &file.name, before, after, tells_objects, out)?;
+            add_file(alloc, &file.name, change, out)?;
         }
     }
     Ok(())
@@ -307,28 +310,15 @@ fn told(alloc: Global, case: Case, left: &Left) -> Result<String, Stop<Mistake>>
         shows_counts(case),
         &mut out,
     )?;
-    let tells = shows_objects(case);
     let before = store_of(alloc, case)?;
-    let after = &left.store.store;
-    add_written(alloc, calls, &before, after, tells, &mut out)?;
-    add_others(
-        alloc,
-        case.given.files.as_slice(),
-        calls,
-        &before,
-        after,
-        tells,
-        &mut out,
-    )?;
-    add_others(
-        alloc,
-        case.own.files.as_slice(),
-        calls,
-        &before,
-        after,
-        tells,
-        &mut out,
-    )?;
+    let change = Change {
+        before: &before,
+        after: &left.store.store,
+        tells_objects: shows_objects(case),
+    };
+    add_written(alloc, calls, change, &mut out)?;
+    add_others(alloc, case.given.files.as_slice(), calls, change, &mut out)?;
+    add_others(alloc, case.own.files.as_slice(), calls, change, &mut out)?;
     Ok(out)
 }
 
