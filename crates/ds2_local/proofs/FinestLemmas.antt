@@ -1,5 +1,5 @@
--- The finest grain, found by a search upward.
-use Rattle.std.proofs.Common.{◌≡◌, ◌<◌, ◌≤◌, ℕ, zero, suc, Bool, true, false, ◌+◌, Option, Some, None, is_some, refl, sym, ap, ◌∙◌, arith}
+-- The finest grain, where it is known that the rules hold there and not at the next one.
+use Rattle.std.proofs.Common.{◌≡◌, ◌<◌, ◌≤◌, ℕ, zero, suc, Bool, true, false, Option, Some, None, is_some, refl, sym, ap, ◌∙◌, arith}
 use Rattle.std.specs.Prelude.{nat_lt}
 use Rattle.std.proofs.lemmas.Bool.{true≢false}
 use Rattle.std.proofs.lemmas.Bool.Decides.{Decides-ltb}
@@ -62,9 +62,27 @@ module _ (tried : ℕ → Option Ground) where
   not_local_is coarser n v None e is = absurd is
   not_local_is coarser n v (Some g) e is = is ∙ sym (coarsest_fails coarser n g e)
 
-  -- the finest grain is the last one before one at which they do not hold
-  pub local_is : ((p q : ℕ) → q ≤ p → tried p ≡ None → tried q ≡ None) → (n grain : ℕ) (o : Option Ground) → suc zero ≤ grain → grain < n → tried grain ≡ None → tried (grain + 1) ≡ o → is_some o ≡ true
-      → at_finest tried n ≡ Local grain
-  local_is coarser n grain None some few holds e there = absurd (true≢false (sym there))
-  local_is coarser n grain (Some g) some few holds e there =
-      let next : suc grain ≡ grain + 1 = omega arith in finest_is coarser n grain g some few holds (ap tried next ∙ e)
+  -- the finest grain is one at which they hold, where they do not hold at the next one if that is there
+  pub finest_at : ((p q : ℕ) → q ≤ p → tried p ≡ None → tried q ≡ None) → (n grain : ℕ) → coarsest n ≤ grain → grain ≤ n → tried grain ≡ None → (grain < n → tried (suc grain) ≡ None → ⊥) → at_finest tried n ≡ Local grain
+  finest_at coarser n grain some few holds fails = by_less (nat_lt grain n) refl
+    where
+      by_next : grain < n → (o : Option Ground) → tried (suc grain) ≡ o → at_finest tried n ≡ Local grain
+      by_next less None e = absurd (fails less e)
+      by_next less (Some g) e = finest_is coarser n grain g (coarsest_some n grain less some) less holds e
+
+      by_less : (b : Bool) → nat_lt grain n ≡ b → at_finest tried n ≡ Local grain
+      by_less true e = by_next ((Decides-ltb grain n).0 e) (tried (suc grain)) refl
+      by_less false e =
+          let not_less : grain < n → ⊥ = λ l. true≢false (sym ((Decides-ltb grain n).1 l) ∙ e) in
+          let top : n ≡ grain = omega (arith, few, not_less) in
+          ap (λ k. at_finest tried k) top ∙ at_top grain holds
+
+  -- a grain at which they do not hold
+  pub fails_at : (finer : ℕ) (o : Option Ground) → tried finer ≡ o → is_some o ≡ true → tried finer ≡ None → ⊥
+  fails_at finer None e there none = true≢false (sym there)
+  fails_at finer (Some g) e there none = let bad : Some g ≡ None = sym e ∙ none in absurd cc
+
+  -- one at which they hold
+  pub holds_at : (finer : ℕ) (o : Option Ground) → tried finer ≡ o → is_some o ≡ false → tried finer ≡ None
+  holds_at finer None e there = e
+  holds_at finer (Some g) e there = absurd (true≢false there)

@@ -1,5 +1,5 @@
 //! The verdict on a thread program.
-ghost use Rattle.std.specs.Prelude.{◌≡◌, IfOk, None, Some, length};
+ghost use Rattle.std.specs.Prelude.{◌≡◌, ◌<◌, ◌≤◌, IfOk, None, Some, length};
 ghost use Rattle.ds2_deeds.specs.NamedLocations.{global_named, location_named, locations_named};
 ghost use Rattle.ds2_deeds.specs.NumberedDeeds.{numbers_of};
 ghost use Rattle.ds2_locality.specs.declared.locality.Reason.TheVariants.{TermHasStatements};
@@ -159,8 +159,17 @@ fn coarsest_grain(count: usize) -> usize
     if count == 0 { 0 } else { 1 }
 }
 
-// The finest grain at which the rules on walks hold, where they hold at the coarsest one. Where they do not hold at a grain they hold at
-// no finer one.
+// A grain that is finer than one and at most as fine as another, halfway between them.
+fn halfway(grain: usize, finest: usize) -> usize
+    requires { grain < finest }
+    ensures finer { grain < result }
+    ensures within { result ≤ finest }
+{
+    finest - (finest - grain) / 2
+}
+
+// The finest grain at which the rules on walks hold, where they hold at the coarsest one, by halves. Where they do not hold at a grain they
+// hold at no finer one.
 fn finest_grain(
     bodies: &JudgedBodies<'_>,
     cells: &[bool],
@@ -171,12 +180,14 @@ fn finest_grain(
 {
     ds2_locality::laws::coarser_holds();
     let mut grain = coarsest_grain(count);
-    'grains: while grain < count {
-        let finer = grain + 1;
+    let mut finest = count;
+    'grains: while grain < finest {
+        let finer = halfway(grain, finest);
         if failing_at_grain(bodies, cells, later, finer)?.is_some() {
-            return Ok(grain);
+            finest = finer - 1;
+        } else {
+            grain = finer;
         }
-        grain = finer;
     }
     Ok(grain)
 }
