@@ -81,6 +81,24 @@ pub(crate) fn compare(a: &LocationName<'_>, b: &LocationName<'_>) -> Ordering
     homes.then(globals)
 }
 
+// A digest, and a text behind what it is of.
+fn with_text(digest: u64, text: &str) -> u64 {
+    let mut whole = digest;
+    'bytes: for byte in text.as_bytes() {
+        whole = (whole ^ u64::from(*byte)).wrapping_mul(0x100000001b3);
+    }
+    whole
+}
+
+/// A digest of a location, alike for alike ones.
+pub(crate) fn digest(at: LocationName<'_>) -> u64 {
+    let homes = with_text(u64::from(sort_number(at.global)), home_text(at.home));
+    with_text(
+        homes.wrapping_mul(0x100000001b3),
+        name_of(at.global).as_str(),
+    )
+}
+
 impl<'p> PartialEq for LocationName<'p> {
     ghost eq = { eq_by_cmp named_cmp };
 
