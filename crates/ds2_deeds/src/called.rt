@@ -65,7 +65,7 @@ pub fn may_call(
 ) -> Result<List<usize>, OutOfMemory>
     ensures { IfOk result (λ numbers. numbers ≡ reached_by all.now rounds deeds.now) }
 {
-    let mut numbers = MarkedNumbers::new(alloc, all.len())?;
+    let mut numbers = MarkedNumbers::new(alloc, all.len());
     add_all_called(&mut numbers, deeds)?;
     let mut walked: usize = 0;
     'rounds: for _ in 0..rounds {

@@ -6,10 +6,15 @@ use ds2_base::{List, OutOfMemory};
 use std::alloc::Global;
 use std::marker::Model;
 
-/// Numbers in the order in which they were added, with a mark for each low number that tells whether it is among them. A contract sees the
-/// numbers.
+/// So many numbers are looked for one after the other; where there are more they have marks.
+const FEW: usize = 16;
+
+/// Numbers in the order in which they were added. Where they are many a mark for each number below a bound tells whether it is among them. A
+/// contract sees the numbers.
 #[derive(Drop)]
 pub(crate) struct MarkedNumbers {
+    alloc: Global,
+    bound: usize,
     numbers: List<usize>,
     marks: List<bool>,
 }
@@ -58,16 +63,28 @@ fn mark(marks: &mut List<bool>, number: usize)
     }
 }
 
+// Marks of those of numbers that are below a bound.
+fn marks_of(alloc: Global, bound: usize, numbers: &[usize]) -> Result<List<bool>, OutOfMemory>
+    ensures { IfOk result (AreMarked numbers.now) }
+{
+    let mut marks = no_marks(alloc, bound)?;
+    'numbers: for number in numbers {
+        mark(&mut marks, *number);
+    }
+    Ok(marks)
+}
+
 impl MarkedNumbers {
-    /// No number yet, with marks for those below a bound.
-    pub(crate) fn new(alloc: Global, bound: usize) -> Result<MarkedNumbers, OutOfMemory>
-        ensures { IfOk result (λ numbers. numbers ≡ []) }
+    /// No number yet, of which those below a bound will have marks.
+    pub(crate) fn new(alloc: Global, bound: usize) -> MarkedNumbers
+        ensures { result ≡ [] }
     {
-        let marks = no_marks(alloc, bound)?;
-        Ok(MarkedNumbers {
+        MarkedNumbers {
+            alloc,
+            bound,
             numbers: List::new(alloc),
-            marks,
-        })
+            marks: List::new(alloc),
+        }
     }
 
     /// How many there are.
@@ -107,6 +124,9 @@ impl MarkedNumbers {
     {
         if self.contains(number) {
             return Ok(());
+        }
+        if self.numbers.len() == FEW {
+            self.marks = marks_of(self.alloc, self.bound, self.numbers.as_slice())?;
         }
         self.numbers.push(number)?;
         mark(&mut self.marks, number);
