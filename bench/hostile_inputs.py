@@ -175,6 +175,8 @@ threaded("60 instances of a package of many variables and methods", lambda size:
     size, f"{LARGE_PACKAGE} method m(); v0 = 1; end;", lambda n: f"method m{n}(); v0 = v{n % MOST}; end;", f"endpackage; {THREAD} {OF_60} method run(); if x = 1 then q0.m(); end;{READER}", 1 / 6))
 threaded("calls of the methods of 60 instances of many variables", lambda size: filled(
     size, f"{LARGE_PACKAGE} method m(); v989 = v988; end; endpackage; {THREAD} {OF_60} method run(); if x = 1 then do; ", lambda n: f"if x = 2 then q{n % 60}.m();", THREAD_END))
+threaded("methods in a cycle, of which one calls 60 instances that mention many variables", lambda size: chain(
+    size, f"{LARGE_PACKAGE} method m(); {each_of('v', MOST, '{0}={0};')} end; endpackage; {THREAD} {OF_60} ", "m{0}();", each_of("q", 60, "{0}.m();") + " m0();", begun()))
 threaded("lines that are put, by 16 BY variables", lambda size: thread_by(size, "put x;"))
 source("64 thread programs of methods that each call the next one", lambda size: "".join(
     chain(size, f"thread t{n or ''}; dcl bigint x;\n", "m{0}();", "x = 1;", "method run(); if x = 1 then m0(); end; endthread;", 1 / 65) for n in range(64)) + READER.removeprefix(" endthread;"))

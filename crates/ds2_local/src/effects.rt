@@ -17,7 +17,7 @@ use crate::judged::JudgedBodies;
 use crate::marks::numbers_mentioned;
 use ds2_base::{List, OutOfMemory};
 use ds2_deeds::{MethodName, NumberedDeed, method_at, method_scope};
-use ds2_meaning::{ByVariable, Method};
+use ds2_meaning::{ByVariable, Method, Shared};
 use ds2_recorded_walk::{
     CallEffect, LocationSet, RecordScope, RecordedRead, RecordedWalk, walk_body,
 };
@@ -34,7 +34,7 @@ pub fn mention_effect(
 {
     let reads = numbers_mentioned(alloc, count, deeds)?;
     Ok(CallEffect {
-        reads,
+        reads: Shared::new(alloc, reads)?,
         keeps: LocationSet::all(alloc, count),
     })
 }
@@ -56,7 +56,7 @@ fn walked_effect(alloc: Global, walk: RecordedWalk) -> Result<CallEffect, OutOfM
 {
     let reads = numbers_read(alloc, walk.reads.as_slice())?;
     Ok(CallEffect {
-        reads,
+        reads: Shared::new(alloc, reads)?,
         keeps: walk.onward,
     })
 }
@@ -76,7 +76,7 @@ pub fn copy_effect(alloc: Global, effect: &CallEffect) -> Result<CallEffect, Out
     ensures { IfOk result (λ copy. copy ≡ effect.now) }
 {
     Ok(CallEffect {
-        reads: effect.reads.copy(alloc)?,
+        reads: effect.reads.share()?,
         keeps: effect.keeps.copy(alloc)?,
     })
 }

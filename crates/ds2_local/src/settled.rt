@@ -17,7 +17,7 @@ use crate::judged::JudgedBodies;
 use crate::parts::number_at;
 use ds2_base::{List, OutOfMemory};
 use ds2_deeds::{MethodName, NumberedDeed};
-use ds2_meaning::ByVariable;
+use ds2_meaning::{ByVariable, Shared};
 use ds2_recorded_walk::{CallEffect, LocationSet, is_on};
 use std::alloc::Global;
 
@@ -27,7 +27,7 @@ fn first_effect(alloc: Global, cycle: &Option<CallEffect>) -> Result<CallEffect,
 {
     match cycle {
         None => Ok(CallEffect {
-            reads: List::new(alloc),
+            reads: Shared::new(alloc, List::new(alloc))?,
             keeps: LocationSet::new(alloc),
         }),
         Some(effect) => {

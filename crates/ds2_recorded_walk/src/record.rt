@@ -9,6 +9,7 @@ ghost use Rattle.ds2_recorded_walk.specs.RecordedWalks.{nothing_recorded, with_r
 use crate::location_set::LocationSet;
 use crate::number_marks::NumberMarks;
 use ds2_base::{List, OutOfMemory, Place};
+use ds2_meaning::Shared;
 use std::alloc::Global;
 use std::marker::Model;
 use std::mem;
@@ -115,8 +116,8 @@ impl LoopWays {
 /// What a call of a method does to the walk that comes by.
 #[derive(Drop)]
 pub struct CallEffect {
-    /// The locations that it reads where it did not make them clean before, in order.
-    pub reads: List<usize>,
+    /// The locations that it reads where it did not make them clean before, in order. The methods of a cycle of calls share them.
+    pub reads: Shared<List<usize>>,
     /// The locations that it does not make clean.
     pub keeps: LocationSet,
 }
@@ -183,7 +184,7 @@ impl RecordedWalk {
     ) -> Result<(), OutOfMemory>
         ensures { OnOk result (self.new ≡ with_effect place effect.now self.old) }
     {
-        self.read_all(alloc, effect.reads.as_slice(), place)?;
+        self.read_all(alloc, effect.reads.get().as_slice(), place)?;
         self.onward = self.onward.common(alloc, &effect.keeps)?;
         Ok(())
     }
