@@ -6,7 +6,8 @@ usage: bench/hostile.py [--only WORDS] [--all] [--on] [--write FOLDER [--size N]
 Each input is made from a 64th of its whole size on, and then at twice the size, up to the whole. Its commands run one behind the other:
 user seconds and peak memory, the least of several runs where they seem to grow. A command fails where
 
-- it takes more than 2.5 times the seconds or the memory for a doubling. Below 0.1 seconds and below 32 MB nothing grows;
+- it takes more than 2.5 times the seconds or the memory for a doubling, or 5 times where the rules want a product of two of its parts, such as of calls and
+  their arguments, and a doubling doubles both. Below 0.1 seconds and below 32 MB nothing grows;
 - it has not ended after 10 seconds, wants more than 3 GB, or ends with another status than it should;
 - it is the `check` of a source of 262,144 bytes, and takes more than 4 seconds or 700 MB.
 
@@ -57,8 +58,9 @@ def put_files(given, size, folder):
 class Command:
     """A command in a folder: the least seconds and megabytes of its runs."""
 
-    def __init__(self, program, words, folder, most_seconds):
+    def __init__(self, program, words, folder, most_seconds, power):
         self.program, self.words, self.folder, self.most_seconds = program, words, folder, most_seconds
+        self.most_growth = MOST_GROWTH * 2 ** (power - 1)
         self.runs, self.spent, self.seconds, self.megabytes = 0, 0, float("inf"), float("inf")
 
     def begin(self):
@@ -87,8 +89,8 @@ class Command:
         return f"has ended with status {self.status}"
 
     def has_grown(self, less):
-        seconds = self.seconds > LEAST_SECONDS and self.seconds > MOST_GROWTH * less.seconds
-        return seconds or self.megabytes > LEAST_MEGABYTES and self.megabytes > MOST_GROWTH * less.megabytes
+        seconds = self.seconds > LEAST_SECONDS and self.seconds > self.most_growth * less.seconds
+        return seconds or self.megabytes > LEAST_MEGABYTES and self.megabytes > self.most_growth * less.megabytes
 
     def grows(self, less):
         """Whether it grows beyond one at half the size, by the least of several runs of both."""
@@ -131,7 +133,7 @@ class Input:
         before, self.folder = self.folder, tempfile.mkdtemp(dir=self.work)
         put_files(self.given, size, self.folder)
         for words, statuses in self.given.commands:
-            command = Command(self.args.program, words, self.folder, 60 if self.args.on else 10)
+            command = Command(self.args.program, words, self.folder, 60 if self.args.on else 10, self.given.power)
             command.run()
             flaw = self.flaw(command, statuses, size)
             self.tell(command, size, flaw)

@@ -1,14 +1,15 @@
 """Hostile sources, tables and objects for bench/hostile.py, each made anew for a size.
 
 A size is the bytes of a source or an object, or how many rows or items there are. An input is a name, its whole size, a function that gives its files for
-a size, and the commands that run one behind the other in a folder with these files, each with the statuses that it may end with.
+a size, the commands that run one behind the other in a folder with these files, each with the statuses that it may end with, and a power: how many
+factors a doubling of the size doubles, where the rules want a product of them.
 """
 from collections import namedtuple
 import itertools
 
 from object_cases import text, u8, u16, u32
 
-Input = namedtuple("Input", "name whole make commands")
+Input = namedtuple("Input", "name whole make commands power", defaults=(1,))
 INPUTS = []
 SOURCE_LIMIT = 262_144
 CHECK, RUN, EXEC = ("check", "job.ds2"), ("run", "job.ds2"), ("exec", "job.dso")
@@ -35,9 +36,9 @@ def job(name, whole, make):
     INPUTS.append(Input(name, whole, lambda size: {"job.ds2": make(size)}, [(RUN, (0,))]))
 
 
-def stored(name, whole, make, status=0):
+def stored(name, whole, make, status=0, power=1):
     """Adds an object."""
-    INPUTS.append(Input(f"object: {name}", whole, lambda size: {"job.dso": make(size)}, [(EXEC, (status,))]))
+    INPUTS.append(Input(f"object: {name}", whole, lambda size: {"job.dso": make(size)}, [(EXEC, (status,))], power))
 
 
 # ---- texts
@@ -548,8 +549,8 @@ stored("methods whose signatures differ in their last type", 2_097_152, lambda s
 stored("methods of one signature", 1_048_576, lambda size: methods(size // 14, lambda n: NONE))
 stored("instructions of one byte", 1_048_576, lambda size: object_of(program(code=times(size, END))))
 stored("operands, and one line of them", 1_048_576, lambda size: object_of(program(code=(size // 4 + 2, (u8(1) + u8(3) + u16(9)) * (size // 4) + u8(53) + u32(size // 4) + END))))
-stored("calls with many in_out arguments", 524_288, calls_with_in_out)
-stored("calls of a method of many locals", 131_072, calls_with_locals)
+stored("calls with many in_out arguments", 524_288, calls_with_in_out, power=2)
+stored("calls of a method of many locals", 131_072, calls_with_locals, power=2)
 stored("jumps", 1_048_576, lambda size: object_of(program(code=(size // 5 + 1, counted(size // 5, lambda n: u8(44) + u32(n + 1))[1] + END))))
 stored("slots of one name", 1_048_576, lambda size: object_of(program(slots=times(size // 7, KEPT))))
 stored("constants", 1_048_576, lambda size: object_of(program(constants=times(size // 9, BIGINT + b"\1" * 8))))
@@ -557,8 +558,8 @@ stored("constants that are long texts", 4_194_304, lambda size: object_of(progra
 stored("hash objects and iterators", 1_048_576, lambda size: object_of(
     program(slots=(1, KEPT), hashes=times(size // 21, ONE_NUMBER * 2 + u8(0)), iterators=counted(size // 21, u32))))
 stored("hash objects of one table", 1_048_576, lambda size: object_of(maker(1), program(slots=(1, KEPT), hashes=times(size // 52, LOADED))))
-stored("hash objects of one table of many rows", 131_072, lambda size: object_of(maker(size // 10), program(slots=(1, KEPT), hashes=times(size // 104, LOADED))))
-stored("calls of a hash object of many keys", 131_072, hash_calls)
+stored("hash objects of one table of many rows", 131_072, lambda size: object_of(maker(size // 10), program(slots=(1, KEPT), hashes=times(size // 104, LOADED))), power=2)
+stored("calls of a hash object of many keys", 131_072, hash_calls, power=2)
 stored("rows of many columns", 65_536, output_rows)
 stored("columns of an output", 1_048_576, lambda size: stopped((1, output("t", counted(size // 17, lambda n: text(f"c{n:08}") + u32(0))))), 6)
 stored("columns of an output whose names have one hash", 1_048_576, lambda size: stopped((1, output("t", counted(size // 40, lambda n: text(name_of_one_hash(n)) + u32(0))))), 6)
