@@ -178,6 +178,8 @@ threaded("calls of the methods of 60 instances of many variables", lambda size: 
     size, f"{LARGE_PACKAGE} method m(); v989 = v988; end; endpackage; {THREAD} {OF_60} method run(); if x = 1 then do; ", lambda n: f"if x = 2 then q{n % 60}.m();", THREAD_END))
 threaded("methods in a cycle, of which one calls 60 instances that mention many variables", lambda size: chain(
     size, f"{LARGE_PACKAGE} method m(); {each_of('v', MOST, '{0}={0};')} end; endpackage; {THREAD} {OF_60} ", "m{0}();", each_of("q", 60, "{0}.m();") + " m0();", begun()))
+threaded("methods that each call the next one, of which the last calls 60 instances that mention many variables", lambda size: chain(
+    size, f"{LARGE_PACKAGE} method m(); {each_of('v', MOST, '{0}={0};')} end; endpackage; {THREAD} {OF_60} ", "m{0}();", each_of("q", 60, "{0}.m();"), begun()))
 threaded("lines that are put, by 16 BY variables", lambda size: thread_by(size, "put x;"))
 source("64 thread programs of methods that each call the next one", lambda size: "".join(
     chain(size, f"thread t{n or ''}; dcl bigint x;\n", "m{0}();", "x = 1;", "method run(); if x = 1 then m0(); end; endthread;", 1 / 65) for n in range(64)) + READER.removeprefix(" endthread;"))
@@ -560,7 +562,7 @@ stored("hash objects and iterators", 1_048_576, lambda size: object_of(
 stored("hash objects of one table", 1_048_576, lambda size: object_of(maker(1), program(slots=(1, KEPT), hashes=times(size // 52, LOADED))))
 stored("hash objects of one table of many rows", 131_072, lambda size: object_of(maker(size // 10), program(slots=(1, KEPT), hashes=times(size // 104, LOADED))), power=2)
 stored("calls of a hash object of many keys", 131_072, hash_calls, power=2)
-stored("rows of many columns", 65_536, output_rows)
+stored("rows of many columns", 65_536, output_rows, power=2)
 stored("columns of an output", 1_048_576, lambda size: stopped((1, output("t", counted(size // 17, lambda n: text(f"c{n:08}") + u32(0))))), 6)
 stored("columns of an output whose names have one hash", 1_048_576, lambda size: stopped((1, output("t", counted(size // 40, lambda n: text(name_of_one_hash(n)) + u32(0))))), 6)
 stored("outputs whose names have one hash", 1_048_576, lambda size: stopped(counted(size // 41, lambda n: output(name_of_one_hash(n), NONE))), 6)
