@@ -4,8 +4,8 @@ use Rattle.std.specs.Prelude.{if◌then◌else◌, filter}
 use Rattle.std.specs.List.{list_any}
 use Rattle.ds2_value.specs.Order.{same_row}
 use Rattle.ds2_value.specs.declared.value.Value.{Value}
-use Rattle.ds2_table.specs.LoadLaws.{one_after_another, AreInByOrder, GroupsDivideLoads}
-use Rattle.ds2_table.specs.Loads.{KeyedLoad, has_key, each_once, group_with_key, groups}
+use Rattle.ds2_table.specs.LoadLaws.{one_after_another, GroupsDivideLoads}
+use Rattle.ds2_table.specs.Loads.{KeyedLoad, has_key, each_once, group_with_key}
 use Rattle.ds2_table.proofs.ByOrder.{rows_equiv, has_value, NoneHas, Chosen, ComeFirst, StandTogether, stand_together}
 
 or_true : (b : Bool) → b || true ≡ true

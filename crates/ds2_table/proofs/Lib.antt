@@ -1,3 +1,4 @@
+pub mod Across
 pub mod ByOrder
 pub mod Groups
 pub mod Parts

@@ -1,9 +1,8 @@
 -- Loads in two parts run as one list.
 use Rattle.std.proofs.Common.{◌≡◌, ℕ, ◌+◌, List, [], ◌∷◌, ◌++◌, refl, sym, ap, ◌∙◌, arith}
 use Rattle.ds2_value.specs.Progress.{Progress, UnitOutcome, Completed, Interrupted, Strayed}
-use Rattle.ds2_value.specs.Run.{Event, Written}
 use Rattle.ds2_table.specs.LoadLaws.{both_results, from_there, then_group, PartsRunAsOne}
-use Rattle.ds2_table.specs.OneThread.{Units, Reached, Standing, Halted, Astray, GroupResult, group_at, joined_result, then_loads, run_all}
+use Rattle.ds2_table.specs.OneThread.{Reached, Standing, Halted, GroupResult, group_at, joined_result, then_loads, run_all}
 
 append_assoc : {A : Type 0} (xs ys zs : List A) → xs ++ (ys ++ zs) ≡ (xs ++ ys) ++ zs
 append_assoc [] ys zs = refl

@@ -1,7 +1,6 @@
 -- Rows in BY order are sorted, and those of one key stand as before.
-use Rattle.std.proofs.Common.{◌≡◌, ℕ, Bool, true, false, not, ◌&&◌, cond, List, [], ◌∷◌, length, refl, sym, ap, ◌∙◌, subst, true≢false}
-use Rattle.std.specs.Prelude.{IsTrue, if◌then◌else◌, filter}
-use Rattle.std.specs.Cmp.{IsTotalOrder}
+use Rattle.std.proofs.Common.{◌≡◌, Bool, true, false, not, ◌&&◌, cond, List, [], ◌∷◌, refl, sym, ap, ◌∙◌, true≢false}
+use Rattle.std.specs.Prelude.{IsTrue, if◌then◌else◌}
 use Rattle.std.specs.List.{list_all}
 use Rattle.std.specs.Ordering.{is_gt, is_lt, ordering_then, ordering_reverse}
 use Rattle.std.specs.declared.cmp.Ordering.{Ordering}
@@ -10,7 +9,7 @@ use Rattle.ds2_value.specs.Order.{value_eq, same_row}
 use Rattle.ds2_value.specs.declared.value.Value.{Value}
 use Rattle.ds2_table.specs.LoadLaws.{HaveKeys, AreSorted, rows_of_key, RowsStandInByOrder}
 use Rattle.ds2_table.specs.Loads.{InputRow, value_order, keys_order, placed, in_by_order}
-use Rattle.ds2_table.proofs.ByOrder.{order_total, tied_order, Fits, as_long, then-Less, then-Equal, Stands, before, level, after, stands, greater_not, greater_not_less, not_less, level_part, rows_equiv}
+use Rattle.ds2_table.proofs.ByOrder.{order_total, tied_order, Fits, as_long, then-Equal, Stands, before, level, after, stands, greater_not, not_less, level_part, rows_equiv}
 
 -- a key does not stand after another one
 abbrev pub IsNotAfter : List Bool → List Value → List Value → Type 0

@@ -1,3 +1,4 @@
+pub mod Across
 pub mod Loads
 pub mod OneThread
 pub mod Table

@@ -6,7 +6,6 @@ use Rattle.std.specs.Ordering.{is_lt, ordering_then, ordering_reverse}
 use Rattle.std.specs.declared.cmp.Ordering.{Ordering}
 use Rattle.std.specs.declared.cmp.Ordering.TheVariants.{Equal}
 use Rattle.ds2_value.specs.Order.{key_order, value_eq, same_row}
-use Rattle.ds2_value.specs.Row.{Row}
 use Rattle.ds2_value.specs.declared.value.Value.{Value}
 
 -- a row of an input: the number of its table in the statement, its own number there, and the values of the BY variables

@@ -8,6 +8,7 @@
 //! ```
 #![tactic(auto)]
 
+mod columns;
 pub mod laws;
 mod table;
 

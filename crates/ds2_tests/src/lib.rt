@@ -8,6 +8,8 @@
 #[cfg(test)]
 mod base;
 #[cfg(test)]
+mod columns;
+#[cfg(test)]
 mod csv_files;
 #[cfg(test)]
 mod dealer;
