@@ -1,29 +1,34 @@
 -- The places where the groups of `merge` begin.
-use Rattle.std.proofs.Common.{◌≡◌, ℕ, zero, suc, ◌+◌, ◌<◌, ◌≤◌, Bool, true, false, not, List, [], ◌∷◌, ◌++◌, map, length, drop, refl, sym, ap, ◌∙◌, subst, arith}
+use Rattle.std.proofs.Common.{◌≡◌, ℕ, zero, suc, ◌+◌, ◌<◌, ◌≤◌, Bool, true, false, not, ◌&&◌, List, [], ◌∷◌, ◌++◌, map, length, drop, refl, sym, ap, ◌∙◌, subst, arith}
 use Rattle.std.specs.Prelude.{slice_get, get_or, take, Option, Some, None, if◌then◌else◌}
 use Rattle.std.specs.List.{range_with_len}
-use Rattle.std.specs.Option.{option_map}
-use Rattle.std.proofs.lemmas.List.{append-nil, length-append, length-map, length_push, map-append}
+use Rattle.std.specs.Option.{option_map, option_map_or}
+use Rattle.std.proofs.lemmas.List.{append-nil, length-map, length_push, map-append}
 use Rattle.std.proofs.lemmas.Option.{slice_get-map, slice_get_within, get_or_from_slice_get}
+use Rattle.ds2_value.specs.Order.{value_eq, same_row}
 use Rattle.ds2_value.specs.declared.value.Value.{Value}
-use Rattle.ds2_table.specs.LoadLaws.{AreInByOrder, rows_of_key}
+use Rattle.ds2_table.specs.LoadLaws.{AreInByOrder}
 use Rattle.ds2_table.specs.Loads.{InputRow, KeyedLoad, input_rows, matches, most_rows, merge_load, loads_of_key, merge_loads, groups}
 use Rattle.ds2_table.proofs.ByOrder.{rows_equiv}
 use Rattle.ds2_table.proofs.LoadOrder.{loads_stand_in_by_order}
+use Rattle.ds2_table.proofs.Sorted.{first_part, second_part}
 use Rattle.ds2_reading.specs.CursorState.{start_at}
-use Rattle.ds2_reading.specs.GroupStarts.{opens_group, group_openings, keys_of_loads}
+use Rattle.ds2_reading.specs.GroupStarts.{opens_group, opens_group_at, group_openings, keys_of_loads}
 use Rattle.ds2_reading.specs.KeyOrder.{InputKeys}
 use Rattle.ds2_reading.specs.Places.{item_before}
 use Rattle.ds2_reading.proofs.Flagged.{flagged_length, flagged_keys}
 use Rattle.ds2_reading.proofs.Starts.{openings_are, as_many, beginnings}
-use Rattle.ds2_merge.specs.KeyPlaces.{opening_key_place, key_place_behind, loads_of_rows, loads_of_all, key_in_input, left_behind, HasTables, IsBetweenKeys, IsKeyEntered, key_openings_left, HasKeyPlaces, StandAtKeys}
+use Rattle.ds2_merge.specs.KeyPlaces.{opening_key_place, key_place_behind, loads_of_rows, loads_of_all, key_at, left_behind, HasTables, IsBetweenKeys, IsKeyEntered, key_openings_left, ordered_rows, HaveLikeKeys, HasKeyPlaces, StandAtKeys}
 use Rattle.ds2_merge.specs.declared.key_place.KeyPlace.{KeyPlace}
 use Rattle.ds2_merge.specs.declared.key_place.KeyRows.{KeyRows}
-use Rattle.ds2_merge.proofs.KeyLoads.{most_within}
-use Rattle.ds2_merge.proofs.KeyStates.{loads_split, behind_key, at_start, none_left}
+use Rattle.ds2_merge.proofs.KeyStates.{loads_split, last_load, behind_key, at_start, none_left}
+use Rattle.ds2_merge.proofs.KeyWalk.{row_there, key_is}
 
 abbrev load_key : KeyedLoad → List Value
 load_key l = l.key
+
+abbrev row_key : InputRow → List Value
+row_key row = row.key
 
 abbrev place_loads : KeyPlace → ℕ
 place_loads p = p.loads
@@ -60,6 +65,15 @@ key_openings p k previous key found (x ∷ xs) c rest e l =
     ap (λ r. if opens_group (suc p) previous key then k ∷ r else r)
     (further_openings p (k + 1) key found xs rest ∙ ap (λ j. group_openings (suc p) j (Some key) rest) z)
 
+-- keys that are equal begin alike
+taken_like : (p : ℕ) (a b : List Value) → same_row a b ≡ true → same_row (take p a) (take p b) ≡ true
+taken_like zero a b e = refl
+taken_like (suc p) [] [] e = refl
+taken_like (suc p) [] (b ∷ bs) e = cc
+taken_like (suc p) (a ∷ cs) [] e = cc
+taken_like (suc p) (a ∷ cs) (b ∷ bs) e =
+    (λ i. first_part (value_eq a b) (same_row cs bs) e i && same_row (take p cs) (take p bs)) ∙ taken_like p cs bs (second_part (value_eq a b) (same_row cs bs) e)
+
 -- before the first load
 pub begin_places : (input : InputKeys) (grain : ℕ) → HasTables input → HasKeyPlaces input grain opening_key_place []
 begin_places input grain h = record { here = at_start input h; each = none_each; openings = refl }
@@ -73,7 +87,7 @@ module _ (input : InputKeys) (p : ℕ) (tables : HasTables input) (place : KeyPl
   all = loads_of_all input
 
   abbrev value : List Value
-  value = key_in_input input key.first
+  value = key_at input place.start
 
   abbrev found : List (List ℕ)
   found = matches (length input.tables) value (input_rows 0 input.tables)
@@ -82,7 +96,7 @@ module _ (input : InputKeys) (p : ℕ) (tables : HasTables input) (place : KeyPl
   behind = key_place_behind place key
 
   abbrev opens : Bool
-  opens = opens_group (suc p) (option_map (key_in_input input) place.previous) value
+  opens = opens_group (suc p) (option_map load_key (item_before all place.loads)) value
 
   range_length : (a n : ℕ) → length (range_with_len a n) ≡ n
   range_length a zero = refl
@@ -95,15 +109,18 @@ module _ (input : InputKeys) (p : ℕ) (tables : HasTables input) (place : KeyPl
       ∙ map-append load_key (loads_of_key (length input.tables) (input_rows 0 input.tables) value) (loads_of_rows input (left_behind input key.end))
       ∙ ap (λ r. map load_key (loads_of_key (length input.tables) (input_rows 0 input.tables) value) ++ map load_key r) (sym b.loads)
 
+  before_behind : option_map load_key (item_before all behind.loads) ≡ Some value
+  before_behind = ap (option_map load_key) (last_load input tables place key e)
+
   before_it : key_openings_left (suc p) all place.loads
       ≡ (if opens then place.loads ∷ key_openings_left (suc p) all behind.loads else key_openings_left (suc p) all behind.loads)
   before_it =
       let b = behind_key input tables place key e in
-      (λ i. group_openings (suc p) place.loads (sym e.here.previous i) (keys_left i))
-      ∙ key_openings p place.loads (option_map (key_in_input input) place.previous) value found (range_with_len 0 (most_rows found)) key.count (map load_key (drop behind.loads all))
+      ap (group_openings (suc p) place.loads (option_map load_key (item_before all place.loads))) keys_left
+      ∙ key_openings p place.loads (option_map load_key (item_before all place.loads)) value found (range_with_len 0 (most_rows found)) key.count (map load_key (drop behind.loads all))
       (range_length 0 (most_rows found) ∙ sym e.count) e.some
       ∙ ap (λ before. if opens then place.loads ∷ group_openings (suc p) behind.loads before (map load_key (drop behind.loads all))
-      else group_openings (suc p) behind.loads before (map load_key (drop behind.loads all))) b.previous
+      else group_openings (suc p) behind.loads before (map load_key (drop behind.loads all))) (sym before_behind)
 
   joined : (xs : List ℕ) (k : ℕ) (rest : List ℕ) → (xs ++ k ∷ []) ++ rest ≡ xs ++ k ∷ rest
   joined [] k rest = refl
@@ -131,34 +148,38 @@ module _ (input : InputKeys) (p : ℕ) (tables : HasTables input) (place : KeyPl
         ∙ h.openings;
   }
 
+-- whether a key opens a group, by the row before it
+pub opens_is : (input : InputKeys) (p : ℕ) (place : KeyPlace) (key : KeyRows) → IsKeyEntered input place key
+    → opens_group_at (suc p) (ordered_rows input) place.start ≡ opens_group (suc p) (option_map load_key (item_before (loads_of_all input) place.loads)) (key_at input place.start)
+opens_is input p place key e =
+    let found = row_there (ordered_rows input) place.start (omega (arith, e.end.low, e.end.high)) in
+    ap (λ row. option_map_or (λ (r : InputRow). opens_group (suc p) (option_map row_key (item_before (ordered_rows input) place.start)) r.key) row false) found.1
+    ∙ ap (opens_group (suc p) (option_map row_key (item_before (ordered_rows input) place.start))) (sym (key_is input place.start found.0 found.1))
+    ∙ like (item_before (loads_of_all input) place.loads) (item_before (ordered_rows input) place.start) (key_at input place.start) e.here.previous
+  where
+    like : (load : Option KeyedLoad) (row : Option InputRow) (key : List Value) → HaveLikeKeys load row
+        → opens_group (suc p) (option_map row_key row) key ≡ opens_group (suc p) (option_map load_key load) key
+    like None None key h = refl
+    like None (Some row) key h = absurd h
+    like (Some load) None key h = absurd h
+    like (Some load) (Some row) key h =
+        let q = rows_equiv in ap not (q.congr (take (suc p) row.key) (take (suc p) load.key) (take (suc p) key) (taken_like (suc p) row.key load.key h))
+
 -- at a grain above 0
 pub opened_above : (input : InputKeys) (grain : ℕ) (tables : HasTables input) (place : KeyPlace) (starts : List KeyPlace) (key : KeyRows) → 1 ≤ grain
-    → HasKeyPlaces input grain place starts → IsKeyEntered input place key → opens_group grain (option_map (key_in_input input) place.previous) (key_in_input input key.first) ≡ true
+    → HasKeyPlaces input grain place starts → IsKeyEntered input place key → opens_group_at grain (ordered_rows input) place.start ≡ true
     → HasKeyPlaces input grain (key_place_behind place key) (starts ++ place ∷ [])
 opened_above input zero tables place starts key l h e t = absurd (omega (arith, l))
-opened_above input (suc p) tables place starts key l h e t = opened input p tables place starts key h e t
+opened_above input (suc p) tables place starts key l h e t = opened input p tables place starts key h e (sym (opens_is input p place key e) ∙ t)
 
 pub passed_above : (input : InputKeys) (grain : ℕ) (tables : HasTables input) (place : KeyPlace) (starts : List KeyPlace) (key : KeyRows) → 1 ≤ grain
-    → HasKeyPlaces input grain place starts → IsKeyEntered input place key → opens_group grain (option_map (key_in_input input) place.previous) (key_in_input input key.first) ≡ false
+    → HasKeyPlaces input grain place starts → IsKeyEntered input place key → opens_group_at grain (ordered_rows input) place.start ≡ false
     → HasKeyPlaces input grain (key_place_behind place key) starts
 passed_above input zero tables place starts key l h e t = absurd (omega (arith, l))
-passed_above input (suc p) tables place starts key l h e t = passed input p tables place starts key h e t
-
--- fewer rows are left behind a key
-pub fewer_rows : (input : InputKeys) (tables : HasTables input) (place : KeyPlace) (key : KeyRows) → IsKeyEntered input place key
-    → length (left_behind input key.end) < length (left_behind input place.given)
-fewer_rows input tables place key e =
-    omega (
-      arith,
-      ap (λ (r : List InputRow). length r) e.rows,
-      length-append (rows_of_key (key_in_input input key.first) (input_rows 0 input.tables)) (left_behind input key.end),
-      most_within (length input.tables) (key_in_input input key.first) (input_rows 0 input.tables),
-      e.count,
-      e.some,
-    )
+passed_above input (suc p) tables place starts key l h e t = passed input p tables place starts key h e (sym (opens_is input p place key e) ∙ t)
 
 module _ (input : InputKeys) (grain : ℕ) (tables : HasTables input) (place : KeyPlace) (starts : List KeyPlace) (h : HasKeyPlaces input grain place starts)
-    (none : left_behind input place.given ≡ []) where
+    (none : left_behind input place.start ≡ []) where
   abbrev loads : List KeyedLoad
   loads = merge_loads input.descending input.tables
 

@@ -1,21 +1,16 @@
 -- The loads of a key: how many there are, which rows each of them reads, and where they stand among the loads of all keys.
 use Rattle.std.proofs.Common.{◌≡◌, ℕ, zero, suc, ◌+◌, ◌-◌, ◌<◌, ◌≤◌, max, Bool, true, false, List, [], ◌∷◌, ◌++◌, length, drop, refl, sym, ap, ◌∙◌, arith, ◌⊎◌, inl, inr}
-use Rattle.std.specs.Prelude.{slice_get, get_or, nat_lt, is_some, Some, None}
-use Rattle.std.specs.Option.{option_map}
+use Rattle.std.specs.Prelude.{slice_get, get_or, nat_lt, is_some, Some}
 use Rattle.std.proofs.lemmas.Bool.Decides.{Decides-ltb}
-use Rattle.std.proofs.lemmas.List.{length-append, length-map, length-drop}
-use Rattle.std.proofs.lemmas.List.Elements.{filter-append}
+use Rattle.std.proofs.lemmas.List.{length-map}
 use Rattle.std.proofs.lemmas.List.FromFn.{length-map-range_with_len, get_or-map-range_with_len, map-range_with_len_more}
 use Rattle.std.proofs.lemmas.List.Sums.{fold_push}
-use Rattle.std.proofs.lemmas.Option.{slice_get-get_or, slice_get-map, slice_get_past}
+use Rattle.std.proofs.lemmas.Option.{slice_get-get_or}
 use Rattle.ds2_value.specs.declared.value.Value.{Value}
-use Rattle.ds2_table.specs.LoadLaws.{HaveTableKeys, rows_of_key}
-use Rattle.ds2_table.specs.Loads.{InputRow, numbered_rows, input_rows, rows_with_key, matches, most_rows, merge_load, loads_of_key}
-use Rattle.ds2_reading.specs.RowsLeft.{ordered_rows, rows_left}
-use Rattle.ds2_reading.proofs.RowCounts.{numbered_length}
-use Rattle.ds2_reading.proofs.RowPlaces.{order_length}
-use Rattle.ds2_merge.specs.KeyPlaces.{most_between, AreThere}
-use Rattle.ds2_merge.proofs.TableRows.{of_table, is_of, left_of_table, numbers_of_key, fewer_kept}
+use Rattle.ds2_table.specs.LoadLaws.{rows_of_key}
+use Rattle.ds2_table.specs.Loads.{InputRow, rows_with_key, matches, most_rows, merge_load, loads_of_key}
+use Rattle.ds2_merge.specs.KeyPlaces.{most_between}
+use Rattle.ds2_merge.proofs.TableRows.{of_table, is_of, numbers_of_key, fewer_kept}
 
 -- ---- parts of lists
 
@@ -92,62 +87,6 @@ most_at_least (suc n) t key rows l = by (λ k. most_at_least n t key rows k) (sp
     by : (t < n → length (rows_with_key t key rows) ≤ most_rows (matches n key rows)) → (t < n) ⊎ (t ≡ n) → length (rows_with_key t key rows) ≤ most_rows (matches (suc n) key rows)
     by earlier (inl k) = omega (arith, most_more n key rows, earlier k)
     by earlier (inr e) = omega (arith, most_more n key rows, ap (λ m. length (rows_with_key m key rows)) e)
-
--- ---- the rows of a table that have a key
-
-module _ (ds : List Bool) (tables : List (List (List Value))) (given end : List ℕ) (key : List Value) (h : HaveTableKeys ds tables)
-    (counts : length tables ≤ length given) (end_counts : length tables ≤ length end) (there : AreThere tables given) (end_there : AreThere tables end)
-    (e : rows_left ds tables given ≡ rows_of_key key (input_rows 0 tables) ++ rows_left ds tables end) (t : ℕ) (l : t < length tables) where
-  abbrev rows : List InputRow
-  rows = input_rows 0 tables
-
-  abbrev own : List InputRow
-  own = ordered_rows ds t (get_or tables t [])
-
-  abbrev found : List InputRow
-  found = of_table t (rows_of_key key rows)
-
-  own_length : length own ≡ length (get_or tables t [])
-  own_length = order_length ds (numbered_rows t 0 (get_or tables t [])) ∙ numbered_length t 0 (get_or tables t [])
-
-  -- those of the key come before those that are left behind it
-  parted : drop (get_or given t 0) own ≡ found ++ drop (get_or end t 0) own
-  parted =
-      sym (left_of_table ds tables given t h l counts)
-      ∙ ap (of_table t) e
-      ∙ filter-append (is_of t) (rows_of_key key rows) (rows_left ds tables end)
-      ∙ ap (λ r. found ++ r) (left_of_table ds tables end t h l end_counts)
-
-  found_length : length found ≡ get_or end t 0 - get_or given t 0
-  found_length =
-      omega (
-        arith,
-        own_length,
-        there t,
-        end_there t,
-        length-drop (get_or given t 0) own,
-        length-drop (get_or end t 0) own,
-        ap (λ (xs : List InputRow). length xs) parted,
-        length-append found (drop (get_or end t 0) own),
-      )
-
-  -- there are as many as between the two places
-  pub rows_between : length (rows_with_key t key rows) ≡ get_or end t 0 - get_or given t 0
-  rows_between = ap (λ (xs : List ℕ). length xs) (numbers_of_key t key rows) ∙ length-map found (λ (row : InputRow). row.number) ∙ found_length
-
-  -- each of them is the row at its place of the table's BY order
-  pub number_between : (i : ℕ) → i < get_or end t 0 - get_or given t 0
-      → slice_get (rows_with_key t key rows) i ≡ option_map (λ (row : InputRow). row.number) (slice_get own (get_or given t 0 + i))
-  number_between i m =
-      ap (λ (xs : List ℕ). slice_get xs i) (numbers_of_key t key rows)
-      ∙ slice_get-map (λ (row : InputRow). row.number) found i
-      ∙ ap (option_map (λ (row : InputRow). row.number))
-      (sym (get_in_first found (drop (get_or end t 0) own) i (omega (arith, found_length, m)))
-      ∙ ap (λ (xs : List InputRow). slice_get xs i) (sym parted)
-      ∙ get_after own (get_or given t 0) i)
-
-  pub none_between : (i : ℕ) → get_or end t 0 - get_or given t 0 ≤ i → slice_get (rows_with_key t key rows) i ≡ None
-  none_between i m = slice_get_past (rows_with_key t key rows) i (omega (arith, rows_between, m))
 
 -- the most rows of a key are the most between two places
 pub most_is : (given end : List ℕ) (key : List Value) (rows : List InputRow) (n m : ℕ) → m ≤ n

@@ -1,6 +1,7 @@
 -- Rows in BY order by their keys: the rows of the first one's key come first, and each key counts once.
 use Rattle.std.proofs.Common.{◌≡◌, Bool, true, false, not, ◌||◌, ◌&&◌, cond, List, [], ◌∷◌, ◌++◌, refl, sym, ap, ◌∙◌, subst}
 use Rattle.std.specs.Prelude.{if◌then◌else◌}
+use Rattle.std.specs.Cmp.{alike_right}
 use Rattle.std.specs.List.{list_all}
 use Rattle.std.specs.Ordering.{is_lt, is_gt, ordering_reverse}
 use Rattle.std.specs.declared.cmp.Ordering.{Ordering}
@@ -12,8 +13,8 @@ use Rattle.ds2_table.specs.Loads.{InputRow, keys_order, has_key, each_once, keys
 use Rattle.ds2_table.proofs.ByOrder.{Fits, rows_equiv}
 use Rattle.ds2_table.proofs.Sorted.{AllFit, keys_antisymm, not_before_row, first_part, second_part}
 use Rattle.ds2_reading.specs.KeyOrder.{parts_order}
-use Rattle.ds2_reading.proofs.FirstLeft.{before_chain, key_joined}
-use Rattle.ds2_reading.proofs.Parts.{parts_agree}
+use Rattle.ds2_reading.proofs.AllRows.{key_joined}
+use Rattle.ds2_reading.proofs.Parts.{parts_total, parts_agree}
 use Rattle.ds2_reading.proofs.SortedNumbers.{same_level}
 use Rattle.ds2_reading.proofs.Unique.{equal_rows}
 use Rattle.ds2_merge.specs.KeyPlaces.{HaveNewKeys}
@@ -149,6 +150,20 @@ not_lt_turned : (r : Ordering) → is_lt r ≡ false → not (is_gt (ordering_re
 not_lt_turned Less h = cc
 not_lt_turned Equal h = refl
 not_lt_turned Greater h = refl
+
+is_Less : (r : Ordering) → is_lt r ≡ true → r ≡ Less
+is_Less Less h = refl
+is_Less Equal h = cc
+is_Less Greater h = cc
+
+-- what stands before a row stands before what that one does not stand behind
+before_chain : (ds : List Bool) (a b c : List Value) → is_lt (parts_order ds a b) ≡ true → is_gt (parts_order ds b c) ≡ false → is_lt (parts_order ds a c) ≡ true
+before_chain ds a b c h k = by (parts_order ds b c) refl k
+  where
+    by : (r : Ordering) → parts_order ds b c ≡ r → is_gt r ≡ false → is_lt (parts_order ds a c) ≡ true
+    by Less e q = let t = parts_total ds in ap is_lt (t.trans a b c (is_Less (parts_order ds a b) h) e)
+    by Equal e q = ap is_lt (sym (alike_right (parts_total ds) b c a e)) ∙ h
+    by Greater e q = cc
 
 level_less : is_lt Equal ≡ true → ⊥
 level_less h = cc

@@ -1,140 +1,141 @@
 -- Where a cursor of `merge` stands, from one key to the next.
-use Rattle.std.proofs.Common.{◌≡◌, ℕ, zero, suc, ◌+◌, ◌-◌, ◌^◌, ◌<◌, ◌≤◌, Bool, true, false, nat_eq, cond, List, [], ◌∷◌, ◌++◌, length, drop, refl, sym, ap, ◌∙◌, subst, true≢false, arith, append_assoc}
-use Rattle.std.specs.Prelude.{slice_get, get_or, replicate, Option, Some, None}
+use Rattle.std.proofs.Common.{◌≡◌, ℕ, zero, suc, ◌+◌, ◌-◌, ◌^◌, ◌<◌, ◌≤◌, true, cond, List, [], ◌∷◌, ◌++◌, length, take, drop, refl, sym, ap, ◌∙◌, subst, arith}
+use Rattle.std.specs.Prelude.{slice_get, get_or, Option, Some, None}
 use Rattle.std.specs.Option.{option_map}
-use Rattle.std.proofs.lemmas.Bool.Decides.{Decides-eqb}
-use Rattle.std.proofs.lemmas.List.{length-append, length-drop, length-map, get_or-set_same, get_or-set_other}
+use Rattle.std.proofs.lemmas.List.{length-append, length-drop, length-map, length-take, append_assoc, append_cancel_right, take-append-drop, drop-drop}
+use Rattle.ds2_value.specs.Order.{same_row}
 use Rattle.ds2_value.specs.declared.value.Value.{Value}
-use Rattle.ds2_table.specs.LoadLaws.{HaveTableKeys, AreSorted, rows_of_key}
-use Rattle.ds2_table.specs.Loads.{InputRow, KeyedLoad, input_rows, rows_with_key, matches, most_rows, merge_load, loads_of_key, loads_of_keys, each_once, keys_of_rows, numbered_rows}
-use Rattle.ds2_table.proofs.Sorted.{AllFit, order_fits, sorted}
-use Rattle.ds2_reading.specs.KeyOrder.{InputKeys, row_in}
+use Rattle.ds2_table.specs.LoadLaws.{rows_of_key}
+use Rattle.ds2_table.specs.Loads.{InputRow, KeyedLoad, input_rows, rows_with_key, matches, most_rows, merge_load, loads_of_key, loads_of_keys, each_once, keys_of_rows}
+use Rattle.ds2_reading.specs.KeyOrder.{InputKeys}
 use Rattle.ds2_reading.specs.Places.{item_before}
-use Rattle.ds2_reading.specs.RowsLeft.{rows_not_given, ordered_rows, given_one_more, IsNextLeft, IsFirstLeft}
-use Rattle.ds2_reading.specs.declared.table_row.TableRow.{TableRow}
-use Rattle.ds2_reading.proofs.FirstLeft.{not_given_fit, stable_of, key_joined}
-use Rattle.ds2_reading.proofs.RowPlaces.{input_fit, start_is, order_length}
-use Rattle.ds2_reading.proofs.RowCounts.{numbered_length}
-use Rattle.ds2_merge.specs.KeyPlaces.{opening_key_place, key_place_behind, most_between, AreThere, HaveNewKeys, loads_of_rows, loads_of_all, key_in_input, left_behind, HasTables, IsBetweenKeys, IsKeyEnd, IsKeyEntered}
+use Rattle.ds2_reading.proofs.AllRows.{stable_of, key_joined, input_fit}
+use Rattle.ds2_merge.specs.KeyPlaces.{opening_key_place, key_place_behind, most_between, HaveNewKeys, ordered_rows, loads_of_rows, loads_of_all, left_behind, rows_between, key_at, HasTables, HaveLikeKeys, IsBetweenKeys, IsKeyEnd, IsKeyRun, IsTableOfKey, HaveTablePlaces, IsKeyEntered}
 use Rattle.ds2_merge.specs.declared.key_place.KeyPlace.{KeyPlace}
 use Rattle.ds2_merge.specs.declared.key_place.KeyRows.{KeyRows}
-use Rattle.ds2_merge.proofs.TableRows.{of_table, eq_self, left_of_table, numbers_of_key}
+use Rattle.ds2_merge.proofs.TableRows.{AreBelow, of_table, eq_self, numbers_of_key, inputs_below, kept_below}
 use Rattle.ds2_merge.proofs.KeySplits.{own_key, new_left, all_new, once_split}
-use Rattle.ds2_merge.proofs.KeyLoads.{get_after, get_in_first, drop_first, drop_twice, most_within, most_at_least, rows_between, most_is, key_load_count, key_load_at}
+use Rattle.ds2_merge.proofs.KeyLoads.{get_after, get_in_first, drop_first, drop_twice, most_within, most_at_least, most_is, key_load_count, key_load_at}
+use Rattle.ds2_merge.proofs.KeyWalk.{row_there, key_is}
 
--- ---- the rows that are left
+-- ---- parts of the rows
 
-pub left_fit : (input : InputKeys) (given : List ℕ) → HaveTableKeys input.descending input.tables → AllFit input.descending (left_behind input given)
-left_fit input given h = order_fits input.descending (rows_not_given input.descending 0 input.tables given) (not_given_fit input.descending 0 input.tables given h)
+-- the rows from one place up to another, and those behind
+pub parted : (input : InputKeys) (a b : ℕ) → a ≤ b → left_behind input a ≡ rows_between input a b ++ left_behind input b
+parted input a b l =
+    let e : a + (b - a) ≡ b = omega (arith, l) in
+    sym (take-append-drop (b - a) (left_behind input a)) ∙ ap (λ r. rows_between input a b ++ r) (drop-drop (b - a) a (ordered_rows input) ∙ ap (λ n. drop n (ordered_rows input)) e)
 
-pub left_sorted : (input : InputKeys) (given : List ℕ) → HaveTableKeys input.descending input.tables → AreSorted input.descending (left_behind input given)
-left_sorted input given h = sorted input.descending (rows_not_given input.descending 0 input.tables given) (not_given_fit input.descending 0 input.tables given h)
-
--- ---- one row more
-
-fewer_there : (ds : List Bool) (tables : List (List (List Value))) (t n : ℕ) (x : InputRow) (xs : List InputRow)
-    → drop n (ordered_rows ds t (get_or tables t [])) ≡ x ∷ xs → n + 1 ≤ length (get_or tables t [])
-fewer_there ds tables t n x xs e =
-    omega (
-      arith,
-      ap (λ (r : List InputRow). length r) e,
-      length-drop n (ordered_rows ds t (get_or tables t [])),
-      order_length ds (numbered_rows t 0 (get_or tables t [])),
-      numbered_length t 0 (get_or tables t []),
-    )
-
--- the next row of a table is there
-pub one_more_there : (input : InputKeys) (given : List ℕ) (row : TableRow) → HaveTableKeys input.descending input.tables → length input.tables ≤ length given
-    → AreThere input.tables given → IsNextLeft input.descending input.tables given row → AreThere input.tables (given_one_more given row.table)
-one_more_there input given row h counts there next t = by (nat_eq t row.table) refl
-  where
-    first : of_table row.table (left_behind input given) ≡ row_in input.tables row ∷ of_table row.table (left_behind input (given_one_more given row.table))
-    first =
-        ap (of_table row.table) next.first
-        ∙ ap (λ b. cond b (row_in input.tables row ∷ of_table row.table (left_behind input (given_one_more given row.table))) (of_table row.table (left_behind input (given_one_more given row.table))))
-        (eq_self row.table)
-
-    room : get_or given row.table 0 + 1 ≤ length (get_or input.tables row.table [])
-    room =
-        fewer_there input.descending input.tables row.table (get_or given row.table 0) (row_in input.tables row) (of_table row.table (left_behind input (given_one_more given row.table)))
-        (sym (left_of_table input.descending input.tables given row.table h next.within counts) ∙ first)
-
-    by : (b : Bool) → nat_eq t row.table ≡ b → get_or (given_one_more given row.table) t 0 ≤ length (get_or input.tables t [])
-    by true e =
-        let d = Decides-eqb t row.table in
-        let same = d.0 e in
-        let l : row.table < length given = omega (arith, next.within, counts) in
-        let P : ℕ → Type 0 = λ u. get_or (given_one_more given row.table) u 0 ≤ length (get_or input.tables u []) in
-        subst P (sym same) (omega (arith, room, get_or-set_same given row.table (get_or given row.table 0 + 1) 0 l))
-    by false e =
-        let d = Decides-eqb t row.table in
-        let apart : t ≡ row.table → ⊥ = λ k. true≢false (sym (d.1 k) ∙ e) in
-        omega (arith, there t, get_or-set_other given row.table t (get_or given row.table 0 + 1) 0 apart)
+pub between_length : (input : InputKeys) (a b : ℕ) → b ≤ length (ordered_rows input) → length (rows_between input a b) ≡ b - a
+between_length input a b l = omega (arith, l, length-take (b - a) (left_behind input a), length-drop a (ordered_rows input))
 
 -- ---- a key that has rows
 
--- the first of the rows that are left, and with it its key, has a load
-module _ (input : InputKeys) (tables : HasTables input) (place : KeyPlace) (here : IsBetweenKeys input place) (row : TableRow) (next : IsNextLeft input.descending input.tables place.given row) where
+-- the row at a place between keys, and with it its key, has a load
+module _ (input : InputKeys) (tables : HasTables input) (place : KeyPlace) (here : IsBetweenKeys input place) (row : InputRow)
+    (there : slice_get (ordered_rows input) place.start ≡ Some row) (front : left_behind input place.start ≡ row ∷ left_behind input (place.start + 1)) where
   abbrev rows : List InputRow
   rows = input_rows 0 input.tables
 
-  abbrev key : List Value
-  key = key_in_input input row
+  abbrev before : List InputRow
+  before = take place.start (ordered_rows input)
 
   abbrev tail : List InputRow
-  tail = left_behind input (given_one_more place.given row.table)
+  tail = left_behind input (place.start + 1)
 
-  new_first : HaveNewKeys here.before (row_in input.tables row ∷ tail)
-  new_first = let P : List InputRow → Type 0 = HaveNewKeys here.before in subst P next.first here.new_keys
+  new_first : HaveNewKeys before (row ∷ tail)
+  new_first = let P : List InputRow → Type 0 = HaveNewKeys before in subst P front here.new_keys
 
   -- all rows of the key are left
-  pub all_left : rows_of_key key rows ≡ rows_of_key key (left_behind input place.given)
+  all_left : rows_of_key row.key rows ≡ rows_of_key row.key (left_behind input place.start)
   all_left =
-      sym (stable_of input.descending key rows (input_fit input.descending 0 input.tables tables.keys))
-      ∙ ap (rows_of_key key) here.rows
-      ∙ key_joined key here.before (left_behind input place.given)
-      ∙ ap (λ r. r ++ rows_of_key key (left_behind input place.given)) new_first.0
+      sym (stable_of input.descending row.key rows (input_fit input.descending 0 input.tables tables.keys))
+      ∙ ap (rows_of_key row.key) (sym (take-append-drop place.start (ordered_rows input)))
+      ∙ key_joined row.key before (left_behind input place.start)
+      ∙ ap (λ r. r ++ rows_of_key row.key (left_behind input place.start)) new_first.0
 
-  first_of_key : rows_of_key key rows ≡ row_in input.tables row ∷ rows_of_key key tail
-  first_of_key = all_left ∙ ap (rows_of_key key) next.first ∙ own_key (row_in input.tables row) tail
+  first_of_key : rows_of_key row.key rows ≡ row ∷ rows_of_key row.key tail
+  first_of_key = all_left ∙ ap (rows_of_key row.key) front ∙ own_key row tail
 
-  own_found : length (rows_with_key row.table key rows) ≡ suc (length (of_table row.table (rows_of_key key tail)))
+  table_there : row.table < length input.tables
+  table_there =
+      let z : 0 + length input.tables ≡ length input.tables = omega arith in
+      let P : List InputRow → Type 0 = AreBelow (0 + length input.tables) in
+      let below : AreBelow (0 + length input.tables) (row ∷ rows_of_key row.key tail) =
+      subst P first_of_key (kept_below (λ (r : InputRow). same_row r.key row.key) (0 + length input.tables) rows (inputs_below 0 input.tables)) in
+      omega (arith, below.0, z)
+
+  own_found : length (rows_with_key row.table row.key rows) ≡ suc (length (of_table row.table (rows_of_key row.key tail)))
   own_found =
-      ap (λ (xs : List ℕ). length xs) (numbers_of_key row.table key rows)
-      ∙ length-map (of_table row.table (rows_of_key key rows)) (λ (r : InputRow). r.number)
+      ap (λ (xs : List ℕ). length xs) (numbers_of_key row.table row.key rows)
+      ∙ length-map (of_table row.table (rows_of_key row.key rows)) (λ (r : InputRow). r.number)
       ∙ ap (λ (xs : List InputRow). length (of_table row.table xs)) first_of_key
-      ∙ ap (λ b. length (cond b (row_in input.tables row ∷ of_table row.table (rows_of_key key tail)) (of_table row.table (rows_of_key key tail)))) (eq_self row.table)
+      ∙ ap (λ b. length (cond b (row ∷ of_table row.table (rows_of_key row.key tail)) (of_table row.table (rows_of_key row.key tail)))) (eq_self row.table)
 
-  pub has_loads : 0 < most_rows (matches (length input.tables) key rows)
-  has_loads = omega (arith, own_found, most_at_least (length input.tables) row.table key rows next.within)
+  has_loads : 0 < most_rows (matches (length input.tables) row.key rows)
+  has_loads = omega (arith, own_found, most_at_least (length input.tables) row.table row.key rows table_there)
 
   -- its first load comes next
-  pub first_key : option_map (λ (l : KeyedLoad). l.key) (slice_get (loads_of_all input) place.loads) ≡ Some key
+  first_key : option_map (λ (l : KeyedLoad). l.key) (slice_get (loads_of_all input) place.loads) ≡ Some row.key
   first_key =
       let n = length input.tables in
       let z : place.loads ≡ place.loads + 0 = omega arith in
-      let more = each_once (key ∷ []) (keys_of_rows tail) in
+      let more = each_once (row.key ∷ []) (keys_of_rows tail) in
       ap (option_map (λ (l : KeyedLoad). l.key))
       (ap (slice_get (loads_of_all input)) z
       ∙ sym (get_after (loads_of_all input) place.loads 0)
-      ∙ ap (λ (xs : List KeyedLoad). slice_get xs 0) (here.loads ∙ ap (loads_of_rows input) next.first)
-      ∙ get_in_first (loads_of_key n rows key) (loads_of_keys n rows more) 0 (omega (arith, has_loads, key_load_count n key rows))
-      ∙ key_load_at n key rows 0 has_loads)
+      ∙ ap (λ (xs : List KeyedLoad). slice_get xs 0) (here.loads ∙ ap (loads_of_rows input) front)
+      ∙ get_in_first (loads_of_key n rows row.key) (loads_of_keys n rows more) 0 (omega (arith, has_loads, key_load_count n row.key rows))
+      ∙ key_load_at n row.key rows 0 has_loads)
 
--- the key of the load that comes next is that of the first row that is left
-pub next_key_is : (input : InputKeys) (place : KeyPlace) (next : Option TableRow) → HasTables input → IsBetweenKeys input place
-    → IsFirstLeft input.descending input.tables place.given next
-    → option_map (λ (l : KeyedLoad). l.key) (slice_get (loads_of_all input) place.loads) ≡ option_map (key_in_input input) next
-next_key_is input place None tables here none =
-    let z : place.loads ≡ place.loads + 0 = omega arith in
-    ap (option_map (λ (l : KeyedLoad). l.key))
-    (ap (slice_get (loads_of_all input)) z
-    ∙ sym (get_after (loads_of_all input) place.loads 0)
-    ∙ ap (λ (xs : List KeyedLoad). slice_get xs 0) (here.loads ∙ ap (loads_of_rows input) none))
-next_key_is input place (Some row) tables here next = first_key input tables place here row next
+  own : key_at input place.start ≡ row.key
+  own = key_is input place.start row there
+
+  -- the rows up to the key's end are all of the key
+  run_of : (end : ℕ) → IsKeyEnd input place.start end → IsKeyRun input place.start end
+  run_of end e = record {
+    low = omega (arith, e.low);
+    high = e.high;
+    rows =
+        append_cancel_right (rows_between input place.start end) (rows_of_key (key_at input place.start) rows) (left_behind input end)
+        (sym (parted input place.start end (omega (arith, e.low)))
+        ∙ e.rows
+        ∙ ap (λ r. r ++ left_behind input end)
+        (ap (λ key. rows_of_key key (left_behind input place.start)) own ∙ sym all_left ∙ ap (λ key. rows_of_key key rows) (sym own)));
+  }
+
+pub key_run : (input : InputKeys) (tables : HasTables input) (place : KeyPlace) → IsBetweenKeys input place → (end : ℕ) → IsKeyEnd input place.start end → IsKeyRun input place.start end
+key_run input tables place here end e =
+    let found = row_there (ordered_rows input) place.start (omega (arith, e.low, e.high)) in run_of input tables place here found.0 found.1 found.2 end e
+
+-- the key of the load that comes next is that of the row at the place
+pub next_key_is : (input : InputKeys) (place : KeyPlace) → HasTables input → IsBetweenKeys input place
+    → option_map (λ (l : KeyedLoad). l.key) (slice_get (loads_of_all input) place.loads) ≡ option_map (λ (r : InputRow). r.key) (slice_get (ordered_rows input) place.start)
+next_key_is input place tables here = by (slice_get (ordered_rows input) place.start) refl
+  where
+    none : (xs : List InputRow) (k : ℕ) → slice_get xs k ≡ None → drop k xs ≡ []
+    none [] zero e = refl
+    none [] (suc k) e = refl
+    none (x ∷ xs) zero e = let no : Some x ≡ None = e in cc
+    none (x ∷ xs) (suc k) e = none xs k e
+
+    within : (xs : List InputRow) (k : ℕ) (x : InputRow) → slice_get xs k ≡ Some x → drop k xs ≡ x ∷ drop (k + 1) xs
+    within [] k x e = let no : None ≡ Some x = e in cc
+    within (y ∷ xs) zero x e = let one : y ≡ x = cc in ap (λ z. z ∷ xs) one
+    within (y ∷ xs) (suc k) x e = let z : suc k + 1 ≡ suc (k + 1) = omega arith in within xs k x e ∙ ap (λ n. x ∷ drop n (y ∷ xs)) (sym z)
+
+    by : (row : Option InputRow) → slice_get (ordered_rows input) place.start ≡ row
+        → option_map (λ (l : KeyedLoad). l.key) (slice_get (loads_of_all input) place.loads) ≡ option_map (λ (r : InputRow). r.key) row
+    by None e =
+        let z : place.loads ≡ place.loads + 0 = omega arith in
+        ap (option_map (λ (l : KeyedLoad). l.key))
+        (ap (slice_get (loads_of_all input)) z
+        ∙ sym (get_after (loads_of_all input) place.loads 0)
+        ∙ ap (λ (xs : List KeyedLoad). slice_get xs 0) (here.loads ∙ ap (loads_of_rows input) (none (ordered_rows input) place.start e)))
+    by (Some row) e = first_key input tables place here row e (within (ordered_rows input) place.start row e)
 
 -- behind the last key no load is left
-pub none_left : (input : InputKeys) (place : KeyPlace) → IsBetweenKeys input place → left_behind input place.given ≡ [] → length (loads_of_all input) ≡ place.loads
+pub none_left : (input : InputKeys) (place : KeyPlace) → IsBetweenKeys input place → left_behind input place.start ≡ [] → length (loads_of_all input) ≡ place.loads
 none_left input place here e =
     omega (
       arith,
@@ -146,27 +147,41 @@ none_left input place here e =
 -- ---- entering a key
 
 pub entered : (input : InputKeys) (tables : HasTables input) (place : KeyPlace) (here : IsBetweenKeys input place) (key : KeyRows)
-    → IsNextLeft input.descending input.tables place.given key.first → IsKeyEnd input place.given key.first key.end
-    → key.count ≡ most_between place.given key.end (length input.tables) → IsKeyEntered input place key
-entered input tables place here key next end count =
-    let value = key_in_input input key.first in
+    → IsKeyEnd input place.start key.end → IsKeyRun input place.start key.end → HaveTablePlaces input place.start key.begins key.ends
+    → key.count ≡ most_between key.begins key.ends (length input.tables) → IsKeyEntered input place key
+entered input tables place here key end run places count =
+    let value = key_at input place.start in
     let rows = input_rows 0 input.tables in
-    let all = all_left input tables place here key.first next in
-    let split = end.rows ∙ ap (λ r. r ++ left_behind input key.end) (sym all) in
-    let most = most_is place.given key.end value rows (length input.tables) (length input.tables) (omega arith)
-    (rows_between input.descending input.tables place.given key.end value tables.keys here.counts end.counts here.there end.there split) in
+    let found = row_there (ordered_rows input) place.start (omega (arith, end.low, end.high)) in
+    let own = key_is input place.start found.0 found.1 in
+    let P : List Value → Type 0 = λ v. 0 < most_rows (matches (length input.tables) v rows) in
+    let some : 0 < most_rows (matches (length input.tables) value rows) = subst P (sym own) (has_loads input tables place here found.0 found.1 found.2) in
+    let most = most_is key.begins key.ends value rows (length input.tables) (length input.tables) (omega arith) (long value rows places) in
     record {
       here = here;
-      first = next;
-      rows = split;
-      others = end.others;
-      counts = end.counts;
-      there = end.there;
+      end = end;
+      run = run;
+      tables = places;
       count = count ∙ most;
-      some = omega (arith, count, most, has_loads input tables place here key.first next);
+      some = omega (arith, count, most, some);
     }
+  where
+    long : (value : List Value) (rows : List InputRow)
+        → ((t : ℕ) → t < length input.tables → IsTableOfKey input place.start t (get_or key.begins t 0) (get_or key.ends t 0))
+        → (t : ℕ) → t < length input.tables → length (rows_with_key t (key_at input place.start) (input_rows 0 input.tables)) ≡ get_or key.ends t 0 - get_or key.begins t 0
+    long value rows places t l =
+        let here = places t l in
+        ap (λ (xs : List ℕ). length xs) here.rows
+        ∙ length-map (rows_between input (get_or key.begins t 0) (get_or key.ends t 0)) (λ (row : InputRow). row.number)
+        ∙ between_length input (get_or key.begins t 0) (get_or key.ends t 0) here.high
 
 -- ---- the loads of a key that was entered
+
+like_of : (l : Option KeyedLoad) (r : Option InputRow) (load : KeyedLoad) (row : InputRow) → l ≡ Some load → r ≡ Some row → same_row row.key load.key ≡ true → HaveLikeKeys l r
+like_of l r load row e f h =
+    let P : Option KeyedLoad → Type 0 = λ x. HaveLikeKeys x r in
+    let Q : Option InputRow → Type 0 = λ y. HaveLikeKeys (Some load) y in
+    subst P (sym e) (subst Q (sym f) h)
 
 module _ (input : InputKeys) (tables : HasTables input) (place : KeyPlace) (key : KeyRows) (h : IsKeyEntered input place key) where
   abbrev n : ℕ
@@ -176,7 +191,7 @@ module _ (input : InputKeys) (tables : HasTables input) (place : KeyPlace) (key 
   inputs = input_rows 0 input.tables
 
   abbrev value : List Value
-  value = key_in_input input key.first
+  value = key_at input place.start
 
   abbrev behind : List InputRow
   behind = left_behind input key.end
@@ -190,12 +205,20 @@ module _ (input : InputKeys) (tables : HasTables input) (place : KeyPlace) (key 
   loads_length : length loads ≡ key.count
   loads_length = key_load_count n value inputs ∙ sym h.count
 
+  split_rows : left_behind input place.start ≡ rows_of_key value inputs ++ behind
+  split_rows = parted input place.start key.end h.run.low ∙ ap (λ r. r ++ behind) h.run.rows
+
   pub loads_split : drop place.loads all ≡ loads ++ loads_of_rows input behind
   loads_split =
+      let found = row_there (ordered_rows input) place.start (omega (arith, h.end.low, h.end.high)) in
+      let own = key_is input place.start found.0 found.1 in
+      let P : List Value → Type 0 = λ v. rows_of_key v behind ≡ [] in
+      let Q : List Value → Type 0 = λ v. left_behind input place.start ≡ rows_of_key v inputs ++ behind in
       h.here.loads
-      ∙ ap (loads_of_rows input) h.first.first
+      ∙ ap (loads_of_rows input) found.2
       ∙ ap (loads_of_keys n inputs)
-      (once_split (row_in input.tables key.first) (left_behind input (given_one_more place.given key.first.table)) inputs behind (sym h.first.first ∙ h.rows) h.others)
+      (once_split found.0 (left_behind input (place.start + 1)) inputs behind (sym found.2 ∙ subst Q own split_rows) (subst P own h.end.others))
+      ∙ ap (λ v. loads_of_keys n inputs (v ∷ each_once [] (keys_of_rows behind))) (sym own)
 
   -- each load of the key stands at its number
   pub load_at : (i : ℕ) → i < key.count → slice_get all (place.loads + i) ≡ Some (merge_load value (matches n value inputs) i)
@@ -217,56 +240,60 @@ module _ (input : InputKeys) (tables : HasTables input) (place : KeyPlace) (key 
         length-append loads (loads_of_rows input behind),
       )
 
-  previous_is : Some value ≡ option_map (λ (l : KeyedLoad). l.key) (item_before all (place.loads + key.count))
-  previous_is =
+  few_loads : place.loads + key.count ≤ key.end
+  few_loads =
+      omega (
+        arith,
+        h.here.few,
+        h.count,
+        h.end.low,
+        most_within n value inputs,
+        ap (λ (xs : List InputRow). length xs) h.run.rows,
+        between_length input place.start key.end h.end.high,
+      )
+
+  pub last_load : item_before all (place.loads + key.count) ≡ Some (merge_load value (matches n value inputs) (key.count - 1))
+  last_load =
       let last : key.count - 1 < key.count = omega (arith, h.some) in
       let e : place.loads + key.count ≡ suc (place.loads + (key.count - 1)) = omega (arith, h.some) in
-      sym (ap (λ k. option_map (λ (l : KeyedLoad). l.key) (item_before all k)) e
-      ∙ ap (option_map (λ (l : KeyedLoad). l.key)) (load_at (key.count - 1) last))
+      ap (item_before all) e ∙ load_at (key.count - 1) last
+
+  front_rows : take key.end (ordered_rows input) ≡ take place.start (ordered_rows input) ++ rows_of_key value inputs
+  front_rows =
+      append_cancel_right (take key.end (ordered_rows input)) (take place.start (ordered_rows input) ++ rows_of_key value inputs) behind
+      (take-append-drop key.end (ordered_rows input)
+      ∙ sym (append_assoc (take place.start (ordered_rows input)) (rows_of_key value inputs) behind
+      ∙ ap (λ r. take place.start (ordered_rows input) ++ r) (sym split_rows)
+      ∙ take-append-drop place.start (ordered_rows input)))
 
   -- behind them stands a place between keys
   pub behind_key : IsBetweenKeys input (key_place_behind place key)
   behind_key = record {
-    before = h.here.before ++ rows_of_key value inputs;
-    rows = h.here.rows ∙ ap (λ r. h.here.before ++ r) h.rows ∙ sym (append_assoc h.here.before (rows_of_key value inputs) behind);
-    new_keys = new_left value h.here.before inputs (left_behind input place.given) behind h.here.new_keys h.rows h.others;
-    few = omega (arith, h.here.few, length-append h.here.before (rows_of_key value inputs), most_within n value inputs, h.count);
-    counts = h.counts;
-    there = h.there;
+    there = h.end.high;
+    new_keys =
+        let P : List InputRow → Type 0 = λ before. HaveNewKeys before behind in
+        subst P (sym front_rows)
+        (new_left value (take place.start (ordered_rows input)) inputs (left_behind input place.start) behind h.here.new_keys split_rows h.end.others);
+    few = few_loads;
     loads = drop_twice all place.loads key.count ∙ ap (drop key.count) loads_split ∙ drop_first loads (loads_of_rows input behind) key.count loads_length;
     within = omega (arith, loads_fit);
-    previous = previous_is;
-    long = h.first.long;
+    previous =
+        like_of (item_before all (place.loads + key.count)) (item_before (ordered_rows input) key.end) (merge_load value (matches n value inputs) (key.count - 1)) h.end.last
+        last_load h.end.last_there h.end.last_has;
   }
 
   -- as many loads as rows at the most
   pub count_fits : place.loads + key.count < 2 ^ 64
-  count_fits =
-      let b = behind_key in
-      omega (arith, b.few, tables.room, ap (λ (xs : List InputRow). length xs) b.rows, length-append b.before behind)
+  count_fits = omega (arith, few_loads, h.end.high, tables.room)
 
 -- ---- before the first load
 
-abbrev zero_list : ℕ → List ℕ
-zero_list m = replicate m 0
-
-zeros : (m t : ℕ) → get_or (zero_list m) t 0 ≡ 0
-zeros zero t = refl
-zeros (suc m) zero = refl
-zeros (suc m) (suc t) = zeros m t
-
 pub at_start : (input : InputKeys) → HasTables input → IsBetweenKeys input opening_key_place
-at_start input h =
-    let start = start_is input.descending input.tables h.few_tables h.keys in
-    record {
-      before = [];
-      rows = sym start.left;
-      new_keys = all_new (left_behind input opening_key_place.given);
-      few = omega arith;
-      counts = h.few_tables;
-      there = λ t. omega (arith, zeros 16 t);
-      loads = ap (loads_of_rows input) (sym start.left);
-      within = omega arith;
-      previous = refl;
-      long = tt;
-    }
+at_start input h = record {
+  there = omega arith;
+  new_keys = all_new (ordered_rows input);
+  few = omega arith;
+  loads = refl;
+  within = omega arith;
+  previous = tt;
+}

@@ -8,3 +8,4 @@ pub mod LoadMeans
 pub mod NextMerge
 pub mod Opening
 pub mod TableRows
+pub mod TablePlaces

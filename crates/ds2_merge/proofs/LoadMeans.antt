@@ -1,26 +1,31 @@
 -- What the load of a key means.
-use Rattle.std.proofs.Common.{◌≡◌, ℕ, zero, suc, ◌+◌, ◌-◌, ◌^◌, ◌<◌, ◌≤◌, Bool, true, false, not, ◌||◌, nat_eq, nat_lt, List, [], ◌∷◌, map, length, take, set, refl, sym, ap, ◌∙◌, subst, true≢false, arith, ◌⊎◌, inl, inr}
-use Rattle.std.specs.Prelude.{slice_get, get_or, is_some, if◌then◌else◌, Option, Some, None, IfSome}
+use Rattle.std.proofs.Common.{◌≡◌, ℕ, zero, suc, ◌+◌, ◌-◌, ◌^◌, ◌<◌, ◌≤◌, max, Bool, true, false, not, ◌||◌, nat_eq, nat_lt, List, [], ◌∷◌, map, length, take, drop, set, refl, sym, ap, ◌∙◌, subst, true≢false, arith, ◌⊎◌, inl, inr}
+use Rattle.std.specs.Prelude.{slice_get, get_or, is_some, if◌then◌else◌, Option, Some, None}
 use Rattle.std.specs.List.{range_with_len}
 use Rattle.std.specs.Option.{option_map}
 use Rattle.std.proofs.lemmas.Bool.Decides.{Decides-eqb, Decides-ltb, Decides-like, same_from_decides}
-use Rattle.std.proofs.lemmas.List.{get_or-set_same, get_or-set_other}
+use Rattle.std.proofs.lemmas.List.{get_or-set_same, get_or-set_other, length-map}
+use Rattle.std.proofs.lemmas.Option.{slice_get-map, slice_get_past}
+use Rattle.ds2_value.specs.Order.{same_row}
 use Rattle.ds2_value.specs.declared.value.Value.{Value}
 use Rattle.ds2_reading.specs.declared.load.Load.{Load as LoadInCode}
-use Rattle.ds2_table.specs.Loads.{InputRow, KeyedLoad, flags_beside, is_new_key, flagged_load, input_rows, rows_with_key, matches, merge_load, merge_loads}
-use Rattle.ds2_reading.specs.KeyOrder.{InputKeys, numbered_row}
-use Rattle.ds2_reading.specs.LoadMeaning.{row_or_none, bits_of, flags_behind, load_meaning}
-use Rattle.ds2_reading.specs.Places.{item_before}
-use Rattle.ds2_reading.specs.RowsLeft.{ordered_rows, IsFirstLeft}
 use Rattle.ds2_reading.specs.declared.table_row.TableRow.{TableRow}
+use Rattle.ds2_table.specs.Loads.{InputRow, KeyedLoad, flags_beside, is_new_key, flagged_load, input_rows, rows_with_key, matches, merge_load, merge_loads}
+use Rattle.ds2_table.proofs.ByOrder.{rows_equiv}
+use Rattle.ds2_reading.specs.KeyOrder.{InputKeys, IsThere, row_in}
+use Rattle.ds2_reading.specs.LoadMeaning.{row_or_none, bits_of, flags_behind, load_meaning}
+use Rattle.ds2_reading.specs.Places.{item_before, common_with, common_before}
+use Rattle.ds2_reading.proofs.AllRows.{rows_of_one_within}
+use Rattle.ds2_reading.proofs.FlagLemmas.{all_flags, common_flags, like_differences, like_common, self_common}
 use Rattle.ds2_reading.proofs.Flagged.{flagged_at}
-use Rattle.ds2_reading.proofs.RowPlaces.{rows_of_one_within}
-use Rattle.ds2_merge.specs.KeyPlaces.{key_place_behind, loads_of_all, key_in_input, IsAmongLoads, IsRowBehind}
+use Rattle.ds2_reading.proofs.PlaceFlags.{before_within, flags_first, fresh, long as row_long}
+use Rattle.ds2_merge.specs.KeyPlaces.{key_place_behind, common_at_load, common_behind_load, ordered_rows, left_behind, rows_between, key_at, loads_of_all, HaveLikeKeys, IsTableOfKey, IsAmongLoads}
 use Rattle.ds2_merge.specs.declared.key_place.KeyPlace.{KeyPlace}
 use Rattle.ds2_merge.specs.declared.key_place.KeyRows.{KeyRows}
 use Rattle.ds2_merge.proofs.TableRows.{eq_self, eq_apart}
-use Rattle.ds2_merge.proofs.KeyLoads.{rows_between, number_between, none_between, some_first}
-use Rattle.ds2_merge.proofs.KeyStates.{load_at, behind_key, next_key_is}
+use Rattle.ds2_merge.proofs.KeyLoads.{get_after, some_first}
+use Rattle.ds2_merge.proofs.KeyStates.{between_length, load_at, behind_key, next_key_is}
+use Rattle.ds2_merge.proofs.KeyWalk.{row_there, key_is}
 
 -- ---- lists over tables
 
@@ -78,6 +83,15 @@ one_more_read f xs ys k x e l this before t m = by (nat_eq t k) refl
         let earlier : t < k = below t k m apart in
         ap (λ (zs : List ℕ). row_or_none (get_or zs t 0)) e ∙ ap row_or_none (get_or-set_other xs k t x 0 apart) ∙ before t earlier
 
+less_or_not : (a b : ℕ) → (a < b) ⊎ (b ≤ a)
+less_or_not a zero = inr (omega arith)
+less_or_not zero (suc b) = inl (omega arith)
+less_or_not (suc a) (suc b) = next (less_or_not a b)
+  where
+    next : (a < b) ⊎ (b ≤ a) → (suc a < suc b) ⊎ (suc b ≤ suc a)
+    next (inl l) = inl (omega (arith, l))
+    next (inr l) = inr (omega (arith, l))
+
 -- ---- the row of one table
 
 none_read : row_or_none 18446744073709551615 ≡ None
@@ -88,93 +102,121 @@ some_read number l =
     let apart : number ≡ 18446744073709551615 → ⊥ = λ e. absurd (omega (arith, e, l)) in
     ap (λ b. if b then None else Some number) (eq_apart number 18446744073709551615 apart)
 
-number_of : (t : ℕ) (keys : List (List Value)) (number : Option ℕ) → option_map (λ (row : InputRow). row.number) (option_map (numbered_row t keys) number) ≡ number
-number_of t keys None = refl
-number_of t keys (Some number) = refl
-
 module _ (input : InputKeys) (place : KeyPlace) (key : KeyRows) (h : IsAmongLoads input place key) (t : ℕ) (l : t < length input.tables) where
-  abbrev own : List (List Value)
-  own = get_or input.tables t []
+  abbrev begin : ℕ
+  begin = get_or key.begins t 0
 
-  pub past_rows : get_or key.end t 0 - get_or place.given t 0 ≤ key.given
-      → row_or_none 18446744073709551615 ≡ slice_get (rows_with_key t (key_in_input input key.first) (input_rows 0 input.tables)) key.given
-  past_rows m =
-      let e = h.entered in
-      none_read
-      ∙ sym (none_between input.descending input.tables place.given key.end (key_in_input input key.first) h.tables.keys e.here.counts e.counts e.here.there e.there e.rows t l key.given m)
+  abbrev end : ℕ
+  end = get_or key.ends t 0
 
-  at_place : key.given < get_or key.end t 0 - get_or place.given t 0 → (number : Option ℕ)
-      → option_map (numbered_row t own) number ≡ slice_get (ordered_rows input.descending t own) (get_or place.given t 0 + key.given)
-      → number ≡ slice_get (rows_with_key t (key_in_input input key.first) (input_rows 0 input.tables)) key.given
-  at_place m number read =
-      let e = h.entered in
-      sym (number_of t own number)
-      ∙ ap (option_map (λ (row : InputRow). row.number)) read
-      ∙ sym (number_between input.descending input.tables place.given key.end (key_in_input input key.first) h.tables.keys e.here.counts e.counts e.here.there e.there e.rows t l key.given m)
+  abbrev found : List ℕ
+  found = rows_with_key t (key_at input place.start) (input_rows 0 input.tables)
 
-  pub no_row : key.given < get_or key.end t 0 - get_or place.given t 0
-      → option_map (numbered_row t own) None ≡ slice_get (ordered_rows input.descending t own) (get_or place.given t 0 + key.given)
-      → row_or_none 18446744073709551615 ≡ slice_get (rows_with_key t (key_in_input input key.first) (input_rows 0 input.tables)) key.given
-  no_row m read = none_read ∙ at_place m None read
+  own : IsTableOfKey input place.start t begin end
+  own = let e = h.entered in e.tables t l
 
-  pub this_row : key.given < get_or key.end t 0 - get_or place.given t 0 → (number : ℕ) → number < length own
-      → option_map (numbered_row t own) (Some number) ≡ slice_get (ordered_rows input.descending t own) (get_or place.given t 0 + key.given)
-      → row_or_none number ≡ slice_get (rows_with_key t (key_in_input input key.first) (input_rows 0 input.tables)) key.given
-  this_row m number there read =
-      some_read number (omega (arith, there, h.tables.room, rows_of_one_within input.descending input.tables t)) ∙ at_place m (Some number) read
+  found_length : length found ≡ end - begin
+  found_length =
+      ap (λ (xs : List ℕ). length xs) own.rows
+      ∙ length-map (rows_between input begin end) (λ (row : InputRow). row.number)
+      ∙ between_length input begin end own.high
+
+  taken : {A : Type 0} (xs : List A) (n i : ℕ) → i < n → slice_get (take n xs) i ≡ slice_get xs i
+  taken xs zero i l = absurd (omega (arith, l))
+  taken [] (suc n) zero l = refl
+  taken [] (suc n) (suc i) l = refl
+  taken (x ∷ xs) (suc n) zero l = refl
+  taken (x ∷ xs) (suc n) (suc i) l = taken xs n i (omega (arith, l))
+
+  found_at : key.given < end - begin → slice_get found key.given ≡ option_map (λ (row : InputRow). row.number) (slice_get (ordered_rows input) (begin + key.given))
+  found_at m =
+      ap (λ (xs : List ℕ). slice_get xs key.given) own.rows
+      ∙ slice_get-map (λ (row : InputRow). row.number) (rows_between input begin end) key.given
+      ∙ ap (option_map (λ (row : InputRow). row.number)) (taken (left_behind input begin) (end - begin) key.given m ∙ get_after (ordered_rows input) begin key.given)
+
+  pub past_rows : end - begin ≤ key.given → row_or_none 18446744073709551615 ≡ slice_get found key.given
+  past_rows m = none_read ∙ sym (slice_get_past found key.given (omega (arith, m, found_length)))
+
+  pub no_row : key.given < end - begin → None ≡ slice_get (ordered_rows input) (begin + key.given) → row_or_none 18446744073709551615 ≡ slice_get found key.given
+  no_row m read = none_read ∙ ap (option_map (λ (row : InputRow). row.number)) read ∙ sym (found_at m)
+
+  pub this_row : key.given < end - begin → (row : TableRow) → IsThere input.tables row → Some (row_in input.tables row) ≡ slice_get (ordered_rows input) (begin + key.given)
+      → row_or_none row.row ≡ slice_get found key.given
+  this_row m row there read =
+      some_read row.row (omega (arith, there.within, h.tables.room, rows_of_one_within input.descending input.tables row.table))
+      ∙ ap (option_map (λ (r : InputRow). r.number)) read
+      ∙ sym (found_at m)
+
+  pub place_there : key.given < end - begin → begin + key.given < 2 ^ 64
+  place_there m = omega (arith, m, own.high, h.tables.room)
 
   some_between : (a b : ℕ) → nat_lt 0 (b - a) ≡ nat_lt a b
   some_between a b =
       same_from_decides (nat_lt 0 (b - a)) (nat_lt a b)
       (Decides-like (nat_lt 0 (b - a)) (λ k. omega (arith, k)) (λ k. omega (arith, k)) (Decides-ltb 0 (b - a))) (Decides-ltb a b)
 
-  there_is : nat_lt (get_or place.given t 0) (get_or key.end t 0)
-      ≡ is_some (slice_get (rows_with_key t (key_in_input input key.first) (input_rows 0 input.tables)) 0)
-  there_is =
-      let e = h.entered in
-      sym (some_first (rows_with_key t (key_in_input input key.first) (input_rows 0 input.tables)) (get_or key.end t 0 - get_or place.given t 0)
-      (rows_between input.descending input.tables place.given key.end (key_in_input input key.first) h.tables.keys e.here.counts e.counts e.here.there e.there e.rows t l)
-      ∙ some_between (get_or place.given t 0) (get_or key.end t 0))
+  there_is : nat_lt begin end ≡ is_some (slice_get found 0)
+  there_is = sym (some_first found (end - begin) found_length ∙ some_between begin end)
 
 -- the tables that have rows of the key
 pub present_is : (input : InputKeys) (place : KeyPlace) (key : KeyRows) → IsAmongLoads input place key
-    → map (λ t. nat_lt (get_or place.given t 0) (get_or key.end t 0)) (range_with_len 0 (length input.tables))
-    ≡ map (λ found. is_some (slice_get found 0)) (matches (length input.tables) (key_in_input input key.first) (input_rows 0 input.tables))
+    → map (λ t. nat_lt (get_or key.begins t 0) (get_or key.ends t 0)) (range_with_len 0 (length input.tables))
+    ≡ map (λ found. is_some (slice_get found 0)) (matches (length input.tables) (key_at input place.start) (input_rows 0 input.tables))
 present_is input place key h =
     let n = length input.tables in
-    let value = key_in_input input key.first in
+    let value = key_at input place.start in
     let rows = input_rows 0 input.tables in
-    alike_below (λ t. nat_lt (get_or place.given t 0) (get_or key.end t 0)) (λ t. is_some (slice_get (rows_with_key t value rows) 0)) n (λ t l. there_is input place key h t l)
+    alike_below (λ t. nat_lt (get_or key.begins t 0) (get_or key.ends t 0)) (λ t. is_some (slice_get (rows_with_key t value rows) 0)) n (λ t l. there_is input place key h t l)
     ∙ sym (map_twice (λ t. rows_with_key t value rows) (λ found. is_some (slice_get found 0)) (range_with_len 0 n))
 
 -- ---- the whole load
 
 -- a load that reads these rows, with the flags between two keys
-pub load_means : (n m bys : ℕ) (key : List Value) (found : List (List ℕ)) (i : ℕ) (l : LoadInCode) (previous next : Option (List Value)) (first last : ℕ) (is_there : Bool)
+pub load_means : (n m bys : ℕ) (key : List Value) (of_tables : List (List ℕ)) (i number : ℕ) (l : LoadInCode) (previous next : Option (List Value)) (first last : ℕ)
     → m ≡ bys
-    → map row_or_none (take n l.rows) ≡ map (λ rows. slice_get rows i) found
-    → l.is_fresh ≡ (not is_there || nat_lt first m)
-    → is_new_key previous key ≡ (not is_there || nat_lt first bys)
+    → map row_or_none (take n l.rows) ≡ map (λ rows. slice_get rows i) of_tables
+    → l.is_fresh ≡ (nat_eq number 0 || nat_lt first m)
+    → is_new_key previous key ≡ (nat_eq number 0 || nat_lt first bys)
     → bits_of m l.first ≡ flags_behind m first
     → flags_behind bys first ≡ flags_beside previous key
     → bits_of m l.last ≡ flags_behind m last
     → flags_behind bys last ≡ flags_beside next key
-    → bits_of n l.present ≡ map (λ rows. is_some (slice_get rows 0)) found
-    → load_meaning n bys l ≡ (flagged_load previous next (merge_load key found i)).load
-load_means n m bys key found i l previous next first last is_there e rows fresh new-key first-bits first-flags last-bits last-flags present =
-    let is-fresh = fresh ∙ ap (λ k. not is_there || nat_lt first k) e ∙ sym new-key in
+    → bits_of n l.present ≡ map (λ rows. is_some (slice_get rows 0)) of_tables
+    → load_meaning n bys l ≡ (flagged_load previous next (merge_load key of_tables i)).load
+load_means n m bys key of_tables i number l previous next first last e rows fresh new-key first-bits first-flags last-bits last-flags present =
+    let is-fresh = fresh ∙ ap (λ k. nat_eq number 0 || nat_lt first k) e ∙ sym new-key in
     let first-is = ap (λ k. bits_of k l.first) (sym e) ∙ first-bits ∙ ap (λ k. flags_behind k first) e ∙ first-flags in
     let last-is = ap (λ k. bits_of k l.last) (sym e) ∙ last-bits ∙ ap (λ k. flags_behind k last) e ∙ last-flags in
     λ j. record { rows = rows j; is_fresh = is-fresh j; first = first-is j; last = last-is j; present = present j }
 
-less_or_not : (a b : ℕ) → (a < b) ⊎ (b ≤ a)
-less_or_not a zero = inr (omega arith)
-less_or_not zero (suc b) = inl (omega arith)
-less_or_not (suc a) (suc b) = next (less_or_not a b)
+-- ---- flags
+
+-- beside a load and beside a row whose key is equal
+like_flags : (load : Option KeyedLoad) (row : Option InputRow) (key : List Value) → HaveLikeKeys load row
+    → flags_beside (option_map (λ (r : InputRow). r.key) row) key ≡ flags_beside (option_map (λ (l : KeyedLoad). l.key) load) key
+like_flags None None key h = refl
+like_flags None (Some row) key h = absurd h
+like_flags (Some load) None key h = absurd h
+like_flags (Some load) (Some row) key h = like_differences false key row.key load.key h
+
+like_new : (load : Option KeyedLoad) (row : Option InputRow) (key : List Value) → HaveLikeKeys load row
+    → is_new_key (option_map (λ (r : InputRow). r.key) row) key ≡ is_new_key (option_map (λ (l : KeyedLoad). l.key) load) key
+like_new None None key h = refl
+like_new None (Some row) key h = absurd h
+like_new (Some load) None key h = absurd h
+like_new (Some load) (Some row) key h = let q = rows_equiv in ap not (q.congr row.key load.key key h)
+
+last_with : (m : ℕ) (last : InputRow) (key : List Value) (next : Option InputRow) → length key ≡ m → ((row : InputRow) → next ≡ Some row → length row.key ≡ m)
+    → same_row last.key key ≡ true → flags_behind m (common_with m (Some last) next) ≡ flags_beside (option_map (λ (r : InputRow). r.key) next) key
+last_with m last key None k l e = all_flags m key k
+last_with m last key (Some next) k l e = ap (flags_behind m) (like_common m last.key key next.key e) ∙ common_flags m key next.key k (l next refl)
+
+never_less : (m : ℕ) → nat_lt m m ≡ false
+never_less m = by (nat_lt m m) refl
   where
-    next : (a < b) ⊎ (b ≤ a) → (suc a < suc b) ⊎ (suc b ≤ suc a)
-    next (inl l) = inl (omega (arith, l))
-    next (inr l) = inr (omega (arith, l))
+    by : (b : Bool) → nat_lt m m ≡ b → nat_lt m m ≡ false
+    by true e = let d = Decides-ltb m m in absurd (omega (arith, d.0 e))
+    by false e = e
 
 module _ (input : InputKeys) (place : KeyPlace) (key : KeyRows) (h : IsAmongLoads input place key) where
   abbrev all : List KeyedLoad
@@ -183,67 +225,138 @@ module _ (input : InputKeys) (place : KeyPlace) (key : KeyRows) (h : IsAmongLoad
   abbrev number : ℕ
   number = place.loads + key.given
 
-  abbrev row_of : Option TableRow → Option (List Value)
-  row_of row = option_map (key_in_input input) row
+  abbrev m : ℕ
+  m = length input.descending
 
-  abbrev key_at : Option KeyedLoad → Option (List Value)
-  key_at l = option_map (λ (m : KeyedLoad). m.key) l
+  abbrev value : List Value
+  value = key_at input place.start
 
-  -- the load before has this row's key
-  pub before_is : (previous : Option TableRow) → previous ≡ (if nat_eq key.given 0 then place.previous else Some key.first) → row_of previous ≡ key_at (item_before all number)
-  before_is previous e = by key.given refl
+  abbrev load_key : Option KeyedLoad → Option (List Value)
+  load_key l = option_map (λ (k : KeyedLoad). k.key) l
+
+  first_row : (x : InputRow) × (slice_get (ordered_rows input) place.start ≡ Some x) × (drop place.start (ordered_rows input) ≡ x ∷ drop (place.start + 1) (ordered_rows input))
+  first_row = let e = h.entered.end in row_there (ordered_rows input) place.start (omega (arith, e.low, e.high))
+
+  front_key : value ≡ first_row.0.key
+  front_key = key_is input place.start first_row.0 first_row.1
+
+  long : length value ≡ m
+  long = ap (λ (v : List Value). length v) front_key ∙ row_long input h.tables.keys place.start first_row.0 first_row.1 place.start first_row.0 first_row.1
+
+  own_flags : flags_behind m m ≡ flags_beside (Some value) value
+  own_flags = ap (flags_behind m) (sym (self_common m value)) ∙ common_flags m value value long long
+
+  own_new : is_new_key (Some value) value ≡ false
+  own_new = let q = rows_equiv in ap not (q.refl value)
+
+  abbrev common : ℕ → ℕ
+  common given = if nat_eq given 0 then common_before input place.start else m
+
+  -- beside the load before
+  pub flags_before : flags_behind m (common key.given) ≡ flags_beside (load_key (item_before all number)) value
+  flags_before = by key.given refl
     where
-      by : (g : ℕ) → key.given ≡ g → row_of previous ≡ key_at (item_before all number)
-      by zero k =
-          let z : place.loads ≡ number = omega (arith, k) in
-          ap row_of (e ∙ ap (λ g. if nat_eq g 0 then place.previous else Some key.first) k ∙ ap (λ b. if b then place.previous else Some key.first) (eq_self 0))
-          ∙ h.entered.here.previous
-          ∙ ap (λ m. key_at (item_before all m)) z
-      by (suc g) k =
-          let z : number ≡ suc (place.loads + g) = omega (arith, k) in
-          let apart : suc g ≡ 0 → ⊥ = λ q. absurd (omega (arith, q)) in
-          ap row_of (e ∙ ap (λ j. if nat_eq j 0 then place.previous else Some key.first) k ∙ ap (λ b. if b then place.previous else Some key.first) (eq_apart (suc g) 0 apart))
-          ∙ sym (ap (λ m. key_at (item_before all m)) z ∙ ap key_at (load_at input h.tables place key h.entered g (omega (arith, k, h.given))))
+      by : (g : ℕ) → key.given ≡ g → flags_behind m (common g) ≡ flags_beside (load_key (item_before all number)) value
+      by zero e =
+          let z : place.loads ≡ number = omega (arith, e) in
+          ap (λ b. flags_behind m (if b then common_before input place.start else m)) (eq_self 0)
+          ∙ flags_first input h.tables.keys place.start first_row.0 first_row.1
+          ∙ ap (flags_beside (option_map (λ (r : InputRow). r.key) (item_before (ordered_rows input) place.start))) (sym front_key)
+          ∙ like_flags (item_before all place.loads) (item_before (ordered_rows input) place.start) value h.entered.here.previous
+          ∙ ap (λ k. flags_beside (load_key (item_before all k)) value) z
+      by (suc g) e =
+          let z : number ≡ suc (place.loads + g) = omega (arith, e) in
+          let apart : suc g ≡ 0 → ⊥ = λ k. absurd (omega (arith, k)) in
+          ap (λ b. flags_behind m (if b then common_before input place.start else m)) (eq_apart (suc g) 0 apart)
+          ∙ own_flags
+          ∙ sym (ap (λ k. flags_beside (load_key (item_before all k)) value) z
+          ∙ ap (λ l. flags_beside (load_key l) value) (load_at input h.tables place key h.entered g (omega (arith, e, h.given))))
 
-  pub before_long : (previous : Option TableRow) → previous ≡ (if nat_eq key.given 0 then place.previous else Some key.first)
-      → IfSome previous (λ other. length (key_in_input input other) ≡ length input.descending)
-  before_long previous e = let P : Option TableRow → Type 0 = λ row. IfSome row (λ other. length (key_in_input input other) ≡ length input.descending) in
-      subst P (sym e) (by (nat_eq key.given 0))
+  -- whether the load opens a key
+  pub new_before : is_new_key (load_key (item_before all number)) value ≡ (nat_eq (max place.loads key.given) 0 || nat_lt (common key.given) m)
+  new_before = by key.given refl
     where
-      by : (b : Bool) → IfSome (if b then place.previous else Some key.first) (λ other. length (key_in_input input other) ≡ length input.descending)
-      by true = h.entered.here.long
-      by false = h.entered.first.long
+      none_given : (loads start : ℕ) → HaveLikeKeys (item_before all loads) (item_before (ordered_rows input) start) → loads ≤ start → loads ≤ length all
+          → start ≤ length (ordered_rows input) → nat_eq start 0 ≡ nat_eq loads 0
+      none_given zero zero k l w x = refl
+      none_given zero (suc start) k l w x =
+          let found = row_there (ordered_rows input) start (omega (arith, x)) in
+          let P : Option InputRow → Type 0 = HaveLikeKeys None in
+          absurd (subst P found.1 k)
+      none_given (suc loads) zero k l w x = absurd (omega (arith, l))
+      none_given (suc loads) (suc start) k l w x =
+          let a : suc start ≡ 0 → ⊥ = λ e. absurd (omega (arith, e)) in
+          let b : suc loads ≡ 0 → ⊥ = λ e. absurd (omega (arith, e)) in
+          eq_apart (suc start) 0 a ∙ sym (eq_apart (suc loads) 0 b)
 
-  -- and the load behind it that row's
-  pub behind_is : (next : Option TableRow) → IsRowBehind input key next → row_of next ≡ key_at (slice_get all (number + 1))
-  behind_is next b = by (less_or_not (key.given + 1) key.count)
+      by : (g : ℕ) → key.given ≡ g → is_new_key (load_key (item_before all number)) value ≡ (nat_eq (max place.loads g) 0 || nat_lt (common g) m)
+      by zero e =
+          let z : place.loads ≡ number = omega (arith, e) in
+          let y : place.loads ≡ max place.loads 0 = omega arith in
+          let here = h.entered.here in
+          ap (λ k. is_new_key (load_key (item_before all k)) value) (sym z)
+          ∙ sym (like_new (item_before all place.loads) (item_before (ordered_rows input) place.start) value here.previous)
+          ∙ ap (is_new_key (option_map (λ (r : InputRow). r.key) (item_before (ordered_rows input) place.start))) front_key
+          ∙ fresh input h.tables.keys place.start first_row.0 first_row.1
+          ∙ ap (λ b. b || nat_lt (common_before input place.start) m) (none_given place.loads place.start here.previous here.few here.within here.there)
+          ∙ (λ i. nat_eq (y i) 0 || nat_lt (if sym (eq_self 0) i then common_before input place.start else m) m)
+      by (suc g) e =
+          let z : number ≡ suc (place.loads + g) = omega (arith, e) in
+          let apart : suc g ≡ 0 → ⊥ = λ k. absurd (omega (arith, k)) in
+          let more : max place.loads (suc g) ≡ 0 → ⊥ = λ k. absurd (omega (arith, k)) in
+          ap (λ k. is_new_key (load_key (item_before all k)) value) z
+          ∙ ap (λ l. is_new_key (load_key l) value) (load_at input h.tables place key h.entered g (omega (arith, e, h.given)))
+          ∙ own_new
+          ∙ sym ((λ i. eq_apart (max place.loads (suc g)) 0 more i || nat_lt (if eq_apart (suc g) 0 apart i then common_before input place.start else m) m) ∙ never_less m)
+
+  -- beside the load behind
+  pub flags_behind_it : flags_behind m (common_behind_load input key) ≡ flags_beside (load_key (slice_get all (number + 1))) value
+  flags_behind_it = by (nat_lt (key.given + 1) key.count) refl
     where
-      by : (key.given + 1 < key.count) ⊎ (key.count ≤ key.given + 1) → row_of next ≡ key_at (slice_get all (number + 1))
-      by (inl l) =
+      by : (b : Bool) → nat_lt (key.given + 1) key.count ≡ b
+          → flags_behind m (if b then m else common_before input key.end) ≡ flags_beside (load_key (slice_get all (number + 1))) value
+      by true e =
+          let d = Decides-ltb (key.given + 1) key.count in
           let z : place.loads + (key.given + 1) ≡ number + 1 = omega arith in
-          ap row_of (b.0 l) ∙ sym (ap key_at (sym (ap (slice_get all) z) ∙ load_at input h.tables place key h.entered (key.given + 1) l))
-      by (inr l) =
-          let z : place.loads + key.count ≡ number + 1 = omega (arith, l, h.given) in
-          sym (next_key_is input (key_place_behind place key) next h.tables (behind_key input h.tables place key h.entered) (b.1 l))
-          ∙ ap (λ m. key_at (slice_get all m)) z
-
-  pub behind_long : (next : Option TableRow) → IsRowBehind input key next → IfSome next (λ other. length (key_in_input input other) ≡ length input.descending)
-  behind_long next b = by next b (less_or_not (key.given + 1) key.count)
-    where
-      first_long : (row : Option TableRow) → IsFirstLeft input.descending input.tables key.end row → IfSome row (λ other. length (key_in_input input other) ≡ length input.descending)
-      first_long None f = tt
-      first_long (Some row) f = f.long
-
-      by : (row : Option TableRow) → IsRowBehind input key row → (key.given + 1 < key.count) ⊎ (key.count ≤ key.given + 1)
-          → IfSome row (λ other. length (key_in_input input other) ≡ length input.descending)
-      by row c (inl l) = let P : Option TableRow → Type 0 = λ r. IfSome r (λ other. length (key_in_input input other) ≡ length input.descending) in subst P (sym (c.0 l)) h.entered.first.long
-      by row c (inr l) = first_long row (c.1 l)
+          own_flags
+          ∙ sym (ap (λ k. flags_beside (load_key (slice_get all k)) value) (sym z)
+          ∙ ap (λ l. flags_beside (load_key l) value) (load_at input h.tables place key h.entered (key.given + 1) (d.0 e)))
+      by false e =
+          let d = Decides-ltb (key.given + 1) key.count in
+          let end = h.entered.end in
+          let behind = key_place_behind place key in
+          let last : key.count ≤ key.given + 1 = not_more (less_or_not (key.given + 1) key.count) e in
+          let z : place.loads + key.count ≡ number + 1 = omega (arith, last, h.given) in
+          ap (λ r. flags_behind m (common_with m r (slice_get (ordered_rows input) key.end))) end.last_there
+          ∙ last_with m end.last value (slice_get (ordered_rows input) key.end) long
+          (λ row f. row_long input h.tables.keys place.start first_row.0 first_row.1 key.end row f) end.last_has
+          ∙ ap (λ k. flags_beside k value) (sym (next_key_is input behind h.tables (behind_key input h.tables place key h.entered)))
+          ∙ ap (λ k. flags_beside (load_key (slice_get all k)) value) z
+        where
+          not_more : (key.given + 1 < key.count) ⊎ (key.count ≤ key.given + 1) → nat_lt (key.given + 1) key.count ≡ false → key.count ≤ key.given + 1
+          not_more (inl l) f = let d = Decides-ltb (key.given + 1) key.count in absurd (true≢false (sym (d.1 l) ∙ f))
+          not_more (inr l) f = l
 
   -- the load of the key between them is the one of its number
-  pub load_is : (previous next : Option TableRow) → previous ≡ (if nat_eq key.given 0 then place.previous else Some key.first) → IsRowBehind input key next
-      → Some (flagged_load (row_of previous) (row_of next) (merge_load (key_in_input input key.first) (matches (length input.tables) (key_in_input input key.first) (input_rows 0 input.tables)) key.given)).load
+  pub load_is : Some (flagged_load (load_key (item_before all number)) (load_key (slice_get all (number + 1)))
+      (merge_load value (matches (length input.tables) value (input_rows 0 input.tables)) key.given)).load
       ≡ option_map (λ (l : KeyedLoad). l.load) (slice_get (merge_loads input.descending input.tables) number)
-  load_is previous next e b =
+  load_is =
       sym (ap (option_map (λ (l : KeyedLoad). l.load)) (flagged_at all number)
-      ∙ (λ i. option_map (λ (l : KeyedLoad). l.load)
-      (option_map (flagged_load (sym (before_is previous e) i) (sym (behind_is next b) i)) (load_at input h.tables place key h.entered key.given h.given i))))
+      ∙ ap (λ l. option_map (λ (k : KeyedLoad). k.load) (option_map (flagged_load (load_key (item_before all number)) (load_key (slice_get all (number + 1)))) l))
+      (load_at input h.tables place key h.entered key.given h.given))
+
+-- no more BY variables are in common than there are
+pub common_within : (input : InputKeys) (start given first m : ℕ) → first ≡ common_at_load input start given → m ≡ length input.descending → first ≤ m
+common_within input start given first m e f = by (nat_eq given 0) e
+  where
+    by : (b : Bool) → first ≡ (if b then common_before input start else length input.descending) → first ≤ m
+    by true q = omega (arith, q, f, before_within input start)
+    by false q = omega (arith, q, f)
+
+pub behind_within : (input : InputKeys) (key : KeyRows) (last m : ℕ) → last ≡ common_behind_load input key → m ≡ length input.descending → last ≤ m
+behind_within input key last m e f = by (nat_lt (key.given + 1) key.count) e
+  where
+    by : (b : Bool) → last ≡ (if b then length input.descending else common_before input key.end) → last ≤ m
+    by true q = omega (arith, q, f)
+    by false q = omega (arith, q, f, before_within input key.end)

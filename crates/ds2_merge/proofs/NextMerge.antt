@@ -33,11 +33,9 @@ current_next input m (Some key) h e n =
 same_key : (input : InputKeys) (place : KeyPlace) (key : KeyRows) (g : ℕ) → IsKeyEntered input place key → IsKeyEntered input place (record key { given = g })
 same_key input place key g h = record {
   here = h.here;
-  first = h.first;
-  rows = h.rows;
-  others = h.others;
-  counts = h.counts;
-  there = h.there;
+  end = h.end;
+  run = h.run;
+  tables = h.tables;
   count = h.count;
   some = h.some;
 }

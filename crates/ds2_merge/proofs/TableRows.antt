@@ -1,19 +1,14 @@
--- The rows of one table among the rows of all.
-use Rattle.std.proofs.Common.{◌≡◌, ℕ, zero, suc, ◌+◌, ◌<◌, ◌≤◌, Bool, true, false, nat_eq, ◌&&◌, cond, List, [], ◌∷◌, ◌++◌, map, length, drop, refl, sym, ap, ◌∙◌, arith}
-use Rattle.std.specs.Prelude.{filter, get_or}
-use Rattle.std.specs.List.{list_all}
+-- The rows of one table among the rows of a key.
+use Rattle.std.proofs.Common.{◌≡◌, ℕ, zero, suc, ◌+◌, ◌<◌, ◌≤◌, Bool, true, false, nat_eq, ◌&&◌, cond, List, [], ◌∷◌, ◌++◌, map, length, refl, sym, ap, ◌∙◌, subst, true≢false, arith}
+use Rattle.std.specs.Prelude.{filter, slice_get}
 use Rattle.std.proofs.lemmas.Bool.Decides.{Decides-eqb}
 use Rattle.std.proofs.lemmas.List.{append-nil}
 use Rattle.std.proofs.lemmas.List.Elements.{filter-append}
 use Rattle.ds2_value.specs.Order.{same_row}
 use Rattle.ds2_value.specs.declared.value.Value.{Value}
-use Rattle.ds2_table.specs.LoadLaws.{HaveTableKeys, AreKeys, AreSorted, rows_of_key}
-use Rattle.ds2_table.specs.Loads.{InputRow, numbered_rows, rows_with_key}
-use Rattle.ds2_table.proofs.Sorted.{AllFit, not_before_row, first_part, second_part, order_fits, sorted}
-use Rattle.ds2_reading.specs.RowsLeft.{ordered_rows, rows_not_given, rows_left}
-use Rattle.ds2_reading.proofs.FirstLeft.{left_fit, left_sorted, ordered_fit, ordered_sorted, not_given_fit, all_in_order, stable_of}
-use Rattle.ds2_reading.proofs.Keys.{one_has}
-use Rattle.ds2_reading.proofs.Unique.{unique}
+use Rattle.ds2_table.specs.LoadLaws.{rows_of_key}
+use Rattle.ds2_table.specs.Loads.{InputRow, numbered_rows, input_rows, rows_with_key}
+use Rattle.ds2_merge.specs.KeyPlaces.{is_row_of}
 
 -- the test for rows of a table
 abbrev pub is_of : ℕ → InputRow → Bool
@@ -58,134 +53,125 @@ of_key_and_table t key (x ∷ xs) = by (same_row x.key key) (of_key_and_table t 
         ap (λ b. cond b (x ∷ of_both t key xs) (of_both t key xs)) (and_true (nat_eq x.table t)) ∙ ap (λ r. cond (nat_eq x.table t) (x ∷ r) r) again
     by false again = ap (λ b. cond b (x ∷ of_both t key xs) (of_both t key xs)) (and_false (nat_eq x.table t)) ∙ again
 
-swapped : (p q : InputRow → Bool) (rows : List InputRow) → filter p (filter q rows) ≡ filter q (filter p rows)
-swapped p q [] = refl
-swapped p q (x ∷ xs) = by (p x) (q x) refl refl (swapped p q xs)
+-- ---- rows that climb from table to table
+
+-- no row is of a table before this one, or before that of a row in front of it
+abbrev pub Climb : ℕ → List InputRow → Type 0
+Climb t [] = Unit {0}
+Climb t (row ∷ rows) = (t ≤ row.table) × Climb row.table rows
+
+-- all of them are of tables before this one
+abbrev pub AreBelow : ℕ → List InputRow → Type 0
+AreBelow t [] = Unit {0}
+AreBelow t (row ∷ rows) = (row.table < t) × AreBelow t rows
+
+-- all of them are of this table
+abbrev pub AreOf : ℕ → List InputRow → Type 0
+AreOf t [] = Unit {0}
+AreOf t (row ∷ rows) = (row.table ≡ t) × AreOf t rows
+
+lower_climb : (s t : ℕ) (rows : List InputRow) → s ≤ t → Climb t rows → Climb s rows
+lower_climb s t [] l c = tt
+lower_climb s t (row ∷ rows) l c = (omega (arith, l, c.0), c.1)
+
+climb_joined : (t : ℕ) (xs ys : List InputRow) → AreOf t xs → Climb t ys → Climb t (xs ++ ys)
+climb_joined t [] ys o c = c
+climb_joined t (x ∷ xs) ys o c = (omega (arith, o.0), lower_climb x.table t (xs ++ ys) (omega (arith, o.0)) (climb_joined t xs ys o.1 c))
+
+numbered_of : (t number : ℕ) (keys : List (List Value)) → AreOf t (numbered_rows t number keys)
+numbered_of t number [] = tt
+numbered_of t number (key ∷ keys) = (refl, numbered_of t (number + 1) keys)
+
+-- the rows of tables in their order
+pub inputs_climb : (t : ℕ) (tables : List (List (List Value))) → Climb t (input_rows t tables)
+inputs_climb t [] = tt
+inputs_climb t (keys ∷ tables) =
+    climb_joined t (numbered_rows t 0 keys) (input_rows (t + 1) tables) (numbered_of t 0 keys)
+    (lower_climb t (t + 1) (input_rows (t + 1) tables) (omega arith) (inputs_climb (t + 1) tables))
+
+-- some of them
+pub kept_climb : (p : InputRow → Bool) (t : ℕ) (rows : List InputRow) → Climb t rows → Climb t (filter p rows)
+kept_climb p t [] c = tt
+kept_climb p t (row ∷ rows) c = by (p row) (kept_climb p row.table rows c.1)
   where
-    by : (a b : Bool) → p x ≡ a → q x ≡ b → filter p (filter q xs) ≡ filter q (filter p xs)
-        → filter p (cond b (x ∷ filter q xs) (filter q xs)) ≡ filter q (cond a (x ∷ filter p xs) (filter p xs))
-    by true true e f again =
-        ap (λ c. cond c (x ∷ filter p (filter q xs)) (filter p (filter q xs))) e
-        ∙ ap (λ r. x ∷ r) again
-        ∙ sym (ap (λ c. cond c (x ∷ filter q (filter p xs)) (filter q (filter p xs))) f)
-    by true false e f again = again ∙ sym (ap (λ c. cond c (x ∷ filter q (filter p xs)) (filter q (filter p xs))) f)
-    by false true e f again = ap (λ c. cond c (x ∷ filter p (filter q xs)) (filter p (filter q xs))) e ∙ again
-    by false false e f again = again
+    by : (b : Bool) → Climb row.table (filter p rows) → Climb t (cond b (row ∷ filter p rows) (filter p rows))
+    by true again = (c.0, again)
+    by false again = lower_climb t row.table (filter p rows) c.0 again
 
-keep_all : (p : InputRow → Bool) (rows : List InputRow) → list_all p rows ≡ true → filter p rows ≡ rows
-keep_all p [] h = refl
-keep_all p (x ∷ xs) h =
-    ap (λ b. cond b (x ∷ filter p xs) (filter p xs)) (first_part (p x) (list_all p xs) h) ∙ ap (λ r. x ∷ r) (keep_all p xs (second_part (p x) (list_all p xs) h))
+-- those behind the rows of a table
+pub climb_behind : (t : ℕ) (xs ys : List InputRow) → AreOf t xs → Climb t (xs ++ ys) → Climb t ys
+climb_behind t [] ys o c = c
+climb_behind t (x ∷ xs) ys o c = climb_behind t xs ys o.1 (lower_climb t x.table (xs ++ ys) (omega (arith, o.0)) c.1)
 
-keep_none : (p q : InputRow → Bool) (rows : List InputRow) → list_all p rows ≡ true → ((x : InputRow) → p x ≡ true → q x ≡ false) → filter q rows ≡ []
-keep_none p q [] h e = refl
-keep_none p q (x ∷ xs) h e =
-    ap (λ b. cond b (x ∷ filter q xs) (filter q xs)) (e x (first_part (p x) (list_all p xs) h)) ∙ keep_none p q xs (second_part (p x) (list_all p xs) h) e
-
-fits_kept : (p : InputRow → Bool) (ds : List Bool) (rows : List InputRow) → AllFit ds rows → AllFit ds (filter p rows)
-fits_kept p ds [] f = tt
-fits_kept p ds (x ∷ xs) f = by (p x) (fits_kept p ds xs f.1)
+-- where the first one is of another table, they are of later ones
+pub climb_more : (t : ℕ) (rows : List InputRow) → Climb t rows → is_row_of t (slice_get rows 0) ≡ false → Climb (t + 1) rows
+climb_more t [] c n = tt
+climb_more t (row ∷ rows) c n =
+    let d = Decides-eqb row.table t in
+    let apart : row.table ≡ t → ⊥ = λ e. true≢false (sym (d.1 e) ∙ n) in
+    (above t row.table c.0 apart, c.1)
   where
-    by : (b : Bool) → AllFit ds (filter p xs) → AllFit ds (cond b (x ∷ filter p xs) (filter p xs))
-    by true again = (f.0, again)
+    above : (a b : ℕ) → a ≤ b → (b ≡ a → ⊥) → a + 1 ≤ b
+    above zero zero l n = absurd (n refl)
+    above zero (suc b) l n = omega arith
+    above (suc a) zero l n = absurd (omega (arith, l))
+    above (suc a) (suc b) l n = let m : a + 1 ≤ b = above a b (omega (arith, l)) (λ e. n (ap suc e)) in omega (arith, m)
+
+pub below_joined : (t : ℕ) (xs ys : List InputRow) → AreBelow t xs → AreOf t ys → AreBelow (t + 1) (xs ++ ys)
+below_joined t [] [] b o = tt
+below_joined t [] (y ∷ ys) b o = (omega (arith, o.0), below_joined t [] ys tt o.1)
+below_joined t (x ∷ xs) ys b o = (omega (arith, b.0), below_joined t xs ys b.1 o)
+
+none_below : (t : ℕ) (rows : List InputRow) → AreBelow t rows → of_table t rows ≡ []
+none_below t [] b = refl
+none_below t (row ∷ rows) b =
+    let apart : row.table ≡ t → ⊥ = λ e. absurd (omega (arith, e, b.0)) in
+    ap (λ c. cond c (row ∷ of_table t rows) (of_table t rows)) (eq_apart row.table t apart) ∙ none_below t rows b.1
+
+none_above : (t s : ℕ) (rows : List InputRow) → t < s → Climb s rows → of_table t rows ≡ []
+none_above t s [] l c = refl
+none_above t s (row ∷ rows) l c =
+    let apart : row.table ≡ t → ⊥ = λ e. absurd (omega (arith, e, l, c.0)) in
+    ap (λ b. cond b (row ∷ of_table t rows) (of_table t rows)) (eq_apart row.table t apart) ∙ none_above t row.table rows (omega (arith, l, c.0)) c.1
+
+all_of : (t : ℕ) (rows : List InputRow) → AreOf t rows → of_table t rows ≡ rows
+all_of t [] o = refl
+all_of t (row ∷ rows) o =
+    let d = Decides-eqb row.table t in
+    ap (λ b. cond b (row ∷ of_table t rows) (of_table t rows)) (d.1 o.0) ∙ ap (λ r. row ∷ r) (all_of t rows o.1)
+
+-- all rows are of tables that are there
+pub inputs_below : (t : ℕ) (tables : List (List (List Value))) → AreBelow (t + length tables) (input_rows t tables)
+inputs_below t [] = tt
+inputs_below t (keys ∷ tables) =
+    let e : t + 1 + length tables ≡ t + suc (length tables) = omega arith in
+    let P : ℕ → Type 0 = λ n. AreBelow n (input_rows (t + 1) tables) in
+    below_parts (t + suc (length tables)) (numbered_rows t 0 keys) (input_rows (t + 1) tables)
+    (of_below t (t + suc (length tables)) (numbered_rows t 0 keys) (omega arith) (numbered_of t 0 keys)) (subst P e (inputs_below (t + 1) tables))
+  where
+    of_below : (t n : ℕ) (rows : List InputRow) → t < n → AreOf t rows → AreBelow n rows
+    of_below t n [] l o = tt
+    of_below t n (row ∷ rows) l o = (omega (arith, l, o.0), of_below t n rows l o.1)
+
+    below_parts : (n : ℕ) (xs ys : List InputRow) → AreBelow n xs → AreBelow n ys → AreBelow n (xs ++ ys)
+    below_parts n [] ys a b = b
+    below_parts n (x ∷ xs) ys a b = (a.0, below_parts n xs ys a.1 b)
+
+pub kept_below : (p : InputRow → Bool) (n : ℕ) (rows : List InputRow) → AreBelow n rows → AreBelow n (filter p rows)
+kept_below p n [] b = tt
+kept_below p n (row ∷ rows) b = by (p row) (kept_below p n rows b.1)
+  where
+    by : (t : Bool) → AreBelow n (filter p rows) → AreBelow n (cond t (row ∷ filter p rows) (filter p rows))
+    by true again = (b.0, again)
     by false again = again
 
-all_kept : (p test : InputRow → Bool) (rows : List InputRow) → list_all test rows ≡ true → list_all test (filter p rows) ≡ true
-all_kept p test [] h = refl
-all_kept p test (x ∷ xs) h = by (p x) (all_kept p test xs (second_part (test x) (list_all test xs) h))
-  where
-    by : (b : Bool) → list_all test (filter p xs) ≡ true → list_all test (cond b (x ∷ filter p xs) (filter p xs)) ≡ true
-    by true again = ap (λ b. b && list_all test (filter p xs)) (first_part (test x) (list_all test xs) h) ∙ again
-    by false again = again
-
-sorted_kept : (p : InputRow → Bool) (ds : List Bool) (rows : List InputRow) → AreSorted ds rows → AreSorted ds (filter p rows)
-sorted_kept p ds [] s = tt
-sorted_kept p ds (x ∷ xs) s = by (p x) (sorted_kept p ds xs s.1)
-  where
-    by : (b : Bool) → AreSorted ds (filter p xs) → AreSorted ds (cond b (x ∷ filter p xs) (filter p xs))
-    by true again = (all_kept p (not_before_row ds x) xs s.0, again)
-    by false again = again
-
--- ---- rows of tables
-
-all_left : (p : InputRow → Bool) (n : ℕ) (rows : List InputRow) → list_all p rows ≡ true → list_all p (drop n rows) ≡ true
-all_left p zero rows h = h
-all_left p (suc n) [] h = refl
-all_left p (suc n) (x ∷ xs) h = all_left p n xs (second_part (p x) (list_all p xs) h)
-
-all_numbered : (t number : ℕ) (keys : List (List Value)) → list_all (is_of t) (numbered_rows t number keys) ≡ true
-all_numbered t number [] = refl
-all_numbered t number (key ∷ keys) = ap (λ b. b && list_all (is_of t) (numbered_rows t (number + 1) keys)) (eq_self t) ∙ all_numbered t (number + 1) keys
-
-all_ordered : (ds : List Bool) (t n : ℕ) (keys : List (List Value)) → list_all (is_of t) (drop n (ordered_rows ds t keys)) ≡ true
-all_ordered ds t n keys =
-    all_left (is_of t) n (ordered_rows ds t keys) (all_in_order ds (is_of t) (numbered_rows t 0 keys) ∙ all_numbered t 0 keys)
-
--- the rows of another table
-other_table : (ds : List Bool) (t u n : ℕ) (keys : List (List Value)) → (t ≡ u → ⊥) → of_table t (drop n (ordered_rows ds u keys)) ≡ []
-other_table ds t u n keys apart = keep_none (is_of u) (is_of t) (drop n (ordered_rows ds u keys)) (all_ordered ds u n keys) differ
-  where
-    differ : (x : InputRow) → is_of u x ≡ true → is_of t x ≡ false
-    differ x h = let d = Decides-eqb x.table u in let same = d.0 h in eq_apart x.table t (λ e. apart (sym e ∙ same))
-
-none_later : (ds : List Bool) (t base : ℕ) (tables : List (List (List Value))) (given : List ℕ) → t < base → of_table t (rows_not_given ds base tables given) ≡ []
-none_later ds t base [] given l = refl
-none_later ds t base (keys ∷ tables) [] l =
-    let apart : t ≡ base → ⊥ = λ e. absurd (omega (arith, e, l)) in
-    filter-append (is_of t) (ordered_rows ds base keys) (rows_not_given ds (base + 1) tables [])
-    ∙ (λ i. other_table ds t base 0 keys apart i ++ none_later ds t (base + 1) tables [] (omega (arith, l)) i)
-none_later ds t base (keys ∷ tables) (g ∷ given) l =
-    let apart : t ≡ base → ⊥ = λ e. absurd (omega (arith, e, l)) in
-    filter-append (is_of t) (drop g (ordered_rows ds base keys)) (rows_not_given ds (base + 1) tables given)
-    ∙ (λ i. other_table ds t base g keys apart i ++ none_later ds t (base + 1) tables given (omega (arith, l)) i)
-
-of_not_given : (ds : List Bool) (base u t : ℕ) (tables : List (List (List Value))) (given : List ℕ) → base + u ≡ t → u < length tables → length tables ≤ length given
-    → of_table t (rows_not_given ds base tables given) ≡ drop (get_or given u 0) (ordered_rows ds t (get_or tables u []))
-of_not_given ds base u t [] given e l m = absurd (omega (arith, l))
-of_not_given ds base u t (keys ∷ tables) [] e l m = absurd (omega (arith, m))
-of_not_given ds base zero t (keys ∷ tables) (g ∷ given) e l m =
-    let same : base ≡ t = omega (arith, e) in
-    filter-append (is_of t) (drop g (ordered_rows ds base keys)) (rows_not_given ds (base + 1) tables given)
-    ∙ (λ i. of_table t (drop g (ordered_rows ds (same i) keys)) ++ none_later ds t (base + 1) tables given (omega (arith, same)) i)
-    ∙ append-nil (of_table t (drop g (ordered_rows ds t keys)))
-    ∙ keep_all (is_of t) (drop g (ordered_rows ds t keys)) (all_ordered ds t g keys)
-of_not_given ds base (suc u) t (keys ∷ tables) (g ∷ given) e l m =
-    let apart : t ≡ base → ⊥ = λ k. absurd (omega (arith, e, k)) in
-    filter-append (is_of t) (drop g (ordered_rows ds base keys)) (rows_not_given ds (base + 1) tables given)
-    ∙ ap (λ r. r ++ of_table t (rows_not_given ds (base + 1) tables given)) (other_table ds t base g keys apart)
-    ∙ of_not_given ds (base + 1) u t tables given (omega (arith, e)) (omega (arith, l)) (omega (arith, m))
-
-module _ (ds : List Bool) (tables : List (List (List Value))) (given : List ℕ) (t : ℕ) (h : HaveTableKeys ds tables) (l : t < length tables) (m : length tables ≤ length given) where
-  abbrev rows : List InputRow
-  rows = rows_not_given ds 0 tables given
-
-  abbrev all : List InputRow
-  all = ordered_rows ds t (get_or tables t [])
-
-  abbrev own : List InputRow
-  own = drop (get_or given t 0) all
-
-  keys : AreKeys ds (get_or tables t [])
-  keys = one_has ds tables t h
-
-  fit : AllFit ds rows
-  fit = not_given_fit ds 0 tables given h
-
-  same : (key : List Value) → rows_of_key key (of_table t (rows_left ds tables given)) ≡ rows_of_key key own
-  same key =
-      let z : 0 + t ≡ t = omega arith in
-      swapped (λ (row : InputRow). same_row row.key key) (is_of t) (rows_left ds tables given)
-      ∙ ap (of_table t) (stable_of ds key rows fit)
-      ∙ swapped (is_of t) (λ (row : InputRow). same_row row.key key) rows
-      ∙ ap (rows_of_key key) (of_not_given ds 0 t t tables given z l m)
-
-  -- the rows of a table among those that are left are the rows that are left of it
-  pub left_of_table : of_table t (rows_left ds tables given) ≡ drop (get_or given t 0) (ordered_rows ds t (get_or tables t []))
-  left_of_table =
-      unique ds (of_table t (rows_left ds tables given)) own (fits_kept (is_of t) ds (rows_left ds tables given) (order_fits ds rows fit))
-      (left_fit ds (get_or given t 0) all (ordered_fit ds t (get_or tables t []) keys))
-      (sorted_kept (is_of t) ds (rows_left ds tables given) (sorted ds rows fit))
-      (left_sorted ds (get_or given t 0) all (ordered_sorted ds t (get_or tables t []) keys)) same
+-- the rows of a table between those of tables before and behind it
+pub of_middle : (t : ℕ) (xs ys zs : List InputRow) → AreBelow t xs → AreOf t ys → Climb (t + 1) zs → of_table t (xs ++ (ys ++ zs)) ≡ ys
+of_middle t xs ys zs b o c =
+    filter-append (is_of t) xs (ys ++ zs)
+    ∙ ap (λ r. of_table t xs ++ r) (filter-append (is_of t) ys zs)
+    ∙ (λ i. none_below t xs b i ++ (all_of t ys o i ++ none_above t (t + 1) zs (omega arith) c i))
+    ∙ append-nil ys
 
 -- ---- numbers of rows
 

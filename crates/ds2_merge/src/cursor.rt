@@ -11,7 +11,7 @@ use crate::groups::group_places;
 use crate::key_place::{KeyPlace, MergePlace};
 use crate::next_load::next_load;
 use ds2_base::{List, OutOfMemory};
-use ds2_reading::{Load, Reading, SortedTables, Tables};
+use ds2_reading::{Load, Reading, SortedRows, Tables};
 use std::alloc::Global;
 use std::marker::Model;
 use std::sync::Arc;
@@ -19,7 +19,7 @@ use std::sync::Arc;
 /// A cursor over the loads of `merge`. All its memory is taken at opening.
 #[derive(Drop)]
 pub struct MergeCursor {
-    tables: SortedTables,
+    rows: SortedRows,
     grain: u32,
     place: MergePlace,
     // where each group begins, and behind the last one; copies share it
@@ -36,14 +36,14 @@ impl Model for MergeCursor {
     ghost Value = { Cursor };
 
     ghost view = { λ c. record {
-      tables = length c.tables.tables;
-      bys = length c.tables.descending;
+      tables = length c.rows.tables;
+      bys = length c.rows.descending;
       grain = c.grain;
-      loads = merge_loads c.tables.descending c.tables.tables;
+      loads = merge_loads c.rows.descending c.rows.tables;
       given = loads_given c.place;
     } };
 
-    ghost invariant = { λ c. IsReadyToMerge c.tables c.place × StandAtKeys c.tables c.grain (arc_value c.groups) };
+    ghost invariant = { λ c. IsReadyToMerge c.rows c.place × StandAtKeys c.rows c.grain (arc_value c.groups) };
 }
 
 impl MergeCursor {
@@ -61,14 +61,14 @@ impl MergeCursor {
             ≡ cursor_at_start (length reading.now.tables) (length reading.now.bys) grain
             (merge_loads (directions_of reading.now.bys) (keys_of_reading tables.now reading.now))) }
     {
-        let tables = SortedTables::open(alloc, reading, tables)?;
-        let _ = tables.count_rows()?;
-        tables.have_keys();
-        let places = group_places(alloc, &tables, grain as usize)?;
+        let rows = SortedRows::open(alloc, reading, tables)?;
+        let _rows = rows.len();
+        rows.have_keys();
+        let places = group_places(alloc, &rows, grain as usize)?;
         let groups = Arc::new(alloc, places)?;
         let place = MergePlace::between(KeyPlace::start());
         Ok(MergeCursor {
-            tables,
+            rows,
             grain,
             place,
             groups,
@@ -80,7 +80,7 @@ impl MergeCursor {
         ensures load { option_map (load_meaning self.old.tables self.old.bys) result ≡ next_load_of self.old }
         ensures left { self.new ≡ behind_next self.old }
     {
-        next_load(&self.tables, &mut self.place)
+        next_load(&self.rows, &mut self.place)
     }
 
     /// The number of groups: at grain p of loads with equal values of the first p BY variables.
@@ -117,7 +117,7 @@ impl MergeCursor {
         ensures { IfOk result (λ cursor. cursor ≡ self.now) }
     {
         Ok(MergeCursor {
-            tables: self.tables.copy(alloc)?,
+            rows: self.rows.copy(alloc)?,
             grain: self.grain,
             place: self.place,
             groups: self.groups.clone()?,

@@ -2,26 +2,23 @@
 ghost use Rattle.std.specs.Prelude.{◌≡◌, ◌+◌, ◌^◌, ◌<◌};
 ghost use Rattle.ds2_merge.specs.KeyPlaces.{opening_key_place, key_place_behind, between_keys, behind_load_of_key};
 
-use ds2_reading::TableRow;
-
 /// A place between the loads of two keys.
 #[derive(Clone, Copy)]
 pub(crate) struct KeyPlace {
-    /// How many rows of each table have a key that comes before, from its first one in BY order on.
-    pub given: [usize; 16],
+    /// The place in BY order of the first row of the next key.
+    pub start: usize,
     /// How many loads were given.
     pub loads: usize,
-    /// The first row of the key before.
-    pub previous: Option<TableRow>,
 }
 
 /// The rows of a key, behind a place between keys.
 #[derive(Clone, Copy)]
 pub(crate) struct KeyRows {
-    /// The first of them.
-    pub first: TableRow,
-    /// How many rows of each table come before those of the next key.
-    pub end: [usize; 16],
+    /// Where the rows of each table begin, and where they end.
+    pub begins: [u32; 16],
+    pub ends: [u32; 16],
+    /// Where the next key begins.
+    pub end: usize,
     /// How many loads the key has.
     pub count: usize,
     /// How many of them were given.
@@ -40,11 +37,7 @@ impl KeyPlace {
     pub(crate) fn start() -> KeyPlace
         ensures { result ≡ opening_key_place }
     {
-        KeyPlace {
-            given: [0; 16],
-            loads: 0,
-            previous: None,
-        }
+        KeyPlace { start: 0, loads: 0 }
     }
 
     /// The place behind the loads of a key.
@@ -53,9 +46,8 @@ impl KeyPlace {
         ensures { result ≡ key_place_behind self.now key.now }
     {
         KeyPlace {
-            given: key.end,
+            start: key.end,
             loads: self.loads + key.count,
-            previous: Some(key.first),
         }
     }
 }
@@ -76,7 +68,8 @@ impl MergePlace {
     {
         if key.given + 1 < key.count {
             let further = KeyRows {
-                first: key.first,
+                begins: key.begins,
+                ends: key.ends,
                 end: key.end,
                 count: key.count,
                 given: key.given + 1,

@@ -13,15 +13,15 @@ fn with_flag(flag: bool, flags: u16) -> u16
 }
 
 /// For each of so many tables whether it has rows between two places.
-pub(crate) fn tables_between(tables: usize, given: &[usize; 16], end: &[usize; 16]) -> u16
+pub(crate) fn tables_between(tables: usize, begins: &[u32; 16], ends: &[u32; 16]) -> u16
     requires { tables ≤ 16 }
-    ensures { bits_of tables result ≡ map (λ t. nat_lt (get_or given.now t 0) (get_or end.now t 0)) (range_with_len 0 tables) }
+    ensures { bits_of tables result ≡ map (λ t. nat_lt (get_or begins.now t 0) (get_or ends.now t 0)) (range_with_len 0 tables) }
 {
     let mut present = 0u16;
     let mut table = tables;
     'tables: while table > 0 {
         table -= 1;
-        present = with_flag(given[table] < end[table], present);
+        present = with_flag(begins[table] < ends[table], present);
     }
     present
 }

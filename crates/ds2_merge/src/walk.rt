@@ -10,7 +10,7 @@ ghost use Rattle.ds2_reading.specs.ReadingKeys.{directions_of, keys_of_reading};
 use crate::key_place::{KeyPlace, MergePlace};
 use crate::next_load::next_load;
 use ds2_base::OutOfMemory;
-use ds2_reading::{Load, Reading, SortedTables, Tables};
+use ds2_reading::{Load, Reading, SortedRows, Tables};
 use std::alloc::Global;
 use std::marker::Model;
 
@@ -18,7 +18,7 @@ use std::marker::Model;
 /// order alone. Without BY variables all rows have one key. All its memory is taken at opening. A contract sees a cursor at grain 0.
 #[derive(Drop)]
 pub struct MergeWalk {
-    tables: SortedTables,
+    rows: SortedRows,
     place: MergePlace,
 }
 
@@ -31,14 +31,14 @@ impl Model for MergeWalk {
     ghost Value = { Cursor };
 
     ghost view = { λ w. record {
-      tables = length w.tables.tables;
-      bys = length w.tables.descending;
+      tables = length w.rows.tables;
+      bys = length w.rows.descending;
       grain = 0;
-      loads = merge_loads w.tables.descending w.tables.tables;
+      loads = merge_loads w.rows.descending w.rows.tables;
       given = loads_given w.place;
     } };
 
-    ghost invariant = { λ w. IsReadyToMerge w.tables w.place };
+    ghost invariant = { λ w. IsReadyToMerge w.rows w.place };
 }
 
 impl MergeWalk {
@@ -49,11 +49,11 @@ impl MergeWalk {
             ≡ cursor_at_start (length reading.now.tables) (length reading.now.bys) 0
             (merge_loads (directions_of reading.now.bys) (keys_of_reading tables.now reading.now))) }
     {
-        let tables = SortedTables::open(alloc, reading, tables)?;
-        let _ = tables.count_rows()?;
-        tables.have_keys();
+        let rows = SortedRows::open(alloc, reading, tables)?;
+        let _rows = rows.len();
+        rows.have_keys();
         let place = MergePlace::between(KeyPlace::start());
-        Ok(MergeWalk { tables, place })
+        Ok(MergeWalk { rows, place })
     }
 
     /// The next load; None exactly behind the last one. Takes no memory.
@@ -61,7 +61,7 @@ impl MergeWalk {
         ensures load { option_map (load_meaning self.old.tables self.old.bys) result ≡ next_load_of self.old }
         ensures left { self.new ≡ behind_next self.old }
     {
-        next_load(&self.tables, &mut self.place)
+        next_load(&self.rows, &mut self.place)
     }
 
     /// A walk over the same loads, at the same load. The numbers of the rows are shared.
@@ -69,7 +69,7 @@ impl MergeWalk {
         ensures { IfOk result (λ walk. walk ≡ self.now) }
     {
         Ok(MergeWalk {
-            tables: self.tables.copy(alloc)?,
+            rows: self.rows.copy(alloc)?,
             place: self.place,
         })
     }

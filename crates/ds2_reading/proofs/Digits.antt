@@ -230,19 +230,19 @@ same_digits (suc n) a (b ∷ bs) u =
 -- ---- a walk over the digits
 
 -- one more digit is taken
-pub digits_step : (i front : ℕ) (cs : Chars) (digit : ℕ) (after : Chars) (whole : ℕ) → i < 17 → digit ≡ first_digit cs → after ≡ behind_digit cs
-    → head_with_digits (17 - i) front cs ≡ whole → head_with_digits (17 - (i + 1)) (front * 128 + digit) after ≡ whole
+pub digits_step : (i front : ℕ) (cs : Chars) (digit : ℕ) (after : Chars) (whole : ℕ) → i < 12 → digit ≡ first_digit cs → after ≡ behind_digit cs
+    → head_with_digits (12 - i) front cs ≡ whole → head_with_digits (12 - (i + 1)) (front * 128 + digit) after ≡ whole
 unfolding head_with_digits
 digits_step i front cs digit after whole l d b e =
-    let left : 17 - i ≡ suc (17 - (i + 1)) = omega (arith, l) in
-    (λ k. head_with_digits (17 - (i + 1)) (front * 128 + d k) (b k)) ∙ ap (λ n. head_with_digits n front cs) (sym left) ∙ e
+    let left : 12 - i ≡ suc (12 - (i + 1)) = omega (arith, l) in
+    (λ k. head_with_digits (12 - (i + 1)) (front * 128 + d k) (b k)) ∙ ap (λ n. head_with_digits n front cs) (sym left) ∙ e
 
 -- all are taken
-pub digits_end : (i front : ℕ) (cs : Chars) (digit whole : ℕ) → 17 ≤ i → digit ≡ rest_digit (padded_cmp cs []) → head_with_digits (17 - i) front cs ≡ whole
+pub digits_end : (i front : ℕ) (cs : Chars) (digit whole : ℕ) → 12 ≤ i → digit ≡ rest_digit (padded_cmp cs []) → head_with_digits (12 - i) front cs ≡ whole
     → front * 128 + digit ≡ whole
 unfolding head_with_digits
 digits_end i front cs digit whole l d e =
-    let none : 17 - i ≡ 0 = omega (arith, l) in
+    let none : 12 - i ≡ 0 = omega (arith, l) in
     ap (λ r. front * 128 + r) d ∙ ap (λ n. head_with_digits n front cs) (sym none) ∙ e
 
 -- ---- the bounds of a head
@@ -271,5 +271,5 @@ one_more_digit i front d l m =
     omega (arith, l, m, power)
 
 -- so many digits fit
-pub front_bound : (i front : ℕ) → i ≤ 17 → front < 2 * 128 ^ i → front < 2 * 128 ^ 17
-front_bound i front l m = let most : 128 ^ i ≤ 128 ^ 17 = pow-le-pow_right (omega arith) l in omega (arith, m, most)
+pub front_bound : (i front : ℕ) → i ≤ 12 → front < 2 * 128 ^ i → front < 2 * 128 ^ 12
+front_bound i front l m = let most : 128 ^ i ≤ 128 ^ 12 = pow-le-pow_right (omega arith) l in omega (arith, m, most)

@@ -6,7 +6,8 @@ use Rattle.std.proofs.lemmas.List.{take_all}
 use Rattle.ds2_value.specs.Order.{value_eq, same_row}
 use Rattle.ds2_value.specs.declared.value.Value.{Value}
 use Rattle.ds2_value.specs.ValueLaws.{value_equiv}
-use Rattle.ds2_table.specs.Loads.{differences, flags_beside, is_new_key}
+use Rattle.ds2_table.specs.Loads.{differences}
+use Rattle.ds2_table.proofs.Sorted.{first_part, second_part}
 use Rattle.ds2_reading.specs.KeyOrder.{part_of_key, parts_in_common}
 use Rattle.ds2_reading.specs.LoadMeaning.{flags_behind}
 
@@ -90,5 +91,38 @@ pub common_new : (m : ℕ) (a b : List Value) → length a ≡ m → length b �
 common_new m a b h k =
     (λ i. not (same_row (sym (take_all m a (omega (arith, h))) i) (sym (take_all m b (omega (arith, k))) i))) ∙ common_below m m a b h k (omega arith)
 
--- for the flags beside a neighbour
-pub ruleset neighbours = (common_within, all_flags, common_flags, common_new)
+-- ---- keys that are equal to others
+
+pub like_differences : (t : Bool) (key a b : List Value) → same_row a b ≡ true → differences t key a ≡ differences t key b
+like_differences t [] a b e = refl
+like_differences t (x ∷ xs) [] [] e = refl
+like_differences t (x ∷ xs) [] (b ∷ bs) e = cc
+like_differences t (x ∷ xs) (a ∷ cs) [] e = cc
+like_differences t (x ∷ xs) (a ∷ cs) (b ∷ bs) e =
+    let q = value_equiv in
+    let same : value_eq x a ≡ value_eq x b = q.symm x a ∙ q.congr a b x (first_part (value_eq a b) (same_row cs bs) e) ∙ q.symm b x in
+    (λ i. (t || not (same i)) ∷ differences (t || not (same i)) xs cs)
+    ∙ ap (λ r. (t || not (value_eq x b)) ∷ r) (like_differences (t || not (value_eq x b)) xs cs bs (second_part (value_eq a b) (same_row cs bs) e))
+
+drop_like : (a b : List Value) → same_row a b ≡ true → (value_eq (part_of_key a 0) (part_of_key b 0) ≡ true) × (same_row (drop 1 a) (drop 1 b) ≡ true)
+drop_like [] [] e = let q = value_equiv in (q.refl (part_of_key [] 0), refl)
+drop_like [] (b ∷ bs) e = cc
+drop_like (a ∷ cs) [] e = cc
+drop_like (a ∷ cs) (b ∷ bs) e = (first_part (value_eq a b) (same_row cs bs) e, second_part (value_eq a b) (same_row cs bs) e)
+
+pub like_common : (m : ℕ) (a b key : List Value) → same_row a b ≡ true → parts_in_common m a key ≡ parts_in_common m b key
+like_common zero a b key e = refl
+like_common (suc m) a b key e =
+    let q = value_equiv in
+    let parts = drop_like a b e in
+    let same : value_eq (part_of_key a 0) (part_of_key key 0) ≡ value_eq (part_of_key b 0) (part_of_key key 0) = q.congr (part_of_key a 0) (part_of_key b 0) (part_of_key key 0) parts.0 in
+    λ i. if same i then like_common m (drop 1 a) (drop 1 b) (drop 1 key) parts.1 i + 1 else 0
+
+-- a key is equal to itself
+pub self_common : (m : ℕ) (key : List Value) → parts_in_common m key key ≡ m
+self_common zero key = refl
+self_common (suc m) key =
+    let q = value_equiv in
+    ap (λ t. if t then parts_in_common m (drop 1 key) (drop 1 key) + 1 else 0) (q.refl (part_of_key key 0))
+    ∙ ap (λ n. n + 1) (self_common m (drop 1 key))
+    ∙ add_one m

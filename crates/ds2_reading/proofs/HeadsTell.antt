@@ -1,25 +1,70 @@
 -- What heads tell of values.
-use Rattle.std.proofs.Common.{◌≡◌, ℕ, ◌%◌, ◌^◌, ◌<◌, ◌≤◌, true, false, List, refl, sym, ap, ◌∙◌, eqb-true, arith, ℤ, pos}
-use Rattle.std.specs.Prelude.{◌<ℤ◌}
-use Rattle.std.specs.Cmp.{ranked, int_cmp_is}
-use Rattle.std.specs.Ordering.{nat_cmp, is_ne, ordering_reverse, MatchOrdering}
+use Rattle.std.proofs.Common.{◌≡◌, ℕ, ◌+◌, ◌%◌, ◌^◌, ◌<◌, ◌≤◌, List, refl, sym, ap, ◌∙◌, arith, lit<, ℤ, pos, negsuc}
+use Rattle.std.specs.Prelude.{◌<ℤ◌, ◌≤ℤ◌, ◌+ℤ◌, ◌*ℤ◌}
+use Rattle.std.specs.Cmp.{int_cmp_is}
+use Rattle.std.specs.Ordering.{int_cmp}
 use Rattle.std.specs.Str.{chars}
 use Rattle.std.specs.declared.cmp.Ordering.{Ordering}
-use Rattle.std.specs.declared.cmp.Ordering.TheVariants.{Less, Equal, Greater}
+use Rattle.std.specs.declared.cmp.Ordering.TheVariants.{Less, Equal}
 use Rattle.std.proofs.lemmas.Int.{ints}
-use Rattle.ds2_value.specs.Order.{key_order}
-use Rattle.ds2_value.specs.ValueLaws.{key_order_total}
+use Rattle.ds2_decimal.specs.Decimal.{Decimal}
+use Rattle.ds2_value.specs.Order.{key_order, exact}
 use Rattle.ds2_value.specs.declared.value.Value.{Value}
 use Rattle.ds2_value.specs.declared.value.Value.TheVariants.{Null, Int, Dec, Txt}
-use Rattle.ds2_value.proofs.OrderLemmas.{order-ints, order-texts, order-nulls}
-use Rattle.ds2_reading.specs.KeyHeads.{tells_all, IsKeyHead}
+use Rattle.ds2_value.proofs.IntegerLemmas.{int_cmp-times}
+use Rattle.ds2_value.proofs.OrderLemmas.{order-ints, order-int-dec, order-dec-int, order-decs, order-texts, order-nulls}
+use Rattle.ds2_reading.specs.KeyHeads.{IsNumberHead, whole, above, before_all, behind_all, IsKeyHead}
 use Rattle.ds2_reading.proofs.Digits.{lower_head, same_head, at_least}
+
+-- ---- numbers
+
+lower_number : (m n : ℕ) (x y : ℤ) → IsNumberHead m x → IsNumberHead n y → m < n → x <ℤ y
+lower_number m n x y (whole w a u t e) (whole v b s r f) l = omega (arith, ints, a, b, e, f, l)
+lower_number m n x y (whole w a u t e) (above v b s r f g) l = omega (arith, ints, a, b, e, f, l)
+lower_number m n x y (whole w a u t e) (before_all b f) l = absurd (omega (arith, ints, a, t, b, l))
+lower_number m n x y (whole w a u t e) (behind_all b f) l = omega (arith, ints, a, u, e, f)
+lower_number m n x y (above w a u t e h) (whole v b s r f) l = omega (arith, ints, a, b, h, f, l)
+lower_number m n x y (above w a u t e h) (above v b s r f g) l = omega (arith, ints, a, b, h, f, l)
+lower_number m n x y (above w a u t e h) (before_all b f) l = absurd (omega (arith, ints, a, t, b, l))
+lower_number m n x y (above w a u t e h) (behind_all b f) l = omega (arith, ints, a, u, h, f)
+lower_number m n x y (before_all a e) (whole v b s r f) l = omega (arith, ints, e, r, f)
+lower_number m n x y (before_all a e) (above v b s r f g) l = omega (arith, ints, e, r, f)
+lower_number m n x y (before_all a e) (before_all b f) l = absurd (omega (arith, a, b, l))
+lower_number m n x y (before_all a e) (behind_all b f) l = omega (arith, ints, e, f)
+lower_number m n x y (behind_all a e) (whole v b s r f) l = absurd (omega (arith, ints, a, b, s, l))
+lower_number m n x y (behind_all a e) (above v b s r f g) l = absurd (omega (arith, ints, a, b, s, l))
+lower_number m n x y (behind_all a e) (before_all b f) l = absurd (omega (arith, a, b, l))
+lower_number m n x y (behind_all a e) (behind_all b f) l = absurd (omega (arith, a, b, l))
+
+same_number : (m n : ℕ) (x y : ℤ) → IsNumberHead m x → IsNumberHead n y → m ≡ n → m % 128 ≡ 32 → x ≡ y
+same_number m n x y (whole w a u t e) (whole v b s r f) l z = omega (arith, ints, a, b, e, f, l)
+same_number m n x y (whole w a u t e) (above v b s r f g) l z = absurd (omega (arith, ints, a, b, l))
+same_number m n x y (whole w a u t e) (before_all b f) l z = absurd (omega (arith, ints, a, b, l))
+same_number m n x y (whole w a u t e) (behind_all b f) l z = absurd (omega (arith, ints, a, b, l))
+same_number m n x y (above w a u t e h) k l z = absurd (left_out m (w +ℤ pos (2 ^ 63 + 1)) a t z)
+  where
+    left_out : (m : ℕ) (w : ℤ) → pos m ≡ w *ℤ pos 128 +ℤ pos 33 → pos 1 ≤ℤ w → m % 128 ≡ 32 → ⊥
+    left_out m (pos n) a t z = absurd (omega (arith, ints, a, z))
+    left_out m (negsuc n) a t z = absurd (omega (arith, ints, t))
+same_number m n x y (before_all a e) k l z = absurd (omega (arith, a, z))
+same_number m n x y (behind_all a e) k l z = absurd (omega (arith, a, z))
+
+-- above null, and below all texts
+number_bounds : (m : ℕ) (x : ℤ) → IsNumberHead m x → (32 < m) × (m < 128 ^ 13)
+number_bounds m x (whole w a u t e) = (omega (arith, ints, a, t), omega (arith, ints, a, u))
+number_bounds m x (above w a u t e h) = (omega (arith, ints, a, t), omega (arith, ints, a, u))
+number_bounds m x (before_all a e) = (omega (arith, a), omega (arith, a))
+number_bounds m x (behind_all a e) = (omega (arith, a), omega (arith, a))
 
 -- ---- kinds of values
 
 null_int : (i : ℤ) → key_order Null (Int i) ≡ Less
 unfolding key_order
 null_int i = refl
+
+null_dec : (d : Decimal) → key_order Null (Dec d) ≡ Less
+unfolding key_order
+null_dec d = refl
 
 null_text : (t : List ℕ) → key_order Null (Txt t) ≡ Less
 unfolding key_order
@@ -29,76 +74,57 @@ int_text : (i : ℤ) (t : List ℕ) → key_order (Int i) (Txt t) ≡ Less
 unfolding key_order
 int_text i t = refl
 
+dec_text : (d : Decimal) (t : List ℕ) → key_order (Dec d) (Txt t) ≡ Less
+unfolding key_order
+dec_text d t = refl
+
+order_exact : (i j : ℤ) → key_order (Int i) (Int j) ≡ int_cmp (exact (Int i)) (exact (Int j))
+order_exact i j = order-ints i j ∙ sym (int_cmp-times i j (10 ^ 38) (lit< tt))
+
 -- the head of a text
-text_least : (head : ℕ) (t : List ℕ) → IsKeyHead head (Txt t) → 128 ^ 18 ≤ head
-text_least head t h = omega (arith, h, at_least 17 0 1 (chars t) (omega arith))
-
-lower_int : (x y : ℕ) (i j : ℤ) → IsKeyHead x (Int i) → IsKeyHead y (Int j) → x < y → i <ℤ j
-lower_int x y i j h k l = omega (arith, ints, h.2, k.2, l)
-
-same_int : (x y : ℕ) (i j : ℤ) → IsKeyHead x (Int i) → IsKeyHead y (Int j) → x ≡ y → i ≡ j
-same_int x y i j h k e = omega (arith, ints, h.2, k.2, e)
+text_least : (head : ℕ) (t : List ℕ) → IsKeyHead head (Txt t) → 128 ^ 13 ≤ head
+text_least head t h = omega (arith, h, at_least 12 0 1 (chars t) (omega arith))
 
 -- ---- heads that differ, and equal ones that tell all
 
-told_apart : (x y : ℕ) (p q : Value) → IsKeyHead x p → IsKeyHead y q → x < y → key_order p q ≡ Less
-told_apart x y Null Null h k l = absurd (omega (arith, h, k, l))
-told_apart x y Null (Int j) h k l = null_int j
-told_apart x y Null (Dec e) h k l = absurd k
-told_apart x y Null (Txt t) h k l = null_text t
-told_apart x y (Int i) Null h k l = absurd (omega (arith, h.0, k, l))
-told_apart x y (Int i) (Int j) h k l = order-ints i j ∙ sym (int_cmp_is i j Less (lower_int x y i j h k l))
-told_apart x y (Int i) (Dec e) h k l = absurd k
-told_apart x y (Int i) (Txt t) h k l = int_text i t
-told_apart x y (Dec d) q h k l = absurd h
-told_apart x y (Txt s) Null h k l = absurd (omega (arith, text_least x s h, k, l))
-told_apart x y (Txt s) (Int j) h k l = absurd (omega (arith, text_least x s h, k.1, l))
-told_apart x y (Txt s) (Dec e) h k l = absurd k
-told_apart x y (Txt s) (Txt t) h k l = order-texts s t ∙ lower_head 17 1 (chars s) (chars t) (omega (arith, h, k, l))
+less : (x y : ℤ) (r : Ordering) → r ≡ int_cmp x y → x <ℤ y → r ≡ Less
+less x y r e l = e ∙ sym (int_cmp_is x y Less l)
 
-told_alike : (x y : ℕ) (p q : Value) → IsKeyHead x p → IsKeyHead y q → x ≡ y → x % 128 ≡ 32 → key_order p q ≡ Equal
-told_alike x y Null Null h k e w = order-nulls
-told_alike x y Null (Int j) h k e w = absurd (omega (arith, h, k.0, e))
-told_alike x y Null (Dec f) h k e w = absurd k
-told_alike x y Null (Txt t) h k e w = absurd (omega (arith, h, text_least y t k, e))
-told_alike x y (Int i) Null h k e w = absurd (omega (arith, h.0, k, e))
-told_alike x y (Int i) (Int j) h k e w = order-ints i j ∙ sym (int_cmp_is i j Equal (same_int x y i j h k e))
-told_alike x y (Int i) (Dec f) h k e w = absurd k
-told_alike x y (Int i) (Txt t) h k e w = absurd (omega (arith, h.1, text_least y t k, e))
-told_alike x y (Dec d) q h k e w = absurd h
-told_alike x y (Txt s) Null h k e w = absurd (omega (arith, text_least x s h, k, e))
-told_alike x y (Txt s) (Int j) h k e w = absurd (omega (arith, text_least x s h, k.1, e))
-told_alike x y (Txt s) (Dec f) h k e w = absurd k
-told_alike x y (Txt s) (Txt t) h k e w = order-texts s t ∙ same_head 17 1 (chars s) (chars t) (sym h ∙ e ∙ k) (ap (λ n. n % 128) (sym h) ∙ w)
+level : (x y : ℤ) (r : Ordering) → r ≡ int_cmp x y → x ≡ y → r ≡ Equal
+level x y r e l = e ∙ sym (int_cmp_is x y Equal l)
 
--- ---- the answer of a comparison of heads
+pub told_apart : (m n : ℕ) (p q : Value) → IsKeyHead m p → IsKeyHead n q → m < n → key_order p q ≡ Less
+told_apart m n Null Null h k l = absurd (omega (arith, h, k, l))
+told_apart m n Null (Int j) h k l = null_int j
+told_apart m n Null (Dec e) h k l = null_dec e
+told_apart m n Null (Txt t) h k l = null_text t
+told_apart m n (Int i) Null h k l = let b = number_bounds m (exact (Int i)) h in absurd (omega (arith, b.0, k, l))
+told_apart m n (Int i) (Int j) h k l = less (exact (Int i)) (exact (Int j)) _ (order_exact i j) (lower_number m n (exact (Int i)) (exact (Int j)) h k l)
+told_apart m n (Int i) (Dec e) h k l = less (exact (Int i)) (exact (Dec e)) _ (order-int-dec i e) (lower_number m n (exact (Int i)) (exact (Dec e)) h k l)
+told_apart m n (Int i) (Txt t) h k l = int_text i t
+told_apart m n (Dec d) Null h k l = let b = number_bounds m (exact (Dec d)) h in absurd (omega (arith, b.0, k, l))
+told_apart m n (Dec d) (Int j) h k l = less (exact (Dec d)) (exact (Int j)) _ (order-dec-int d j) (lower_number m n (exact (Dec d)) (exact (Int j)) h k l)
+told_apart m n (Dec d) (Dec e) h k l = less (exact (Dec d)) (exact (Dec e)) _ (order-decs d e) (lower_number m n (exact (Dec d)) (exact (Dec e)) h k l)
+told_apart m n (Dec d) (Txt t) h k l = dec_text d t
+told_apart m n (Txt s) Null h k l = absurd (omega (arith, text_least m s h, k, l))
+told_apart m n (Txt s) (Int j) h k l = let b = number_bounds n (exact (Int j)) k in absurd (omega (arith, text_least m s h, b.1, l))
+told_apart m n (Txt s) (Dec e) h k l = let b = number_bounds n (exact (Dec e)) k in absurd (omega (arith, text_least m s h, b.1, l))
+told_apart m n (Txt s) (Txt t) h k l = order-texts s t ∙ lower_head 12 1 (chars s) (chars t) (omega (arith, h, k, l))
 
--- where the heads differ, it is that of the values
-pub heads_apart : (x y : ℕ) (p q : Value) (r : Ordering) → IsKeyHead x p → IsKeyHead y q → r ≡ nat_cmp x y → is_ne r ≡ true → r ≡ key_order p q
-heads_apart x y p q Less h k e n = sym (told_apart x y p q h k (ranked x y Less e))
-heads_apart x y p q Equal h k e n = cc
-heads_apart x y p q Greater h k e n =
-    let t = key_order_total in sym (t.antisymm p q ∙ ap ordering_reverse (told_apart y x q p k h (ranked x y Greater e)))
-
-pub level_heads : (x y : ℕ) (r : Ordering) → r ≡ nat_cmp x y → is_ne r ≡ false → x ≡ y
-level_heads x y Less e n = cc
-level_heads x y Equal e n = ranked x y Equal e
-level_heads x y Greater e n = cc
-
--- where they are equal and tell all, the values are equal
-pub heads_alike : (x y : ℕ) (p q : Value) (r : Ordering) → IsKeyHead x p → IsKeyHead y q → r ≡ nat_cmp x y → is_ne r ≡ false → tells_all x ≡ true → r ≡ key_order p q
-heads_alike x y p q Less h k e n w = cc
-heads_alike x y p q Equal h k e n w = sym (told_alike x y p q h k (ranked x y Equal e) (eqb-true (x % 128) 32 w))
-heads_alike x y p q Greater h k e n w = cc
-
--- heads stand as BIGINTs do
-pub order_numbers : (x y : ℕ) → key_order (Int (pos x)) (Int (pos y)) ≡ nat_cmp x y
-order_numbers x y = by (nat_cmp x y) (ranked x y (nat_cmp x y) refl)
-  where
-    by : (r : Ordering) → MatchOrdering r (x < y) (x ≡ y) (y < x) → key_order (Int (pos x)) (Int (pos y)) ≡ r
-    by Less l = let low : pos x <ℤ pos y = omega (arith, ints, l) in order-ints (pos x) (pos y) ∙ sym (int_cmp_is (pos x) (pos y) Less low)
-    by Equal e = order-ints (pos x) (pos y) ∙ sym (int_cmp_is (pos x) (pos y) Equal (ap pos e))
-    by Greater l = let low : pos y <ℤ pos x = omega (arith, ints, l) in order-ints (pos x) (pos y) ∙ sym (int_cmp_is (pos x) (pos y) Greater low)
-
--- for heads as values
-pub ruleset number_order = (order_numbers)
+pub told_alike : (m n : ℕ) (p q : Value) → IsKeyHead m p → IsKeyHead n q → m ≡ n → m % 128 ≡ 32 → key_order p q ≡ Equal
+told_alike m n Null Null h k e w = order-nulls
+told_alike m n Null (Int j) h k e w = let b = number_bounds n (exact (Int j)) k in absurd (omega (arith, h, b.0, e))
+told_alike m n Null (Dec f) h k e w = let b = number_bounds n (exact (Dec f)) k in absurd (omega (arith, h, b.0, e))
+told_alike m n Null (Txt t) h k e w = absurd (omega (arith, h, text_least n t k, e))
+told_alike m n (Int i) Null h k e w = let b = number_bounds m (exact (Int i)) h in absurd (omega (arith, b.0, k, e))
+told_alike m n (Int i) (Int j) h k e w = level (exact (Int i)) (exact (Int j)) _ (order_exact i j) (same_number m n (exact (Int i)) (exact (Int j)) h k e w)
+told_alike m n (Int i) (Dec f) h k e w = level (exact (Int i)) (exact (Dec f)) _ (order-int-dec i f) (same_number m n (exact (Int i)) (exact (Dec f)) h k e w)
+told_alike m n (Int i) (Txt t) h k e w = let b = number_bounds m (exact (Int i)) h in absurd (omega (arith, b.1, text_least n t k, e))
+told_alike m n (Dec d) Null h k e w = let b = number_bounds m (exact (Dec d)) h in absurd (omega (arith, b.0, k, e))
+told_alike m n (Dec d) (Int j) h k e w = level (exact (Dec d)) (exact (Int j)) _ (order-dec-int d j) (same_number m n (exact (Dec d)) (exact (Int j)) h k e w)
+told_alike m n (Dec d) (Dec f) h k e w = level (exact (Dec d)) (exact (Dec f)) _ (order-decs d f) (same_number m n (exact (Dec d)) (exact (Dec f)) h k e w)
+told_alike m n (Dec d) (Txt t) h k e w = let b = number_bounds m (exact (Dec d)) h in absurd (omega (arith, b.1, text_least n t k, e))
+told_alike m n (Txt s) Null h k e w = absurd (omega (arith, text_least m s h, k, e))
+told_alike m n (Txt s) (Int j) h k e w = let b = number_bounds n (exact (Int j)) k in absurd (omega (arith, text_least m s h, b.1, e))
+told_alike m n (Txt s) (Dec f) h k e w = let b = number_bounds n (exact (Dec f)) k in absurd (omega (arith, text_least m s h, b.1, e))
+told_alike m n (Txt s) (Txt t) h k e w = order-texts s t ∙ same_head 12 1 (chars s) (chars t) (sym h ∙ e ∙ k) (ap (λ n. n % 128) (sym h) ∙ w)

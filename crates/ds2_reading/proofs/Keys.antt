@@ -1,21 +1,18 @@
 -- Keys of the rows of a statement's tables, and their order as lists of numbers.
-use Rattle.std.proofs.Common.{◌≡◌, ℕ, zero, suc, ◌+◌, ◌<◌, ◌≤◌, Bool, List, [], ◌∷◌, ◌++◌, map, length, refl, sym, ap, ◌∙◌, subst, arith}
+use Rattle.std.proofs.Common.{◌≡◌, ℕ, zero, suc, Bool, List, [], ◌∷◌, map, length, refl, sym, ap, ◌∙◌}
 use Rattle.std.specs.Prelude.{slice_get, get_or, Option, Some, None}
 use Rattle.std.specs.Option.{option_map, option_map_or}
 use Rattle.std.proofs.lemmas.List.{length-map}
-use Rattle.std.proofs.lemmas.Option.{slice_get-map, slice_get-get_or, slice_get_past}
+use Rattle.std.proofs.lemmas.Option.{slice_get-map}
 use Rattle.ds2_value.specs.Row.{Row}
 use Rattle.ds2_value.specs.Value.{or_null}
 use Rattle.ds2_value.specs.declared.value.Value.{Value}
 use Rattle.ds2_table.specs.LoadLaws.{AreKeys, HaveTableKeys}
-use Rattle.ds2_table.specs.Loads.{numbered_rows, in_by_order}
 use Rattle.ds2_table.specs.Table.{Contents, table_value}
 use Rattle.ds2_reading.specs.declared.reading.ByKey.{ByKey}
 use Rattle.ds2_reading.specs.declared.reading.ReadTable.{ReadTable}
-use Rattle.ds2_reading.specs.declared.reading.Reading.{Reading}
-use Rattle.ds2_reading.specs.KeyOrder.{numbered_row, part_of_key, IsOrderOfRows, AreOrdersOfRows}
-use Rattle.ds2_reading.specs.ReadingKeys.{directions_of, column_of_slot, columns_of_bys, key_in_columns, keys_in_columns, keys_of_table, keys_of_reading}
-use Rattle.ds2_reading.specs.RowsLeft.{ordered_rows}
+use Rattle.ds2_reading.specs.KeyOrder.{part_of_key}
+use Rattle.ds2_reading.specs.ReadingKeys.{directions_of, column_of_slot, columns_of_bys, key_in_columns, keys_in_columns, keys_of_table}
 
 -- ---- each key has a value for each BY variable
 
@@ -61,55 +58,8 @@ part_past columns (r ∷ rows) zero by e =
     ap or_null (slice_get-map (λ c. or_null (slice_get r c)) columns by ∙ ap (option_map (λ c. or_null (slice_get r c))) e)
 part_past columns (r ∷ rows) (suc row) by e = part_past columns rows row by e
 
--- ---- orders of rows
-
-pub orders_more : (ds : List Bool) (orders : List (List ℕ)) (tables : List (List (List Value))) (numbers : List ℕ) (keys : List (List Value))
-    → AreOrdersOfRows ds orders tables → IsOrderOfRows ds keys numbers → AreOrdersOfRows ds (orders ++ numbers ∷ []) (tables ++ keys ∷ [])
-orders_more ds [] [] numbers keys h k = (k, tt)
-orders_more ds [] (t ∷ tables) numbers keys h k = absurd h
-orders_more ds (o ∷ orders) [] numbers keys h k = absurd h
-orders_more ds (o ∷ orders) (t ∷ tables) numbers keys h k = (h.0, orders_more ds orders tables numbers keys h.1 k)
-
-pub order_there : (ds : List Bool) (orders : List (List ℕ)) (tables : List (List (List Value))) (t : ℕ) (numbers : List ℕ)
-    → AreOrdersOfRows ds orders tables → slice_get orders t ≡ Some numbers → IsOrderOfRows ds (get_or tables t []) numbers
-order_there ds [] tables t numbers h e = let k : None ≡ Some numbers = e in cc
-order_there ds (o ∷ orders) [] t numbers h e = absurd h
-order_there ds (o ∷ orders) (keys ∷ tables) zero numbers h e =
-    let one : o ≡ numbers = cc in let P : List ℕ → Type 0 = IsOrderOfRows ds keys in subst P one h.0
-order_there ds (o ∷ orders) (keys ∷ tables) (suc t) numbers h e = order_there ds orders tables t numbers h.1 e
-
-pub order_past : (ds : List Bool) (orders : List (List ℕ)) (tables : List (List (List Value))) (t table place : ℕ)
-    → AreOrdersOfRows ds orders tables → slice_get orders t ≡ None → slice_get (ordered_rows ds table (get_or tables t [])) place ≡ None
-order_past ds [] [] t table place h e = refl
-order_past ds [] (keys ∷ tables) t table place h e = absurd h
-order_past ds (o ∷ orders) [] t table place h e = absurd h
-order_past ds (o ∷ orders) (keys ∷ tables) zero table place h e = let k : Some o ≡ None = e in cc
-order_past ds (o ∷ orders) (keys ∷ tables) (suc t) table place h e = order_past ds orders tables t table place h.1 e
-
-pub row_there : (ds : List Bool) (keys : List (List Value)) (numbers : List ℕ) (table place : ℕ) → IsOrderOfRows ds keys numbers
-    → option_map (numbered_row table keys) (slice_get numbers place) ≡ slice_get (ordered_rows ds table keys) place
-row_there ds keys numbers table place h = sym (slice_get-map (numbered_row table keys) numbers place) ∙ ap (λ rows. slice_get rows place) (h.rows table)
-
--- the number at a place of the order is that of the row at this place
-pub row_from : (ds : List Bool) (orders : List (List ℕ)) (tables : List (List (List Value))) (t place : ℕ) (numbers xs : List ℕ) → AreOrdersOfRows ds orders tables
-    → slice_get orders t ≡ Some numbers → xs ≡ numbers → place < length xs
-    → Some (numbered_row t (get_or tables t []) (get_or xs place 0)) ≡ slice_get (ordered_rows ds t (get_or tables t [])) place
-row_from ds orders tables t place numbers xs h e same l =
-    ap (option_map (numbered_row t (get_or tables t []))) (sym (slice_get-get_or xs place 0 l) ∙ ap (λ ys. slice_get ys place) same)
-    ∙ row_there ds (get_or tables t []) numbers t place (order_there ds orders tables t numbers h e)
-
--- none stands past its end
-pub row_beyond : (ds : List Bool) (orders : List (List ℕ)) (tables : List (List (List Value))) (t place : ℕ) (numbers xs : List ℕ) → AreOrdersOfRows ds orders tables
-    → slice_get orders t ≡ Some numbers → xs ≡ numbers → length xs ≤ place → None ≡ slice_get (ordered_rows ds t (get_or tables t [])) place
-row_beyond ds orders tables t place numbers xs h e same l =
-    ap (option_map (numbered_row t (get_or tables t []))) (sym (slice_get_past xs place l) ∙ ap (λ ys. slice_get ys place) same)
-    ∙ row_there ds (get_or tables t []) numbers t place (order_there ds orders tables t numbers h e)
-
 -- a table that is not there has no rows
 pub no_rows : (tables : List (List (List Value))) (t : ℕ) → slice_get tables t ≡ None → 0 ≡ length (get_or tables t [])
 no_rows [] t e = refl
 no_rows (keys ∷ tables) zero e = let none : Some keys ≡ None = e in cc
 no_rows (keys ∷ tables) (suc t) e = no_rows tables t e
-
--- for orders of rows
-pub ruleset orders = (order_there, order_past, row_there)

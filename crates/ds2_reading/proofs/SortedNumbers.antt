@@ -1,10 +1,10 @@
 -- A stable sort of the numbers of rows gives the rows in BY order.
-use Rattle.std.proofs.Common.{◌≡◌, ℕ, zero, suc, ◌+◌, ◌<◌, ◌≤◌, Bool, true, false, not, ◌&&◌, cond, List, [], ◌∷◌, map, length, refl, sym, ap, ◌∙◌, subst, true≢false, arith, ◌⊎◌, inl, inr}
-use Rattle.std.specs.Prelude.{IsTrue, filter, get_or}
-use Rattle.std.specs.Cmp.{IsTotalOrder, IsStrictWeakOrder}
+use Rattle.std.proofs.Common.{◌≡◌, ℕ, zero, suc, ◌+◌, ◌<◌, Bool, true, false, not, ◌&&◌, cond, List, [], ◌∷◌, map, length, refl, sym, ap, ◌∙◌, subst, arith, ◌⊎◌, inl, inr}
+use Rattle.std.specs.Prelude.{filter, get_or}
+use Rattle.std.specs.Cmp.{IsStrictWeakOrder}
 use Rattle.std.specs.List.{list_all, range_with_len, All}
-use Rattle.std.specs.List.Sorted.{IsPermutation, IsSortedBy, IsStableBy, ties}
-use Rattle.std.specs.Ordering.{is_lt, is_gt, ordering_then, ordering_reverse}
+use Rattle.std.specs.List.Sorted.{IsPermutation, IsSortedBy, ties}
+use Rattle.std.specs.Ordering.{is_lt, is_gt, ordering_reverse}
 use Rattle.std.specs.declared.cmp.Ordering.{Ordering}
 use Rattle.std.specs.declared.cmp.Ordering.TheVariants.{Less, Equal, Greater}
 use Rattle.std.proofs.lemmas.List.Elements.{All-head, All-tail}
@@ -13,12 +13,21 @@ use Rattle.std.proofs.lemmas.List.Sorted.{All-permutation, ranks_by}
 use Rattle.ds2_value.specs.Order.{value_eq, same_row}
 use Rattle.ds2_value.specs.declared.value.Value.{Value}
 use Rattle.ds2_table.specs.LoadLaws.{HaveKeys, AreKeys, AreSorted, rows_of_key}
-use Rattle.ds2_table.specs.Loads.{InputRow, value_order, keys_order, numbered_rows, in_by_order}
-use Rattle.ds2_table.proofs.ByOrder.{order_total, tied_order, Fits, as_long, then-Equal, rows_equiv}
+use Rattle.ds2_table.specs.Loads.{value_order, keys_order, numbered_rows, in_by_order}
+use Rattle.ds2_table.proofs.ByOrder.{tied_order, Fits, as_long, then-Equal, rows_equiv}
 use Rattle.ds2_table.proofs.Sorted.{IsNotAfter, AllFit, not_before_row, first_part, second_part}
-use Rattle.ds2_reading.specs.KeyOrder.{numbered_row, parts_order, is_row_before, IsOrderOfRows}
+use Rattle.ds2_reading.specs.KeyOrder.{numbered_row, parts_order}
 use Rattle.ds2_reading.proofs.Parts.{parts_total, parts_agree}
 use Rattle.ds2_reading.proofs.Unique.{equal_rows, ordered_is}
+
+-- of two rows of a table, by their numbers, the first has a key before that of the second
+abbrev pub is_row_before : List Bool → List (List Value) → ℕ → ℕ → Bool
+is_row_before descending keys i j = is_lt (parts_order descending (get_or keys i []) (get_or keys j []))
+
+-- these are the numbers of a table's rows in BY order
+pub record IsOrderOfRows (descending : List Bool) (keys : List (List Value)) (numbers : List ℕ) : Type 0 where
+  pub there : All (λ i. i < length keys) numbers
+  pub rows : (table : ℕ) → map (numbered_row table keys) numbers ≡ in_by_order descending (numbered_rows table 0 keys)
 
 -- ---- keys of rows that are there
 
@@ -55,7 +64,7 @@ same_level (d ∷ ds) (x ∷ xs) (y ∷ ys) f g h =
     then-Equal (value_order d x y) (keys_order ds xs ys) (tied_order d x y (first_part (value_eq x y) (same_row xs ys) h))
     ∙ same_level ds xs ys f g (second_part (value_eq x y) (same_row xs ys) h)
 
-neither : (r : Ordering) → not (is_lt r) && not (is_lt (ordering_reverse r)) ≡ true → r ≡ Equal
+pub neither : (r : Ordering) → not (is_lt r) && not (is_lt (ordering_reverse r)) ≡ true → r ≡ Equal
 neither Less h = cc
 neither Equal h = refl
 neither Greater h = cc
@@ -105,7 +114,7 @@ tie_is ds keys h i j l m = same_test (ties (is_row_before ds keys) i j) (same_ro
 -- ---- sorted
 
 -- no number stands behind one before which it belongs
-abbrev Rise : (ℕ → ℕ → Bool) → List ℕ → Type 0
+abbrev pub Rise : (ℕ → ℕ → Bool) → List ℕ → Type 0
 Rise lt [] = Unit {0}
 Rise lt (i ∷ is) = (list_all (λ j. not (lt j i)) is ≡ true) × Rise lt is
 
@@ -144,7 +153,7 @@ rise lt o i (j ∷ js) h =
     let rest = rise lt o j js h.1 in
     (both_true (not (lt j i)) (list_all (λ k. not (lt k i)) js) (ap not h.0) (further lt o i j js h.0 rest.0), rest)
 
-rises : (lt : ℕ → ℕ → Bool) → IsStrictWeakOrder lt → (is : List ℕ) → IsSortedBy lt is → Rise lt is
+pub rises : (lt : ℕ → ℕ → Bool) → IsStrictWeakOrder lt → (is : List ℕ) → IsSortedBy lt is → Rise lt is
 rises lt o [] h = tt
 rises lt o (i ∷ is) h = rise lt o i is (next_rises lt i is h)
 
@@ -278,14 +287,3 @@ sorted_numbers ds keys numbers h p s e = record {
   there = All-permutation (IsThere keys) (range_with_len 0 (length keys)) numbers p (all_there ds keys h 0);
   rows = λ t. in_order ds keys h t numbers p s e;
 }
-
--- likewise from what a sort says of the numbers that it began with
-pub order_from : (ds : List Bool) (keys : List (List Value)) (n : ℕ) (begin sorted-ones numbers : List ℕ) → AreKeys ds keys → n ≡ length keys
-    → begin ≡ range_with_len 0 n → IsPermutation begin sorted-ones → IsSortedBy (is_row_before ds keys) sorted-ones
-    → IsStableBy (is_row_before ds keys) begin sorted-ones → numbers ≡ sorted-ones → IsOrderOfRows ds keys numbers
-order_from ds keys n begin sorted-ones numbers h e b p s t same =
-    let all : begin ≡ range_with_len 0 (length keys) = b ∙ ap (range_with_len 0) e in
-    let P : List ℕ → Type 0 = λ xs. IsPermutation xs sorted-ones in
-    let T : List ℕ → Type 0 = λ xs. IsStableBy (is_row_before ds keys) xs sorted-ones in
-    let O : List ℕ → Type 0 = IsOrderOfRows ds keys in
-    subst O (sym same) (sorted_numbers ds keys sorted-ones h (subst P all p) s (λ x l. subst T all t x))

@@ -1,11 +1,11 @@
 -- Groups begin where the first BY variables change.
-use Rattle.std.proofs.Common.{◌≡◌, ℕ, zero, suc, ◌+◌, ◌<◌, ◌≤◌, Bool, true, false, not, ◌||◌, cond, List, [], ◌∷◌, ◌++◌, map, length, take, refl, sym, ap, ◌∙◌, subst, true≢false, arith, ◌⊎◌, inl, inr}
-use Rattle.std.specs.Prelude.{if◌then◌else◌, filter, get_or, Option, Some, None}
-use Rattle.std.proofs.lemmas.List.{get_or_append_left, get_or_push, length-append, map-append}
+use Rattle.std.proofs.Common.{◌≡◌, ℕ, zero, suc, ◌+◌, ◌<◌, ◌≤◌, Bool, true, false, not, ◌||◌, cond, List, [], ◌∷◌, ◌++◌, map, length, take, refl, sym, ap, ◌∙◌, true≢false, arith, ◌⊎◌, inl, inr}
+use Rattle.std.specs.Prelude.{if◌then◌else◌, get_or, Option, Some, None}
+use Rattle.std.proofs.lemmas.List.{get_or_append_left, get_or_push, length-append}
 use Rattle.ds2_value.specs.Order.{same_row}
 use Rattle.ds2_value.specs.declared.value.Value.{Value}
 use Rattle.ds2_table.specs.LoadLaws.{one_after_another, AreInByOrder}
-use Rattle.ds2_table.specs.Loads.{KeyedLoad, has_key, each_once, group_with_key, group_keys, groups}
+use Rattle.ds2_table.specs.Loads.{KeyedLoad, has_key, each_once, group_with_key, groups}
 use Rattle.ds2_table.proofs.ByOrder.{rows_equiv}
 use Rattle.ds2_table.proofs.Groups.{groups_divide_loads}
 use Rattle.ds2_reading.specs.GroupStarts.{opens_group, group_openings, keys_of_loads}

@@ -1,15 +1,15 @@
 -- Rows in BY order are told apart by the rows of each key.
-use Rattle.std.proofs.Common.{◌≡◌, Bool, true, false, not, ◌&&◌, cond, List, [], ◌∷◌, refl, sym, ap, ◌∙◌, true≢false}
-use Rattle.std.specs.Prelude.{IsTrue, filter}
+use Rattle.std.proofs.Common.{◌≡◌, Bool, true, false, ◌&&◌, cond, List, [], ◌∷◌, refl, sym, ap, ◌∙◌, true≢false}
+use Rattle.std.specs.Prelude.{filter}
 use Rattle.std.specs.List.{list_all}
-use Rattle.std.specs.Ordering.{is_eq, is_gt, ordering_then, ordering_reverse}
+use Rattle.std.specs.Ordering.{is_eq, ordering_reverse}
 use Rattle.std.specs.declared.cmp.Ordering.{Ordering}
 use Rattle.std.specs.declared.cmp.Ordering.TheVariants.{Less, Equal, Greater}
 use Rattle.ds2_value.specs.Order.{key_order, value_eq, same_row}
 use Rattle.ds2_value.specs.declared.value.Value.{Value}
 use Rattle.ds2_table.specs.LoadLaws.{HaveKeys, AreSorted, rows_of_key}
 use Rattle.ds2_table.specs.Loads.{InputRow, value_order, keys_order, in_by_order}
-use Rattle.ds2_table.proofs.ByOrder.{order_total, tied_order, Fits, then-Equal, Stands, before, level, after, stands, greater_not, level_part, rows_equiv}
+use Rattle.ds2_table.proofs.ByOrder.{order_total, Fits, Stands, before, level, after, stands, greater_not, level_part, rows_equiv}
 use Rattle.ds2_table.proofs.Sorted.{IsNotAfter, AllFit, all_fit, not_before_row, first_part, second_part, order_fits, rows_stand_in_by_order}
 
 reversed-Equal : (r : Ordering) → ordering_reverse r ≡ Equal → r ≡ Equal

@@ -1,5 +1,5 @@
 -- Cursors: what stands for a cursor over the loads of a reading statement, and what its calls give.
-use Rattle.std.specs.Prelude.{ℕ, ◌+◌, min, List, length, take, map, slice_get, Option}
+use Rattle.std.specs.Prelude.{ℕ, ◌+◌, min, List, length, take, slice_get, Option}
 use Rattle.std.specs.Option.{option_map}
 use Rattle.ds2_table.specs.LoadLaws.{one_after_another}
 use Rattle.ds2_table.specs.Loads.{Load, KeyedLoad, groups}

@@ -1,13 +1,12 @@
 -- Rows of several tables by their keys: how they stand, and how many BY variables they have in common from the first one on.
-use Rattle.std.specs.Prelude.{◌≡◌, ℕ, zero, suc, ◌+◌, ◌<◌, length, Bool, true, false, if◌then◌else◌, List, [], ◌∷◌, map, drop, slice_get, get_or}
-use Rattle.std.specs.List.{All}
-use Rattle.std.specs.Ordering.{is_lt, ordering_then}
+use Rattle.std.specs.Prelude.{ℕ, zero, suc, ◌+◌, ◌<◌, length, Bool, if◌then◌else◌, List, [], ◌∷◌, drop, slice_get, get_or}
+use Rattle.std.specs.Ordering.{ordering_then}
 use Rattle.std.specs.declared.cmp.Ordering.{Ordering}
 use Rattle.std.specs.declared.cmp.Ordering.TheVariants.{Equal}
 use Rattle.ds2_value.specs.Order.{value_eq}
 use Rattle.ds2_value.specs.Value.{or_null}
 use Rattle.ds2_value.specs.declared.value.Value.{Value}
-use Rattle.ds2_table.specs.Loads.{InputRow, value_order, numbered_rows, in_by_order}
+use Rattle.ds2_table.specs.Loads.{InputRow, value_order, input_rows, keys_of_rows}
 use Rattle.ds2_reading.specs.declared.table_row.TableRow.{TableRow}
 
 -- the tables of a statement by the keys of their rows, and for each BY variable whether it is descending
@@ -42,18 +41,11 @@ parts_in_common zero a b = 0
 parts_in_common (suc bys) a b =
     if value_eq (part_of_key a 0) (part_of_key b 0) then parts_in_common bys (drop 1 a) (drop 1 b) + 1 else 0
 
--- of two rows of a table, by their numbers, the first has a key before that of the second
-abbrev pub is_row_before : List Bool → List (List Value) → ℕ → ℕ → Bool
-is_row_before descending keys i j = is_lt (parts_order descending (get_or keys i []) (get_or keys j []))
+-- a row is there
+pub record IsThere (tables : List (List (List Value))) (row : TableRow) : Type 0 where
+  pub known : row.table < length tables
+  pub within : row.row < length (get_or tables row.table [])
 
--- these are the numbers of a table's rows in BY order
-pub record IsOrderOfRows (descending : List Bool) (keys : List (List Value)) (numbers : List ℕ) : Type 0 where
-  pub there : All (λ i. i < length keys) numbers
-  pub rows : (table : ℕ) → map (numbered_row table keys) numbers ≡ in_by_order descending (numbered_rows table 0 keys)
-
--- each of these lists has the numbers of the rows of its table in BY order
-abbrev pub AreOrdersOfRows : List Bool → List (List ℕ) → List (List (List Value)) → Type 0
-AreOrdersOfRows descending [] [] = Unit {0}
-AreOrdersOfRows descending [] (keys ∷ tables) = ⊥
-AreOrdersOfRows descending (numbers ∷ orders) [] = ⊥
-AreOrdersOfRows descending (numbers ∷ orders) (keys ∷ tables) = IsOrderOfRows descending keys numbers × AreOrdersOfRows descending orders tables
+-- the key of the row of this number, where all rows are counted from 0, table after table
+abbrev pub key_of_number : InputKeys → ℕ → List Value
+key_of_number input number = get_or (keys_of_rows (input_rows 0 input.tables)) number []

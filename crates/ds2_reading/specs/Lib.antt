@@ -4,6 +4,6 @@ pub mod GroupStarts
 pub mod KeyHeads
 pub mod KeyOrder
 pub mod LoadMeaning
+pub mod Numbers
 pub mod Places
 pub mod ReadingKeys
-pub mod RowsLeft

@@ -1,20 +1,8 @@
--- Where a cursor stands between two loads.
-use Rattle.std.specs.Prelude.{◌≡◌, ℕ, zero, suc, ◌+◌, ◌^◌, ◌<◌, ◌≤◌, List, [], length, drop, slice_get, replicate, Option, Some, None, Bool}
-use Rattle.std.specs.Option.{option_map}
+-- Places in the BY order of all rows.
+use Rattle.std.specs.Prelude.{◌≡◌, ℕ, zero, suc, List, length, map, slice_get, get_or, Option, Some, None, Bool}
 use Rattle.ds2_value.specs.declared.value.Value.{Value}
 use Rattle.ds2_table.specs.Loads.{InputRow, input_rows, in_by_order}
-use Rattle.ds2_reading.specs.declared.place.Place.{Place}
-use Rattle.ds2_reading.specs.declared.table_row.TableRow.{TableRow}
-use Rattle.ds2_reading.specs.KeyOrder.{row_in, InputKeys}
-use Rattle.ds2_reading.specs.RowsLeft.{rows_left, given_one_more}
-
--- before the first load
-abbrev pub opening_place : Place
-opening_place = record { given = replicate 16 0; loads = 0; previous = None }
-
--- behind the next row of a table, which is a load
-abbrev pub place_behind : Place → TableRow → Place
-place_behind place row = record { given = given_one_more place.given row.table; loads = place.loads + 1; previous = Some row }
+use Rattle.ds2_reading.specs.KeyOrder.{InputKeys, parts_in_common}
 
 -- the item before so many of a list
 abbrev pub item_before : {A : Type 0} → List A → ℕ → Option A
@@ -25,13 +13,21 @@ item_before xs (suc n) = slice_get xs n
 abbrev pub all_rows : List Bool → List (List (List Value)) → List InputRow
 all_rows descending tables = in_by_order descending (input_rows 0 tables)
 
--- a place of a cursor of `set`: each row is a load, so as many rows were given as loads
-pub record IsRowPlace (descending : List Bool) (tables : List (List (List Value))) (place : Place) : Type 0 where
-  pub left : rows_left descending tables place.given ≡ drop place.loads (all_rows descending tables)
-  pub within : place.loads ≤ length (all_rows descending tables)
-  pub counts : length tables ≤ length place.given
-  pub previous : option_map (row_in tables) place.previous ≡ item_before (all_rows descending tables) place.loads
+-- in how many of so many BY variables, from the first one on, a row is equal to one before it; none where there is no such row
+abbrev pub common_with : ℕ → Option InputRow → Option InputRow → ℕ
+common_with bys None row = 0
+common_with bys (Some before) None = 0
+common_with bys (Some before) (Some row) = parts_in_common bys before.key row.key
 
--- the number of rows, and one more, is a number of the machine
-abbrev pub HasRoom : InputKeys → Type 0
-HasRoom input = length (all_rows input.descending input.tables) + 1 < 2 ^ 64
+-- likewise of the row at a place and the one before
+abbrev pub common_before : InputKeys → ℕ → ℕ
+common_before input place =
+    let rows = all_rows input.descending input.tables in common_with (length input.descending) (item_before rows place) (slice_get rows place)
+
+-- these are the numbers of all rows, table after table, in BY order
+abbrev pub AreRowNumbers : InputKeys → List ℕ → Type 0
+AreRowNumbers input numbers = map (slice_get (input_rows 0 input.tables)) numbers ≡ map Some (all_rows input.descending input.tables)
+
+-- and this is for each in how many BY variables it is equal to the row before
+abbrev pub AreCommons : InputKeys → List ℕ → Type 0
+AreCommons input commons = (place : ℕ) → get_or commons place 0 ≡ common_before input place

@@ -1,12 +1,7 @@
 //! The flags of a load, as bits.
-ghost use Rattle.std.specs.Prelude.{◌≡◌, ℕ, ◌≤◌, ◌<◌, ◌||◌, nat_lt, nat_eq, length, map, IfSome, is_some, not};
+ghost use Rattle.std.specs.Prelude.{◌≡◌, ℕ, ◌≤◌, ◌<◌, ◌||◌, nat_lt, nat_eq, map};
 ghost use Rattle.std.specs.List.{range_with_len};
-ghost use Rattle.std.specs.Option.{option_map};
-ghost use Rattle.ds2_table.specs.Loads.{flags_beside, is_new_key};
-ghost use Rattle.ds2_reading.specs.KeyOrder.{row_in, key_of_row};
 ghost use Rattle.ds2_reading.specs.LoadMeaning.{bits_of, flags_behind};
-
-use crate::{SortedTables, TableRow};
 
 /// The flags of so many BY variables: 1 for each but the first few.
 pub fn all_but(few: usize, bys: usize) -> u16
@@ -25,27 +20,9 @@ pub fn one(flag: usize) -> u16
     1u16 << flag
 }
 
-/// How many BY variables of a row, from the first one on, are equal to those of a row beside it; none where there is no such row. All
-/// others have their flag.
-#[tactic(auto, using(crate::proofs::FlagLemmas::neighbours))]
-pub fn parts_beside(tables: &SortedTables, beside: Option<TableRow>, row: TableRow) -> usize
-    requires long { length (key_of_row tables.now.tables row) ≡ length tables.now.descending }
-    requires beside { IfSome beside (λ other. length (key_of_row tables.now.tables other) ≡ length tables.now.descending) }
-    ensures within { result ≤ length tables.now.descending }
-    ensures flags { flags_behind (length tables.now.descending) result
-        ≡ flags_beside (option_map (key_of_row tables.now.tables) beside) (key_of_row tables.now.tables row) }
-    ensures fresh { is_new_key (option_map (key_of_row tables.now.tables) beside) (key_of_row tables.now.tables row)
-        ≡ (not (is_some beside) || nat_lt result (length tables.now.descending)) }
+/// Whether a load opens a key: the first one does, and each that has fewer BY variables in common with the load before.
+pub fn opens_key(number: usize, common: usize, bys: usize) -> bool
+    ensures { result ≡ (nat_eq number 0 || nat_lt common bys) }
 {
-    match beside {
-        None => 0,
-        Some(other) => tables.parts_in_common(other, row),
-    }
-}
-
-/// Whether a load opens a key, of which so many BY variables are equal to those of the row before, if there is one.
-pub fn is_fresh(before: Option<TableRow>, parts: usize, bys: usize) -> bool
-    ensures { result ≡ (not (is_some before) || nat_lt parts bys) }
-{
-    before.is_none() || parts < bys
+    number == 0 || common < bys
 }

@@ -1,20 +1,23 @@
 //! The heads of keys: a whole number of each row that most comparisons of keys need alone.
-ghost use Rattle.std.specs.Prelude.{◌≡◌, [], ◌<◌, IfOk, IfSome};
+ghost use Rattle.std.specs.Prelude.{◌≡◌, [], ◌+◌, ◌-◌, ◌*◌, ◌^◌, ◌<◌, ◌≤◌, pos, ◌+ℤ◌, ◌*ℤ◌, ◌≤ℤ◌};
 ghost use Rattle.std.specs.Str.{chars};
 ghost use Rattle.ds2_value.specs.Cell.{lent_value};
 ghost use Rattle.ds2_value.specs.Texts.{padded_cmp};
-ghost use Rattle.ds2_value.specs.declared.value.Value.TheVariants.{Int};
-ghost use Rattle.ds2_reading.specs.KeyHeads.{first_digit, behind_digit, rest_digit, head_with_digits, tells_all, IsKeyHead, AreKeyHeads};
-ghost use Rattle.ds2_reading.specs.ReadingKeys.{keys_in_columns};
+ghost use Rattle.ds2_value.specs.declared.value.Value.TheVariants.{Int, Dec as DecimalValue};
+ghost use Rattle.ds2_reading.specs.KeyHeads.{first_digit, behind_digit, rest_digit, head_with_digits, tells_all, IsKeyHead};
 
-use ds2_base::{List, OutOfMemory};
-use ds2_table::Table;
+use ds2_decimal::Dec;
 use ds2_value::Cell;
-use std::alloc::Global;
 use std::cmp::Ordering;
 
 // The head of null, and the last digit of a head that leaves nothing out.
 const NOTHING_LEFT_OUT: u128 = 32;
+
+// The last digit of a head that leaves out what stands behind it.
+const MORE_LEFT_OUT: u128 = 33;
+
+// The head of what stands behind all BIGINTs.
+const BEHIND_BIGINTS: u128 = 0x80_0000_0000_0000_00a1;
 
 // Brings the least BIGINT above null.
 const ABOVE_NULL: i128 = 0x8000_0000_0000_0001;
@@ -26,11 +29,43 @@ pub(crate) fn tells_all(head: u128) -> bool
     head % 128 == NOTHING_LEFT_OUT
 }
 
-// The head of a BIGINT.
-fn number_head(i: i64) -> u128
-    ensures { IsKeyHead result (Int i) }
+// The head of a BIGINT, as a whole number.
+fn number_front(i: i64) -> u128
+    ensures value { pos result ≡ (i +ℤ pos (2 ^ 63 + 1)) *ℤ pos 128 +ℤ pos 32 }
+    ensures low { pos 1 ≤ℤ (i +ℤ pos (2 ^ 63 + 1)) }
+    ensures high { (i +ℤ pos (2 ^ 63 + 1)) ≤ℤ pos (2 ^ 64) }
+    ensures bound { result < 2 * 128 ^ 13 }
 {
     (i as i128 + ABOVE_NULL) as u128 * 128 + NOTHING_LEFT_OUT
+}
+
+// The head of a BIGINT.
+fn number_head(i: i64) -> u128
+    ensures head { IsKeyHead result (Int i) }
+    ensures bound { result < 2 * 128 ^ 13 }
+{
+    number_front(i)
+}
+
+// The head of a DECIMAL: that of the whole number below it, where this is a BIGINT.
+fn decimal_head(d: Dec) -> u128
+    ensures { IsKeyHead result (DecimalValue d) }
+{
+    let _scale = d.scale();
+    let whole = d.floor();
+    let units = whole.units();
+    if units < i64::MIN as i128 {
+        return MORE_LEFT_OUT;
+    }
+    if units > i64::MAX as i128 {
+        return BEHIND_BIGINTS;
+    }
+    let front = (units + ABOVE_NULL) as u128 * 128;
+    if d.compare(whole).is_eq() {
+        front + NOTHING_LEFT_OUT
+    } else {
+        front + MORE_LEFT_OUT
+    }
 }
 
 // How characters stand to blanks, by their bytes.
@@ -54,7 +89,7 @@ fn rest_digit(rest: &[u8]) -> u128
     match order_to_blanks(rest) {
         Ordering::Less => 31,
         Ordering::Equal => NOTHING_LEFT_OUT,
-        Ordering::Greater => 33,
+        Ordering::Greater => MORE_LEFT_OUT,
     }
 }
 
@@ -81,11 +116,12 @@ fn behind_digit(rest: &[u8]) -> &[u8]
 
 // The head of a text, by its bytes: those of a character that is not in ASCII are above 127 themselves.
 fn bytes_head(text: &[u8]) -> u128
-    ensures { result ≡ head_with_digits 17 1 text.now }
+    ensures value { result ≡ head_with_digits 12 1 text.now }
+    ensures bound { result < 2 * 128 ^ 13 }
 {
     let mut head = 1u128;
     let mut rest = text;
-    'characters: for i in 0..17usize {
+    'characters: for i in 0..12usize {
         head = head * 128 + first_digit(rest);
         rest = behind_digit(rest);
     }
@@ -94,43 +130,21 @@ fn bytes_head(text: &[u8]) -> u128
 
 // The head of a text.
 fn text_head(text: &str) -> u128
-    ensures { result ≡ head_with_digits 17 1 (chars text.now) }
+    ensures value { result ≡ head_with_digits 12 1 (chars text.now) }
+    ensures bound { result < 2 * 128 ^ 13 }
 {
     bytes_head(text.as_bytes())
 }
 
-// The head of a value; decimals have none.
-fn head_of(value: &Cell<'_>) -> Option<u128>
-    ensures { IfSome result (λ head. IsKeyHead head (lent_value value.now)) }
+/// The head of a value.
+pub(crate) fn key_head(value: &Cell<'_>) -> u128
+    ensures head { IsKeyHead result (lent_value value.now) }
+    ensures bound { result < 2 * 128 ^ 13 }
 {
     match value {
-        Cell::Null => Some(NOTHING_LEFT_OUT),
-        Cell::Int(i) => Some(number_head(*i)),
-        Cell::Dec(_) => None,
-        Cell::Txt(t) => Some(text_head(*t)),
+        Cell::Null => NOTHING_LEFT_OUT,
+        Cell::Int(i) => number_head(*i),
+        Cell::Dec(d) => decimal_head(*d),
+        Cell::Txt(t) => text_head(*t),
     }
-}
-
-/// The heads of the keys of a table's rows; none where there is no BY variable, or a value of the first one has no head.
-pub(crate) fn heads_of(
-    alloc: Global,
-    table: &Table,
-    columns: &[usize],
-) -> Result<List<u128>, OutOfMemory>
-    ensures { IfOk result (λ heads. AreKeyHeads heads (keys_in_columns columns.now table.now.rows)) }
-{
-    let mut heads = List::new(alloc);
-    let Some(column) = columns.get(0) else {
-        return Ok(heads);
-    };
-    let count = table.len();
-    heads.reserve(count)?;
-    'rows: for row in 0..count {
-        let value = table.cell(row, *column);
-        let Some(head) = head_of(&value) else {
-            return Ok(List::new(alloc));
-        };
-        heads.push(head)?;
-    }
-    Ok(heads)
 }

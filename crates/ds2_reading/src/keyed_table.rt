@@ -1,13 +1,11 @@
 //! A table with the columns of the BY variables.
-ghost use Rattle.std.specs.Prelude.{◌≡◌, [], IsTrue, IfOk, IfSome, length, get_or};
+ghost use Rattle.std.specs.Prelude.{◌≡◌, [], IsTrue, IfOk, length, get_or};
 ghost use Rattle.ds2_value.specs.Cell.{lent_value};
-ghost use Rattle.ds2_reading.specs.KeyHeads.{IsKeyHead};
 ghost use Rattle.ds2_reading.specs.ReadingKeys.{keys_of_table};
 ghost use Rattle.ds2_reading.specs.KeyOrder.{part_of_key};
 ghost use Rattle.ds2_reading.specs.ReadingFits.{read_table_fits};
 
 use crate::columns::columns_of_bys;
-use crate::heads::heads_of;
 use crate::{ByKey, ReadTable, Tables};
 use ds2_base::{List, OutOfMemory};
 use ds2_table::Table;
@@ -21,22 +19,17 @@ use std::sync::Arc;
 pub(crate) struct KeyedTable {
     table: Arc<Table, Global>,
     columns: List<usize>,
-    // for each row the head of its key, or for none
-    heads: List<u128>,
 }
 
 impl Model for KeyedTable {
     ghost use Rattle.std.specs.Prelude.{List as Items};
     ghost use Rattle.std.specs.Arc.{arc_value};
     ghost use Rattle.ds2_value.specs.declared.value.Value.{Value as Part};
-    ghost use Rattle.ds2_reading.specs.KeyHeads.{AreKeyHeads};
     ghost use Rattle.ds2_reading.specs.ReadingKeys.{keys_in_columns};
 
     ghost Value = { Items (Items Part) };
 
     ghost view = { λ t. keys_in_columns t.columns (arc_value t.table).rows };
-
-    ghost invariant = { λ t. AreKeyHeads t.heads (keys_in_columns t.columns (arc_value t.table).rows) };
 }
 
 impl KeyedTable {
@@ -54,11 +47,9 @@ impl KeyedTable {
         match tables.get(read.table as usize) {
             None => unreachable!(),
             Some(table) => {
-                let heads = heads_of(alloc, table, columns.as_slice())?;
                 Ok(KeyedTable {
                     table: table.clone()?,
                     columns,
-                    heads,
                 })
             }
         }
@@ -79,13 +70,5 @@ impl KeyedTable {
             None => Cell::Null,
             Some(column) => self.table.cell(row, *column),
         }
-    }
-
-    /// The head of a row's key; None where heads are not kept, or there is no such row.
-    pub(crate) fn head(&self, row: usize) -> Option<&u128>
-        ensures { IfSome result (λ head. IsKeyHead head.now (part_of_key (get_or self.now row []) 0)) }
-    {
-        let head = self.heads.get(row)?;
-        Some(head)
     }
 }

@@ -4,34 +4,29 @@
 //! with the slots of their columns and flags; [`Reading::fits`] tells whether it fits the tables. A [`Load`] is what one call of `run`
 //! reads, by numbers of rows.
 //!
-//! Tables of a reading statement with their rows in BY order: what the cursors of `set` and of `merge` share.
+//! The rows of a reading statement in BY order: what the cursors of `set` and of `merge` share.
 //!
-//! [`SortedTables`] hold the tables that a [`crate::Reading`] names, and for each of them the numbers of its rows in BY order. A
-//! contract sees the keys of the rows alone. [`SortedTables::first_left`] is the next row over all tables, where some rows of each
-//! were given; [`SortedTables::parts_in_common`] tells where two rows differ, and [`flags`] makes the flags of a load of it.
+//! [`SortedRows`] hold the rows of all tables that a [`crate::Reading`] names, in BY order. A contract sees their keys alone.
+//! [`SortedRows::row_at`] is the row at a place; [`SortedRows::common_at`] tells in how many BY variables it is equal to the row before,
+//! so that flags, keys and groups are found without a look at the values, and [`flags`] makes the flags of a load of it.
 #![tactic(auto)]
 
 mod columns;
-mod first_left;
 pub mod flags;
-mod headed_row;
-mod headed_sorting;
 mod heads;
+mod inputs;
 mod keyed_table;
 mod load;
-mod order;
-mod place;
+mod numbers;
 mod reading;
-mod row_count;
-mod sorted_tables;
-mod sorting;
+mod settling;
+mod sorted_rows;
 mod table_row;
 mod tables;
 
 pub use ds2_hash::HashKey;
 pub use load::Load;
-pub use place::Place;
 pub use reading::{ByKey, ReadTable, Reading};
-pub use sorted_tables::SortedTables;
+pub use sorted_rows::SortedRows;
 pub use table_row::TableRow;
 pub use tables::Tables;

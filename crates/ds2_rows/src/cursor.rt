@@ -7,10 +7,10 @@ ghost use Rattle.ds2_reading.specs.CursorState.{cursor_at_start, next_load_of, b
 ghost use Rattle.ds2_reading.specs.LoadMeaning.{load_meaning};
 ghost use Rattle.ds2_reading.specs.ReadingKeys.{directions_of, keys_of_reading};
 
-use crate::groups::group_places;
+use crate::groups::group_starts;
 use crate::row_load::next_load;
 use ds2_base::{List, OutOfMemory};
-use ds2_reading::{Load, Place, Reading, SortedTables, Tables};
+use ds2_reading::{Load, Reading, SortedRows, Tables};
 use std::alloc::Global;
 use std::marker::Model;
 use std::sync::Arc;
@@ -18,11 +18,11 @@ use std::sync::Arc;
 /// A cursor over the loads of `set`. All its memory is taken at opening.
 #[derive(Drop)]
 pub struct SetCursor {
-    tables: SortedTables,
+    rows: SortedRows,
     grain: u32,
-    place: Place,
-    // where each group begins, and behind the last one; copies share it
-    groups: Arc<List<Place>, Global>,
+    place: usize,
+    // the numbers of the loads that begin groups, and that of all loads; copies share it
+    starts: Arc<List<u32>, Global>,
 }
 
 impl Model for SetCursor {
@@ -35,14 +35,14 @@ impl Model for SetCursor {
     ghost Value = { Cursor };
 
     ghost view = { λ c. record {
-      tables = length c.tables.tables;
-      bys = length c.tables.descending;
+      tables = length c.rows.tables;
+      bys = length c.rows.descending;
       grain = c.grain;
-      loads = set_loads c.tables.descending c.tables.tables;
-      given = c.place.loads;
+      loads = set_loads c.rows.descending c.rows.tables;
+      given = c.place;
     } };
 
-    ghost invariant = { λ c. IsReady c.tables c.place × StandAtGroups c.tables c.grain (arc_value c.groups) };
+    ghost invariant = { λ c. IsReady c.rows c.place × StandAtGroups c.rows c.grain (arc_value c.starts) };
 }
 
 impl SetCursor {
@@ -61,17 +61,16 @@ impl SetCursor {
             ≡ cursor_at_start (length reading.now.tables) (length reading.now.bys) grain
             (set_loads (directions_of reading.now.bys) (keys_of_reading tables.now reading.now))) }
     {
-        let tables = SortedTables::open(alloc, reading, tables)?;
-        let _ = tables.count_rows()?;
-        tables.have_keys();
-        let places = group_places(alloc, &tables, grain as usize)?;
-        let groups = Arc::new(alloc, places)?;
-        let place = Place::start();
+        let rows = SortedRows::open(alloc, reading, tables)?;
+        rows.have_keys();
+        let _rows = rows.len();
+        let places = group_starts(alloc, &rows, grain as usize)?;
+        let starts = Arc::new(alloc, places)?;
         Ok(SetCursor {
-            tables,
+            rows,
             grain,
-            place,
-            groups,
+            place: 0,
+            starts,
         })
     }
 
@@ -80,7 +79,7 @@ impl SetCursor {
         ensures load { option_map (load_meaning self.old.tables self.old.bys) result ≡ next_load_of self.old }
         ensures left { self.new ≡ behind_next self.old }
     {
-        next_load(&self.tables, &mut self.place)
+        next_load(&self.rows, &mut self.place)
     }
 
     /// The number of groups: at grain p > 0 of loads with equal values of the first p BY variables, at grain 0, without BY variables, of
@@ -88,7 +87,7 @@ impl SetCursor {
     pub fn groups(&self) -> u64
         ensures { result ≡ group_count self.now }
     {
-        (self.groups.len() - 1) as u64
+        (self.starts.len() - 1) as u64
     }
 
     /// The number of the load that opens a group, from 0; behind the last group the number of all loads.
@@ -96,9 +95,9 @@ impl SetCursor {
         requires { g ≤ group_count self.now }
         ensures { result ≡ start_of_group self.now g }
     {
-        match self.groups.get(g as usize) {
+        match self.starts.get(g as usize) {
             None => unreachable!(),
-            Some(place) => place.loads as u64,
+            Some(place) => *place as u64,
         }
     }
 
@@ -107,9 +106,9 @@ impl SetCursor {
         requires { g ≤ group_count self.old }
         ensures { self.new ≡ before_group g self.old }
     {
-        match self.groups.get(g as usize) {
+        match self.starts.get(g as usize) {
             None => unreachable!(),
-            Some(place) => self.place = *place,
+            Some(place) => self.place = *place as usize,
         }
     }
 
@@ -118,10 +117,10 @@ impl SetCursor {
         ensures { IfOk result (λ cursor. cursor ≡ self.now) }
     {
         Ok(SetCursor {
-            tables: self.tables.copy(alloc)?,
+            rows: self.rows.copy(alloc)?,
             grain: self.grain,
             place: self.place,
-            groups: self.groups.clone()?,
+            starts: self.starts.clone()?,
         })
     }
 }

@@ -1,53 +1,49 @@
 //! The places where groups begin.
-ghost use Rattle.std.specs.Prelude.{◌≤◌, length, IfOk};
+ghost use Rattle.std.specs.Prelude.{◌+◌, ◌^◌, ◌<◌, ◌≤◌, length, IfOk};
 ghost use Rattle.ds2_table.specs.LoadLaws.{HaveTableKeys};
-ghost use Rattle.ds2_reading.specs.Places.{place_behind, HasRoom};
-ghost use Rattle.ds2_reading.specs.RowsLeft.{IsNextLeft};
-ghost use Rattle.ds2_rows.specs.SetPlaces.{HasPlaces, StandAtGroups};
+ghost use Rattle.ds2_reading.specs.Places.{all_rows};
+ghost use Rattle.ds2_rows.specs.SetPlaces.{HasStarts, StandAtGroups};
 
 use ds2_base::{List, OutOfMemory};
-use ds2_reading::{Place, SortedTables, TableRow};
+use ds2_reading::SortedRows;
 use std::alloc::Global;
 
-// The places where groups begin, with the one before a row where it opens a group.
+// The places where groups begin, with this one where a group opens there.
 fn with_opening(
-    tables: &SortedTables,
+    rows: &SortedRows,
     grain: usize,
-    place: &Place,
-    row: TableRow,
-    mut places: List<Place>,
-) -> Result<List<Place>, OutOfMemory>
-    requires grain { grain ≤ length tables.now.descending }
-    requires keys { HaveTableKeys tables.now.descending tables.now.tables }
-    requires next { IsNextLeft tables.now.descending tables.now.tables place.now.given row }
-    requires places { HasPlaces tables.now grain place.now places }
-    ensures { IfOk result (λ more. HasPlaces tables.now grain (place_behind place.now row) more) }
+    place: usize,
+    mut starts: List<u32>,
+) -> Result<List<u32>, OutOfMemory>
+    requires grain { grain ≤ length rows.now.descending }
+    requires keys { HaveTableKeys rows.now.descending rows.now.tables }
+    requires place { place < length (all_rows rows.now.descending rows.now.tables) }
+    requires bound { place < 2 ^ 32 }
+    requires starts { HasStarts rows.now grain place starts }
+    ensures { IfOk result (λ more. HasStarts rows.now grain (place + 1) more) }
 {
-    if !tables.opens_group(grain, place.previous, row) {
-        return Ok(places);
+    if !rows.opens_group(grain, place) {
+        return Ok(starts);
     }
-    places.push(*place)?;
-    Ok(places)
+    starts.push(place as u32)?;
+    Ok(starts)
 }
 
 /// The places where the groups of a grain begin, and the one behind the last load.
-pub(crate) fn group_places(
+pub(crate) fn group_starts(
     alloc: Global,
-    tables: &SortedTables,
+    rows: &SortedRows,
     grain: usize,
-) -> Result<List<Place>, OutOfMemory>
-    requires grain { grain ≤ length tables.now.descending }
-    requires tables { length tables.now.tables ≤ 16 }
-    requires room { HasRoom tables.now }
-    ensures { IfOk result (λ places. StandAtGroups tables.now grain places) }
+) -> Result<List<u32>, OutOfMemory>
+    requires { grain ≤ length rows.now.descending }
+    ensures { IfOk result (λ starts. StandAtGroups rows.now grain starts) }
 {
-    tables.have_keys();
-    let mut place = Place::start();
-    let mut places = List::new(alloc);
-    'rows: while let Some(row) = tables.first_left(&place.given) {
-        places = with_opening(tables, grain, &place, row, places)?;
-        place.go_behind(row);
+    rows.have_keys();
+    let count = rows.len();
+    let mut starts = List::new(alloc);
+    'places: for place in 0..count {
+        starts = with_opening(rows, grain, place, starts)?;
     }
-    places.push(place)?;
-    Ok(places)
+    starts.push(count as u32)?;
+    Ok(starts)
 }

@@ -1,6 +1,6 @@
 //! The loads of a `set` statement, one after the other.
 //!
-//! A [`SetCursor`] gives them lazily: it keeps for each table the numbers of its rows in BY order, and where its groups begin. A
+//! A [`SetCursor`] gives them lazily: it keeps the numbers of the rows in BY order, and where its groups begin. A
 //! contract sees all loads, how many were given, and the grain of the groups. A [`SetWalk`] gives the same loads to those who ask for no
 //! groups, and keeps none.
 //!

@@ -9,7 +9,7 @@ ghost use Rattle.ds2_reading.specs.ReadingKeys.{directions_of, keys_of_reading};
 
 use crate::row_load::next_load;
 use ds2_base::OutOfMemory;
-use ds2_reading::{Load, Place, Reading, SortedTables, Tables};
+use ds2_reading::{Load, Reading, SortedRows, Tables};
 use std::alloc::Global;
 use std::marker::Model;
 
@@ -17,8 +17,8 @@ use std::marker::Model;
 /// order alone. All its memory is taken at opening. A contract sees a cursor at grain 0.
 #[derive(Drop)]
 pub struct SetWalk {
-    tables: SortedTables,
-    place: Place,
+    rows: SortedRows,
+    place: usize,
 }
 
 impl Model for SetWalk {
@@ -30,14 +30,14 @@ impl Model for SetWalk {
     ghost Value = { Cursor };
 
     ghost view = { λ w. record {
-      tables = length w.tables.tables;
-      bys = length w.tables.descending;
+      tables = length w.rows.tables;
+      bys = length w.rows.descending;
       grain = 0;
-      loads = set_loads w.tables.descending w.tables.tables;
-      given = w.place.loads;
+      loads = set_loads w.rows.descending w.rows.tables;
+      given = w.place;
     } };
 
-    ghost invariant = { λ w. IsReady w.tables w.place };
+    ghost invariant = { λ w. IsReady w.rows w.place };
 }
 
 impl SetWalk {
@@ -48,11 +48,10 @@ impl SetWalk {
             ≡ cursor_at_start (length reading.now.tables) (length reading.now.bys) 0
             (set_loads (directions_of reading.now.bys) (keys_of_reading tables.now reading.now))) }
     {
-        let tables = SortedTables::open(alloc, reading, tables)?;
-        let _ = tables.count_rows()?;
-        tables.have_keys();
-        let place = Place::start();
-        Ok(SetWalk { tables, place })
+        let rows = SortedRows::open(alloc, reading, tables)?;
+        rows.have_keys();
+        let _rows = rows.len();
+        Ok(SetWalk { rows, place: 0 })
     }
 
     /// The next load; None exactly behind the last one. Takes no memory.
@@ -60,7 +59,7 @@ impl SetWalk {
         ensures load { option_map (load_meaning self.old.tables self.old.bys) result ≡ next_load_of self.old }
         ensures left { self.new ≡ behind_next self.old }
     {
-        next_load(&self.tables, &mut self.place)
+        next_load(&self.rows, &mut self.place)
     }
 
     /// A walk over the same loads, at the same load. The numbers of the rows are shared.
@@ -68,7 +67,7 @@ impl SetWalk {
         ensures { IfOk result (λ walk. walk ≡ self.now) }
     {
         Ok(SetWalk {
-            tables: self.tables.copy(alloc)?,
+            rows: self.rows.copy(alloc)?,
             place: self.place,
         })
     }

@@ -1,9 +1,9 @@
-use Rattle.std.proofs.Common.{length}
-use Rattle.ds2_merge.specs.KeyPlaces.{left_behind, HasKeyPlaces}
+use Rattle.std.proofs.Common.{◌-◌, length}
+use Rattle.ds2_merge.specs.KeyPlaces.{ordered_rows, HasKeyPlaces}
 use Rattle.ds2_merge.proofs.groups.group_places.Given as goal
 
 abbrev pub invariant-keys : goal.invariant-keys
-invariant-keys l = HasKeyPlaces l.tables l.grain l.place l.places
+invariant-keys l = HasKeyPlaces l.rows l.grain l.place l.places
 
 abbrev pub decreases-keys : goal.decreases-keys
-decreases-keys l = length (left_behind l.tables l.place.given)
+decreases-keys l = length (ordered_rows l.rows) - l.place.start

@@ -1,25 +1,19 @@
-use Rattle.std.proofs.Common.{ap, sym, ◌∙◌, arith}
-use Rattle.std.specs.Ordering.{is_lt}
-use Rattle.ds2_merge.proofs.KeyWalk.{no_rows_yet, ends_with_none, ends_before, goes_on, fewer_left}
+use Rattle.std.proofs.Common.{arith}
+use Rattle.ds2_merge.proofs.KeyWalk.{one_row, ends_with_none, ends_before, goes_on}
 use Rattle.ds2_merge.proofs.next_key.end_of_key.Goals as goal
 
 pub rows-init : goal.rows-init
-rows-init c = no_rows_yet c.args.tables.now c.args.place.now.given c.args.first (omega (arith, c.requires.tables.few_tables)) c.requires.there
+rows-init c = one_row c.args.rows.now c.args.start c.requires.there
 
 pub rows-preserved : goal.rows-preserved
 rows-preserved c =
-    goes_on c.args.tables.now c.args.place.now.given c.args.first c.rows.end c.requires.tables.keys c.requires.first c.rows.invariant c.in-Some.row c.in-Some.ensures.first
-    (ap is_lt (sym c.compare.ensures) ∙ sym c.is_lt.ensures ∙ c.if-is_lt.false)
+    goes_on c.args.rows.now c.args.start c.rows.end c.requires.tables.keys c.rows.invariant (omega (arith, c.rows-test.true, c.len-count.ensures.value))
+    (omega (arith, c.if-common_at-bys.false, c.common_at.ensures, c.bys-bys.ensures))
 
-pub rows-smaller : goal.rows-smaller
-rows-smaller c =
-    fewer_left c.args.tables.now c.args.place.now.given c.args.first c.rows.end c.requires.tables.keys c.requires.first c.rows.invariant c.in-Some.row c.in-Some.ensures.first
-
-pub returns-then-is_lt : goal.returns-then-is_lt
-returns-then-is_lt c =
-    ends_before c.args.tables.now c.args.place.now.given c.args.first c.rows.end c.requires.tables.keys c.requires.first c.rows.invariant c.in-Some.row c.in-Some.ensures.first
-    (ap is_lt (sym c.compare.ensures) ∙ sym c.is_lt.ensures ∙ c.if-is_lt.true)
+pub returns-then-common_at-bys : goal.returns-then-common_at-bys
+returns-then-common_at-bys c =
+    ends_before c.args.rows.now c.args.start c.rows.end c.requires.tables.keys c.rows.invariant (omega (arith, c.rows-test.true, c.len-count.ensures.value))
+    (omega (arith, c.if-common_at-bys.true, c.common_at.ensures, c.bys-bys.ensures))
 
 pub returns : goal.returns
-returns c =
-    ends_with_none c.args.tables.now c.args.place.now.given c.args.first c.rows.end c.requires.tables.keys c.requires.first c.rows.invariant c.in_default.ensures.first
+returns c = ends_with_none c.args.rows.now c.args.start c.rows.end c.requires.tables.keys c.rows.invariant (omega (arith, c.rows-test.false, c.len-count.ensures.value))

@@ -3,4 +3,4 @@ use Rattle.ds2_merge.specs.KeyPlaces.{most_between}
 use Rattle.ds2_merge.proofs.next_key.most_between.Given as goal
 
 abbrev pub invariant-tables : goal.invariant-tables
-invariant-tables l = l.most ≡ most_between l.given l.end l.table
+invariant-tables l = l.most ≡ most_between l.begins l.ends l.table

@@ -8,7 +8,7 @@ pub next_key-requires-clause-place : goal.next_key-requires-clause-place
 next_key-requires-clause-place c = c.requires.place
 
 pub returns-in-Some : goal.returns-in-Some
-returns-in-Some c = current_some c.args.tables.now c.args.place.now c.in-Some.key c.requires c.in-Some.is
+returns-in-Some c = current_some c.args.rows.now c.args.place.now c.in-Some.key c.requires c.in-Some.is
 
 pub returns-in-None : goal.returns-in-None
-returns-in-None c = current_next c.args.tables.now c.args.place.now c.next_key.result c.requires c.in-None.is c.next_key.ensures
+returns-in-None c = current_next c.args.rows.now c.args.place.now c.next_key.result c.requires c.in-None.is c.next_key.ensures

@@ -20,5 +20,8 @@ overflow_mul-result c = record { fits = omega (arith, front_bound c.characters.i
 pub overflow_add-result : goal.overflow_add-result
 overflow_add-result c = record { fits = omega (arith, c.rest_digit.ensures.bound, front_bound c.characters.i c.characters.head (omega arith) c.characters.invariant.1) }
 
-pub returns : goal.returns
-returns c = digits_end c.characters.i c.characters.head c.characters.rest.now c.rest_digit.result _ (omega arith) c.rest_digit.ensures.value c.characters.invariant.0
+pub returns-clause-value : goal.returns-clause-value
+returns-clause-value c = digits_end c.characters.i c.characters.head c.characters.rest.now c.rest_digit.result _ (omega arith) c.rest_digit.ensures.value c.characters.invariant.0
+
+pub returns-clause-bound : goal.returns-clause-bound
+returns-clause-bound c = omega (arith, c.rest_digit.ensures.bound, front_bound c.characters.i c.characters.head (omega arith) c.characters.invariant.1)

@@ -10,7 +10,7 @@ use Rattle.ds2_merge.proofs.cursor.MergeCursor.group_start.Goals as goal
 pub unreachable-requires : goal.unreachable-requires
 unreachable-requires c =
     let P : Cursor → Type 0 = λ v. c.args.g ≤ group_count v in
-    let few : P (cursor_of c.self.inside.tables c.self.inside.grain (loads_given c.self.inside.place)) = subst P (sym c.self.view_is) c.requires in
+    let few : P (cursor_of c.self.inside.rows c.self.inside.grain (loads_given c.self.inside.place)) = subst P (sym c.self.view_is) c.requires in
     not_past (arc_value c.self.inside.groups) c.args.g (omega (arith, few, c.self.invariant.1.count))
     (ap (λ (ps : List KeyPlace). slice_get ps c.args.g) (sym c.deref.ensures) ∙ sym c.in-None.ensures)
 

@@ -12,4 +12,4 @@ pub returns-clause-load : goal.returns-clause-load
 returns-clause-load c = rw (← c.self.view_is) c.next_load.ensures.load
 
 pub returns-clause-left : goal.returns-clause-left
-returns-clause-left c = rw (← c.self.view_is) (ap (cursor_of c.self.inside.tables c.self.inside.grain) c.next_load.ensures.given)
+returns-clause-left c = rw (← c.self.view_is) (ap (cursor_of c.self.inside.rows c.self.inside.grain) c.next_load.ensures.given)

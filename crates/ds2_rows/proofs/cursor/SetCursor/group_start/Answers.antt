@@ -1,19 +1,18 @@
-use Rattle.std.proofs.Common.{◌≤◌, sym, subst, arith, List, ap, ◌∙◌}
+use Rattle.std.proofs.Common.{ℕ, ◌≤◌, sym, subst, arith, List, ap, ◌∙◌}
 use Rattle.std.specs.Arc.{arc_value}
 use Rattle.std.specs.Prelude.{slice_get}
 use Rattle.ds2_reading.specs.CursorState.{Cursor, group_count}
-use Rattle.ds2_reading.specs.declared.place.Place.{Place}
 use Rattle.ds2_rows.proofs.Opening.{cursor_of, not_past}
 use Rattle.ds2_rows.proofs.cursor.SetCursor.group_start.Goals as goal
 
 pub unreachable-requires : goal.unreachable-requires
 unreachable-requires c =
     let P : Cursor → Type 0 = λ v. c.args.g ≤ group_count v in
-    let few : P (cursor_of c.self.inside.tables c.self.inside.grain c.self.inside.place.loads) = subst P (sym c.self.view_is) c.requires in
-    not_past (arc_value c.self.inside.groups) c.args.g (omega (arith, few, c.self.invariant.1.count))
-    (ap (λ (ps : List Place). slice_get ps c.args.g) (sym c.deref.ensures) ∙ sym c.in-None.ensures)
+    let few : P (cursor_of c.self.inside.rows c.self.inside.grain c.self.inside.place) = subst P (sym c.self.view_is) c.requires in
+    not_past (arc_value c.self.inside.starts) c.args.g (omega (arith, few, c.self.invariant.1.count))
+    (ap (λ (ps : List ℕ). slice_get ps c.args.g) (sym c.deref.ensures) ∙ sym c.in-None.ensures)
 
 pub returns : goal.returns
 returns c =
-    let start = c.self.invariant.1.each c.args.g _ (ap (λ (ps : List Place). slice_get ps c.args.g) (sym c.deref.ensures) ∙ sym c.in-Some.ensures) in
+    let start = c.self.invariant.1.each c.args.g _ (ap (λ (ps : List ℕ). slice_get ps c.args.g) (sym c.deref.ensures) ∙ sym c.in-Some.ensures) in
     rw (← c.self.view_is) start.1

@@ -1,5 +1,4 @@
-use Rattle.std.proofs.Common.{ℕ, ap}
-use Rattle.ds2_reading.specs.CursorState.{Cursor}
+use Rattle.std.proofs.Common.{ap}
 use Rattle.ds2_rows.proofs.Opening.{cursor_of}
 use Rattle.ds2_rows.proofs.cursor.SetCursor.next_load.Goals as goal
 
@@ -13,4 +12,4 @@ pub returns-clause-load : goal.returns-clause-load
 returns-clause-load c = rw (← c.self.view_is) c.next_load.ensures.load
 
 pub returns-clause-left : goal.returns-clause-left
-returns-clause-left c = rw (← c.self.view_is) (ap (cursor_of c.self.inside.tables c.self.inside.grain) c.next_load.ensures.given)
+returns-clause-left c = rw (← c.self.view_is) (ap (cursor_of c.self.inside.rows c.self.inside.grain) c.next_load.ensures.given)

@@ -1,25 +1,24 @@
-use Rattle.std.proofs.Common.{◌≤◌, sym, subst, ap, arith, List, ◌∙◌}
+use Rattle.std.proofs.Common.{ℕ, ◌≤◌, sym, subst, ap, arith, List, ◌∙◌}
 use Rattle.std.specs.Arc.{arc_value}
 use Rattle.std.specs.Prelude.{slice_get}
 use Rattle.ds2_reading.specs.CursorState.{Cursor, group_count}
-use Rattle.ds2_reading.specs.declared.place.Place.{Place}
 use Rattle.ds2_rows.proofs.Opening.{cursor_of, not_past}
 use Rattle.ds2_rows.proofs.cursor.SetCursor.seek.Goals as goal
 
 pub unreachable-requires : goal.unreachable-requires
 unreachable-requires c =
     let P : Cursor → Type 0 = λ v. c.args.g ≤ group_count v in
-    let few : P (cursor_of c.self.inside.tables c.self.inside.grain c.self.inside.place.loads) = subst P (sym c.self.view_is) c.requires in
-    not_past (arc_value c.self.inside.groups) c.args.g (omega (arith, few, c.self.invariant.1.count))
-    (ap (λ (ps : List Place). slice_get ps c.args.g) (sym c.deref.ensures) ∙ sym c.in-None.ensures)
+    let few : P (cursor_of c.self.inside.rows c.self.inside.grain c.self.inside.place) = subst P (sym c.self.view_is) c.requires in
+    not_past (arc_value c.self.inside.starts) c.args.g (omega (arith, few, c.self.invariant.1.count))
+    (ap (λ (ps : List ℕ). slice_get ps c.args.g) (sym c.deref.ensures) ∙ sym c.in-None.ensures)
 
 pub invariant_of-self : goal.invariant_of-self
 invariant_of-self c =
-    let start = c.self.invariant.1.each c.args.g c.in-Some.place.now (ap (λ (ps : List Place). slice_get ps c.args.g) (sym c.deref.ensures) ∙ sym c.in-Some.ensures) in
+    let start = c.self.invariant.1.each c.args.g c.in-Some.place.now (ap (λ (ps : List ℕ). slice_get ps c.args.g) (sym c.deref.ensures) ∙ sym c.in-Some.ensures) in
     let ready = c.self.invariant.0 in
-    (record { few_tables = ready.few_tables; few_bys = ready.few_bys; keys = ready.keys; room = ready.room; here = start.0 }, c.self.invariant.1)
+    (record { few_tables = ready.few_tables; few_bys = ready.few_bys; keys = ready.keys; room = ready.room; within = start.0 }, c.self.invariant.1)
 
 pub returns : goal.returns
 returns c =
-    let start = c.self.invariant.1.each c.args.g c.in-Some.place.now (ap (λ (ps : List Place). slice_get ps c.args.g) (sym c.deref.ensures) ∙ sym c.in-Some.ensures) in
-    rw (← c.self.view_is) (ap (cursor_of c.self.inside.tables c.self.inside.grain) start.1)
+    let start = c.self.invariant.1.each c.args.g c.in-Some.place.now (ap (λ (ps : List ℕ). slice_get ps c.args.g) (sym c.deref.ensures) ∙ sym c.in-Some.ensures) in
+    rw (← c.self.view_is) (ap (cursor_of c.self.inside.rows c.self.inside.grain) start.1)
