@@ -1,6 +1,8 @@
+pub mod Across
 pub mod BlankLemmas
 pub mod ColumnLemmas
 pub mod HeaderLemmas
+pub mod Holding
 pub mod Knowing
 pub mod LawHeading
 pub mod LawHeadings
@@ -11,6 +13,6 @@ pub mod ReadLemmas
 pub mod Reading
 pub mod SchemaLemmas
 pub mod Spelled
-pub mod ValueLemmas
+pub mod TypedLemmas
 pub mod Writable
 pub mod Writing

@@ -1,5 +1,5 @@
 -- What the records of a text make.
-use Rattle.std.proofs.Common.{◌≡◌, ◌≤◌, ◌+◌, ◌-◌, ◌*◌, ℕ, Bool, true, false, List, [], ◌∷◌, Option, Some, None, length, map, sym, arith, refl, ap, ◌∙◌, ◌<◌}
+use Rattle.std.proofs.Common.{◌≡◌, ◌≤◌, ◌*◌, ℕ, Bool, true, false, List, [], ◌∷◌, Option, Some, None, length, map, sym, arith, refl, ap, ◌∙◌, ◌<◌}
 use Rattle.std.specs.Prelude.{nat_lt, if◌then◌else◌, Result, Ok, Err}
 use Rattle.std.specs.Str.{IsUtf8, is_utf8}
 use Rattle.std.proofs.lemmas.Bool.{lt-ltb, le-ltb, false_from_ne_true}
@@ -26,7 +26,6 @@ use Rattle.ds2_csv_records.specs.Cells.{spelled}
 use Rattle.ds2_csv_records.specs.Reading.{records_left, IsNext}
 use Rattle.ds2_csv_records.specs.declared.cell.Cell.{Cell}
 use Rattle.ds2_csv_records.specs.declared.read.Record.{Record}
-use Rattle.ds2_csv.proofs.Reading.{sheet-large, sheet-whole}
 use Rattle.ds2_csv.proofs.SchemaLemmas.{columns-count, columns-typed}
 use Rattle.ds2_csv.specs.declared.limits.TheConstants.{MOST_BYTES, MOST_CELLS, MOST_COLUMNS}
 
@@ -60,20 +59,6 @@ reads-text bytes few good =
     let no : nat_lt MOST_BYTES (length bytes) ≡ false = le-ltb MOST_BYTES (length bytes) few in
     rw (no, is_utf8-from_IsUtf8 bytes good) refl
 
--- rows under columns that are known, at their end
-pub typed-end : (columns told : List Column) (rows : Rows) (number : ℕ) (state : Result Contents CsvRefusal) (result : Result Contents (Stop CsvRefusal)) → odd_from (length columns) 1 rows ≡ None
-    → number ≡ 1 + length rows → (length rows * length columns ≤ MOST_CELLS → state ≡ under_columns columns rows)
-    → told ≡ columns → Says result (if nat_lt MOST_CELLS ((number - 1) * length told) then Err (of_file TooLarge) else state) → Says result (of_sheet (under_columns columns) (sheet_of (length columns) rows))
-typed-end columns told rows number state result even count few is said = by (nat_lt MOST_CELLS ((number - 1) * length columns)) refl (rw is at said)
-  where
-    by : (b : Bool) → nat_lt MOST_CELLS ((number - 1) * length columns) ≡ b → Says result (if b then Err (of_file TooLarge) else state)
-        → Says result (of_sheet (under_columns columns) (sheet_of (length columns) rows))
-    by true large told = let e = sheet-large (length columns) number rows even count large in rw e told
-    by false small told =
-        let e = sheet-whole (length columns) number rows even count small in
-        let same : state ≡ under_columns columns rows = few e.1 in
-        rw e.0 (rw same at told)
-
 -- the columns are those of the headings over any rows, where each heading tells its type
 pub typed-said : (hs : List Heading) (schema : List Column) (none rows : Rows) (result : Result Contents (Stop CsvRefusal)) → are_typed hs ≡ true → schema ≡ columns_from 0 hs none
     → Says result (of_sheet (under_columns schema) (sheet_of (length schema) rows)) → Says result (under_headings hs rows)
@@ -86,19 +71,6 @@ typed-said hs schema none rows result all is said =
     by : (s : Result Sheet CsvRefusal) → of_sheet (under_columns schema) s ≡ of_sheet (λ even. under_columns (columns_from 0 hs even) even) s
     by (Err refusal) = refl
     by (Ok sheet) = ap (λ (t : List Column). under_columns t sheet.rows) (is ∙ columns-typed 0 hs none sheet.rows all)
-
--- a sheet has the width that was asked for
-pub sheet-width : (width : ℕ) (rows : Rows) (sheet : Sheet) → sheet_of width rows ≡ Ok sheet → sheet.width ≡ width
-unfolding sheet_of
-sheet-width width rows sheet e = by (odd_from width 1 rows) e
-  where
-    by_size : (b : Bool) → (if b then Err (of_file TooLarge) else Ok (record { width = width; rows = rows })) ≡ Ok sheet → sheet.width ≡ width
-    by_size true f = cc f
-    by_size false f = let same : sheet ≡ record { width = width; rows = rows } = cc f in ap (λ (s : Sheet). s.width) same
-
-    by : (o : Option ℕ) → sheet_by o width rows ≡ Ok sheet → sheet.width ≡ width
-    by (Some odd) f = cc f
-    by None f = by_size (nat_lt MOST_CELLS (length rows * width)) f
 
 pub none-read : (rows : Rows) → rows ≡ [] → of_records rows ≡ Err (of_file NoHeader)
 unfolding of_records

@@ -1,21 +1,28 @@
--- Known: what is known of the cells of each column, as far as they were seen.
-use Rattle.std.specs.Prelude.{ℕ, ◌≡◌, List, length, Some, slice_get, Result, Ok, Err}
-use Rattle.ds2_base.specs.declared.stop.Stop.{Stop}
-use Rattle.ds2_base.specs.declared.stop.Stop.TheVariants.{Refused, OutOfMemory}
+-- Known: what holds of the columns of a file, as far as its cells were read.
+use Rattle.std.specs.Prelude.{ℕ, ◌≡◌, List, [], ◌∷◌, ◌++◌, Some, slice_get}
+use Rattle.std.specs.Option.{option_map_or}
+use Rattle.ds2_base.specs.Bytes.{Bytes}
 use Rattle.ds2_csv.specs.Columns.{cells_of}
 use Rattle.ds2_csv_cells.specs.Inferred.{IsInferred}
 use Rattle.ds2_csv.specs.Records.{Rows}
-use Rattle.ds2_csv.specs.Sheet.{Sheet}
 use Rattle.ds2_csv_cells.specs.declared.inference.Inference.{Inference}
-use Rattle.ds2_csv.specs.declared.refusal.CsvRefusal.{CsvRefusal}
+
+-- what holds of an item for each column and the column's cells in rows
+abbrev pub HoldIn : {X : Type 0} → (ℕ → X → List Bytes → Type 0) → List X → Rows → Type 0
+HoldIn {X} holds items rows = (column : ℕ) (x : X) → slice_get items column ≡ Some x → holds column x (cells_of column rows)
+
+-- the cell of a column in the first cells of a row, where it is among them
+abbrev pub cell_in_part : ℕ → List Bytes → List Bytes
+cell_in_part column cells = option_map_or (λ (cell : Bytes). cell ∷ []) (slice_get cells column) []
+
+-- the same of rows and the first cells of one more
+abbrev pub HoldTo : {X : Type 0} → (ℕ → X → List Bytes → Type 0) → List X → Rows → List Bytes → Type 0
+HoldTo {X} holds items rows cells = (column : ℕ) (x : X) → slice_get items column ≡ Some x → holds column x (cells_of column rows ++ cell_in_part column cells)
+
+-- what the cells of a column tell
+abbrev pub TellsColumn : ℕ → Inference → List Bytes → Type 0
+TellsColumn column inference cells = IsInferred inference cells
 
 -- of each column what its cells in these rows tell
 abbrev pub AreInferred : List Inference → Rows → Type 0
-AreInferred known rows = (column : ℕ) (inference : Inference) → slice_get known column ≡ Some inference → IsInferred inference (cells_of column rows)
-
--- what is known after all rows, or the first reason why they are no sheet
-abbrev pub AreKnown : Result (List Inference) (Stop CsvRefusal) → Result Sheet CsvRefusal → Type 0
-AreKnown (Err OutOfMemory) sheet = Unit {0}
-AreKnown (Err (Refused refusal)) sheet = sheet ≡ Err refusal
-AreKnown (Ok known) (Err refusal) = ⊥
-AreKnown (Ok known) (Ok sheet) = AreInferred known sheet.rows × (length known ≡ sheet.width)
+AreInferred known rows = HoldIn TellsColumn known rows

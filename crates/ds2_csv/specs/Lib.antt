@@ -2,7 +2,6 @@ pub mod Columns
 pub mod Header
 pub mod Known
 pub mod Law
-pub mod NextRow
 pub mod Reads
 pub mod Records
 pub mod Refusals

@@ -18,10 +18,8 @@ mod items;
 pub mod laws;
 mod limits;
 mod read;
-mod records;
 mod refusal;
 mod typed;
-mod values;
 mod write;
 mod writer;
 

@@ -7,22 +7,26 @@ ghost use Rattle.ds2_csv.specs.Known.{AreInferred};
 ghost use Rattle.ds2_csv.specs.declared.limits.TheConstants.{MOST_BYTES, MOST_COLUMNS};
 ghost use Rattle.ds2_csv.specs.Reads.{of_records, reads};
 ghost use Rattle.ds2_csv.specs.Records.{Rows, records_of};
-ghost use Rattle.ds2_csv.specs.Typed.{are_typed, under_headings};
+ghost use Rattle.ds2_csv.specs.Typed.{are_confirmed, are_typed, under_headings};
 ghost use Rattle.ds2_value.specs.Schema.{is_schema};
+ghost use Rattle.ds2_value.specs.Types.{same_ty};
 
-use crate::column::{columns, known_columns, nothing_known};
+use crate::column::{columns, nothing_known};
 use crate::header::headings;
 use crate::heading::Heading;
 use crate::limits::{MOST_BYTES, MOST_COLUMNS};
 use crate::refusal::of_file;
-use crate::typed::typed_table;
+use crate::typed::{read_rows, typed_table};
 use crate::{CsvKind, CsvRefusal};
 use ds2_base::{Bytes, OutOfMemory, Stop};
 use ds2_csv_cells::Inference;
 use ds2_csv_records::{Record, next_record, without_mark};
 use ds2_table::Table;
-use ds2_value::Schema;
+use ds2_value::{Column, Schema, Ty};
 use std::alloc::Global;
+
+// How many rows tell which types are supposed.
+const FIRST_ROWS: u64 = 1000;
 
 // Whether each heading tells its type.
 fn are_typed(headings: &[Heading]) -> bool
@@ -44,8 +48,62 @@ fn schema(alloc: Global, headings: &[Heading], known: &[Inference]) -> Result<Sc
     }
 }
 
-// The table of the rows below a header that was read. Where the header does not tell each type, the rows are read twice: for
-// the types, and for the values.
+fn same_ty(a: Ty, b: Ty) -> bool
+    ensures { result ≡ same_ty a b }
+{
+    match (a, b) {
+        (Ty::BigInt, Ty::BigInt) => true,
+        (Ty::Decimal { p, s }, Ty::Decimal { p: q, s: t }) => p == q && s == t,
+        (Ty::Char { n }, Ty::Char { n: m }) => n == m,
+        (Ty::Varchar { n }, Ty::Varchar { n: m }) => n == m,
+        _ => false,
+    }
+}
+
+// Whether columns have the types that were supposed.
+#[tactic(auto, unfolding(crate::specs::Typed::are_confirmed))]
+fn are_confirmed(supposed: &[Column], columns: &[Column]) -> bool
+    ensures { result ≡ are_confirmed supposed.now columns.now }
+{
+    match supposed {
+        [] => columns.is_empty(),
+        [s, ss @ ..] => match columns {
+            [] => false,
+            [c, cs @ ..] => same_ty(s.ty, c.ty) && are_confirmed(ss, cs),
+        },
+    }
+}
+
+// The table of the rows below headings of which not all tell their types, where so much is known of the first rows. Their columns
+// are supposed to be those of all rows. Where that is not so, the rows are read once more.
+fn supposed_table(
+    alloc: Global,
+    headings: &[Heading],
+    below: &str,
+    first: &[Inference],
+) -> Result<Table, Stop<CsvRefusal>>
+    requires schema { (rows : Rows) → IsTrue (is_schema (columns_from 0 headings.now rows)) }
+    requires few { length headings.now ≤ MOST_COLUMNS }
+    requires count { length first.now ≡ length headings.now }
+    requires first { (rows : Rows) × AreInferred first.now rows }
+    ensures { Says result (under_headings headings.now (records_left below.now)) }
+{
+    let supposed = schema(alloc, headings, first)?;
+    let columns = supposed.columns().as_slice();
+    let known = nothing_known(alloc, headings.len())?;
+    let typed = read_rows(alloc, below, columns, known, u64::MAX)?;
+    if !typed.ended {
+        return Err(Stop::OutOfMemory);
+    }
+    let schema = schema(alloc, headings, typed.known.as_slice())?;
+    if typed.bad.is_none() && are_confirmed(columns, schema.columns().as_slice()) {
+        return typed.into_table(alloc, schema);
+    }
+    typed_table(alloc, below, schema)
+}
+
+// The table of the rows below a header that was read. Where the header does not tell each type, the first rows tell which types are
+// supposed.
 fn under_headings(
     alloc: Global,
     headings: &[Heading],
@@ -55,14 +113,14 @@ fn under_headings(
     requires few { length headings.now ≤ MOST_COLUMNS }
     ensures { Says result (under_headings headings.now (records_left below.now)) }
 {
-    if are_typed(headings) {
-        let known = nothing_known(alloc, headings.len())?;
-        let schema = schema(alloc, headings, known.as_slice())?;
-        return typed_table(alloc, below, schema, headings.len());
-    }
-    let known = known_columns(alloc, below, headings.len())?;
+    let known = nothing_known(alloc, headings.len())?;
     let schema = schema(alloc, headings, known.as_slice())?;
-    typed_table(alloc, below, schema, headings.len())
+    if are_typed(headings) {
+        return typed_table(alloc, below, schema);
+    }
+    let columns = schema.columns().as_slice();
+    let first = read_rows(alloc, below, columns, known, FIRST_ROWS)?;
+    supposed_table(alloc, headings, below, first.known.as_slice())
 }
 
 // Whether a header of so many cells has more than a table may have.

@@ -1,6 +1,7 @@
 //! Why bytes are no table.
 ghost use Rattle.std.specs.Prelude.{◌≡◌};
-ghost use Rattle.ds2_csv.specs.Refusals.{of_file, of_row};
+ghost use Rattle.ds2_csv.specs.Refusals.{of_cell, of_file, of_row};
+ghost use Rattle.ds2_csv.specs.declared.refusal.CsvKind.TheVariants.{BadCell};
 
 use thiserror::Error;
 
@@ -63,5 +64,16 @@ pub(crate) fn of_row(kind: CsvKind, row: u64) -> CsvRefusal
         kind,
         row,
         column: 0,
+    }
+}
+
+/// A refusal of a cell that has no value of its column's type.
+pub(crate) fn of_cell(row: u64, column: u32) -> CsvRefusal
+    ensures { result ≡ of_cell BadCell row column }
+{
+    CsvRefusal {
+        kind: CsvKind::BadCell,
+        row,
+        column,
     }
 }

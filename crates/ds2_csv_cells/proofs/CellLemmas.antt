@@ -1,5 +1,5 @@
 -- How many characters a text has, and blanks behind it.
-use Rattle.std.proofs.Common.{◌≡◌, ◌≤◌, ◌<◌, ℕ, zero, suc, true, List, [], ◌∷◌, ◌++◌, ◌-◌, length, refl, sym, ap, ◌∙◌, arith}
+use Rattle.std.proofs.Common.{◌≡◌, ◌≤◌, ℕ, zero, suc, true, List, ◌++◌, ◌-◌, length, refl, ap, ◌∙◌, arith}
 use Rattle.std.specs.Prelude.{replicate, nat_le, Bool, ◌&&◌}
 use Rattle.std.specs.Str.{chars, IsUtf8, IsAscii}
 use Rattle.std.proofs.Common.{length-append}

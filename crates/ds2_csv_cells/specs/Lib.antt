@@ -1,7 +1,7 @@
-pub mod Added
 pub mod CellText
 pub mod Cells
 pub mod ColumnTypes
+pub mod Held
 pub mod Inferred
 pub mod Laws
 pub mod Number

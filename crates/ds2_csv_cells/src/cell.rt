@@ -1,19 +1,30 @@
 //! The value of a cell.
-ghost use Rattle.ds2_csv_cells.specs.Added.{IsAdded};
-ghost use Rattle.std.specs.Prelude.{◌≡◌, ◌≤◌, IfOk, IfSome, IsTrue, true, nat_le, option_map, if◌then◌else◌};
-ghost use Rattle.ds2_csv_cells.specs.Cells.{is_null_mark, is_missing, unescaped, decoded, decimal_in, filled, column_text, text_value, value_of};
+ghost use Rattle.std.specs.Prelude.{◌≡◌, ◌≤◌, IfOk, IfSome, IsTrue, Some, true, nat_le, option_map, option_and_then, if◌then◌else◌};
+ghost use Rattle.ds2_csv_cells.specs.Cells.{is_missing, decoded, decimal_in, filled, column_text, text_value, value_of};
+ghost use Rattle.ds2_csv_cells.specs.Held.{held_value};
 ghost use Rattle.std.specs.Str.{is_utf8};
 ghost use Rattle.ds2_value.specs.declared.value.Value.TheVariants as Value;
 ghost use Rattle.ds2_base.specs.Characters.{char_count};
-ghost use Rattle.ds2_csv_records.specs.Cells.{spelled, unquoted};
+ghost use Rattle.ds2_value.specs.Cell.{lent_value};
 ghost use Rattle.ds2_value.specs.Types.{in_bounds, fits};
 
 use crate::decimal::decimal;
 use crate::number::integer;
 use ds2_base::{OutOfMemory, Text, char_count};
-use ds2_csv_records::{Cell, unquoted};
-use ds2_value::{Row, Ty, Value};
+use ds2_decimal::Dec;
+use ds2_value::{Cell, Ty};
 use std::alloc::Global;
+
+/// What a cell is in a column of a type.
+#[derive(Drop)]
+pub enum CellValue<'t> {
+    /// It has no value there.
+    Bad,
+    /// A value, which the cell's text lends.
+    Lent(Cell<'t>),
+    /// The cell's text with blanks behind it.
+    Filled(Text),
+}
 
 /// Whether a cell of a number column is null: it is empty, or `\N`.
 pub fn is_missing(cell: &[u8]) -> bool
@@ -47,26 +58,13 @@ fn filled(alloc: Global, text: &str, n: usize) -> Result<Text, OutOfMemory>
     Ok(filled)
 }
 
-fn of_text(text: Text) -> Value
-    ensures value { result ≡ Value.Txt text }
-    ensures utf8 { is_utf8 text ≡ true }
+// A text as a value.
+#[inline(always)]
+fn lent_text(text: &str) -> CellValue<'_>
+    ensures value { held_value result ≡ Some (Value.Txt text.now) }
+    ensures utf8 { is_utf8 text.now ≡ true }
 {
-    let _bytes = text.as_bytes();
-    Value::Txt(text)
-}
-
-// A text of at most n characters as a column holds it, where each text has exactly n of them, or not.
-#[tactic(auto, using(crate::proofs::CellLemmas::both_hold))]
-fn column_text(alloc: Global, n: u16, exact: bool, text: &str) -> Result<Value, OutOfMemory>
-    requires { char_count text.now ≤ n }
-    ensures value { IfOk result (λ v. v ≡ Value.Txt (column_text n exact text.now)) }
-    ensures fit { IfOk result (λ v. IsTrue (fits v (if exact then Ty.Char n else Ty.Varchar n))) }
-{
-    if exact {
-        Ok(of_text(filled(alloc, text, n as usize)?))
-    } else {
-        Ok(of_text(Text::of(alloc, text)?))
-    }
+    CellValue::Lent(Cell::Txt(text))
 }
 
 // Whether a text has at most n characters. A text of at most n bytes has no more of them.
@@ -76,107 +74,104 @@ fn is_short(text: &str, n: usize) -> bool
     text.len() <= n || char_count(text) <= n
 }
 
-// Adds the value of a cell's text in a column of at most, or exactly, n characters at the end, and says whether there is one.
-fn add_text(
-    alloc: Global,
-    values: &mut Row,
-    n: u16,
-    exact: bool,
-    cell: &str,
-) -> Result<bool, OutOfMemory>
-    ensures added { IfOk result (λ good. IsAdded good values.old values.new (text_value n exact (decoded cell.now))) }
-    ensures fit { IfOk result (λ good. IfSome (text_value n exact (decoded cell.now)) (λ v. IsTrue (fits v (if exact then Ty.Char n else Ty.Varchar n)))) }
+// A text of at most n characters as a column holds it, where each text has exactly n of them, or not.
+#[tactic(auto, using(crate::proofs::CellLemmas::both_hold))]
+fn column_text(alloc: Global, n: u16, exact: bool, text: &str) -> Result<CellValue<'_>, OutOfMemory>
+    requires { char_count text.now ≤ n }
+    ensures value { IfOk result (λ v. held_value v ≡ Some (Value.Txt (column_text n exact text.now))) }
+    ensures fit { IfOk result (λ v. IfSome (held_value v) (λ x. IsTrue (fits x (if exact then Ty.Char n else Ty.Varchar n)))) }
+{
+    if exact {
+        Ok(CellValue::Filled(filled(alloc, text, n as usize)?))
+    } else {
+        Ok(lent_text(text))
+    }
+}
+
+// The value of a cell in a column of at most, or exactly, n characters.
+fn text_cell(alloc: Global, n: u16, exact: bool, cell: &str) -> Result<CellValue<'_>, OutOfMemory>
+    ensures value { IfOk result (λ v. held_value v ≡ text_value n exact (decoded cell.now)) }
+    ensures fit { IfOk result (λ v. IfSome (held_value v) (λ x. IsTrue (fits x (if exact then Ty.Char n else Ty.Varchar n)))) }
 {
     let Some(text) = decoded(cell) else {
-        values.push(Value::Null)?;
-        return Ok(true);
+        return Ok(CellValue::Lent(Cell::Null));
     };
     if !is_short(text, n as usize) {
-        return Ok(false);
+        return Ok(CellValue::Bad);
     }
-    let value = column_text(alloc, n, exact, text)?;
-    values.push(value)?;
-    Ok(true)
+    column_text(alloc, n, exact, text)
 }
 
-#[tactic(auto, unfolding(crate::specs::Cells::value_of))]
-fn add_bigint(values: &mut Row, cell: &[u8]) -> Result<bool, OutOfMemory>
-    ensures added { IfOk result (λ good. IsAdded good values.old values.new (value_of Ty.BigInt cell.now)) }
-    ensures fit { IfOk result (λ good. IfSome (value_of Ty.BigInt cell.now) (λ v. IsTrue (fits v Ty.BigInt))) }
+/// The value of a cell that is given in a BIGINT column, from the integer that it spells.
+#[inline(always)]
+pub(crate) fn bigint_value<'t>(integer: Option<i64>) -> CellValue<'t>
+    ensures value { held_value result ≡ option_map (λ i. Value.Int i) integer }
+    ensures fit { IfSome (held_value result) (λ v. IsTrue (fits v Ty.BigInt)) }
 {
-    if is_missing(cell) {
-        values.push(Value::Null)?;
-        return Ok(true);
-    }
-    match integer(cell) {
-        Some(i) => {
-            values.push(Value::Int(i))?;
-            Ok(true)
-        }
-        None => Ok(false),
+    match integer {
+        Some(i) => CellValue::Lent(Cell::Int(i)),
+        None => CellValue::Bad,
     }
 }
 
-#[tactic(auto, unfolding(crate::specs::Cells::value_of))]
-fn add_decimal(values: &mut Row, p: u8, s: u8, cell: &str) -> Result<bool, OutOfMemory>
+/// The same in a DECIMAL(p,s) column, from the decimal that it spells.
+#[inline(always)]
+pub(crate) fn decimal_value<'t>(p: u8, s: u8, decimal: Option<Dec>) -> CellValue<'t>
     requires { IsTrue (in_bounds (Ty.Decimal p s)) }
-    ensures added { IfOk result (λ good. IsAdded good values.old values.new (value_of (Ty.Decimal p s) cell.now)) }
-    ensures fit { IfOk result (λ good. IfSome (value_of (Ty.Decimal p s) cell.now) (λ v. IsTrue (fits v (Ty.Decimal p s)))) }
+    ensures value { held_value result ≡ option_and_then (decimal_in p s) decimal }
+    ensures fit { IfSome (held_value result) (λ v. IsTrue (fits v (Ty.Decimal p s))) }
 {
-    if is_missing(cell.as_bytes()) {
-        values.push(Value::Null)?;
-        return Ok(true);
-    }
-    let Some(d) = decimal(cell) else {
-        return Ok(false);
+    let Some(d) = decimal else {
+        return CellValue::Bad;
     };
     if d.scale() > s {
-        return Ok(false);
+        return CellValue::Bad;
     }
     match d.rescale(p, s) {
-        Ok(e) => {
-            values.push(Value::Dec(e))?;
-            Ok(true)
-        }
-        Err(_) => Ok(false),
+        Ok(e) => CellValue::Lent(Cell::Dec(e)),
+        Err(_) => CellValue::Bad,
     }
 }
 
-// Adds the value of a cell's text in a column of a type at the end, and says whether there is one.
 #[inline(always)]
 #[tactic(auto, unfolding(crate::specs::Cells::value_of))]
-fn add_value(alloc: Global, values: &mut Row, ty: Ty, cell: &str) -> Result<bool, OutOfMemory>
-    requires { IsTrue (in_bounds ty) }
-    ensures added { IfOk result (λ good. IsAdded good values.old values.new (value_of ty cell.now)) }
-    ensures fit { IfOk result (λ good. IfSome (value_of ty cell.now) (λ v. IsTrue (fits v ty))) }
+fn bigint_cell(cell: &[u8]) -> CellValue<'_>
+    ensures value { held_value result ≡ value_of Ty.BigInt cell.now }
+    ensures fit { IfSome (held_value result) (λ v. IsTrue (fits v Ty.BigInt)) }
 {
-    match ty {
-        Ty::BigInt => add_bigint(values, cell.as_bytes()),
-        Ty::Decimal { p, s } => add_decimal(values, p, s, cell),
-        Ty::Char { n } => add_text(alloc, values, n, true, cell),
-        Ty::Varchar { n } => add_text(alloc, values, n, false, cell),
+    if is_missing(cell) {
+        CellValue::Lent(Cell::Null)
+    } else {
+        bigint_value(integer(cell))
     }
 }
 
-// The same of a cell with quotes.
-#[inline(never)]
-fn add_quoted(alloc: Global, values: &mut Row, ty: Ty, raw: &str) -> Result<bool, OutOfMemory>
-    requires { IsTrue (in_bounds ty) }
-    ensures added { IfOk result (λ good. IsAdded good values.old values.new (value_of ty (unquoted true raw.now))) }
-    ensures fit { IfOk result (λ good. IfSome (value_of ty (unquoted true raw.now)) (λ v. IsTrue (fits v ty))) }
+#[inline(always)]
+#[tactic(auto, unfolding(crate::specs::Cells::value_of))]
+fn decimal_cell(p: u8, s: u8, cell: &str) -> CellValue<'_>
+    requires { IsTrue (in_bounds (Ty.Decimal p s)) }
+    ensures value { held_value result ≡ value_of (Ty.Decimal p s) cell.now }
+    ensures fit { IfSome (held_value result) (λ v. IsTrue (fits v (Ty.Decimal p s))) }
 {
-    let text = unquoted(alloc, raw)?;
-    add_value(alloc, values, ty, text.as_str())
+    if is_missing(cell.as_bytes()) {
+        CellValue::Lent(Cell::Null)
+    } else {
+        decimal_value(p, s, decimal(cell))
+    }
 }
 
-/// Adds the value of a cell as it stands in the text, in a column of a type, at the end, and says whether there is one.
-pub fn read_cell(alloc: Global, values: &mut Row, ty: Ty, cell: Cell) -> Result<bool, OutOfMemory>
+/// The value of a cell's text in a column of a type.
+#[inline(always)]
+#[tactic(auto, unfolding(crate::specs::Cells::value_of))]
+pub fn read_cell(alloc: Global, ty: Ty, cell: &str) -> Result<CellValue<'_>, OutOfMemory>
     requires { IsTrue (in_bounds ty) }
-    ensures added { IfOk result (λ good. IsAdded good values.old values.new (value_of ty (spelled cell.entry))) }
-    ensures fit { IfOk result (λ good. IfSome (value_of ty (spelled cell.entry)) (λ v. IsTrue (fits v ty))) }
+    ensures value { IfOk result (λ v. held_value v ≡ value_of ty cell.now) }
+    ensures fit { IfOk result (λ v. IfSome (held_value v) (λ x. IsTrue (fits x ty))) }
 {
-    match cell {
-        Cell::Plain(text) => add_value(alloc, values, ty, text),
-        Cell::Quoted(raw) => add_quoted(alloc, values, ty, raw),
+    match ty {
+        Ty::BigInt => Ok(bigint_cell(cell.as_bytes())),
+        Ty::Decimal { p, s } => Ok(decimal_cell(p, s, cell)),
+        Ty::Char { n } => text_cell(alloc, n, true, cell),
+        Ty::Varchar { n } => text_cell(alloc, n, false, cell),
     }
 }

@@ -1,19 +1,22 @@
 //! The type of a column out of its cells, in one pass.
-ghost use Rattle.std.specs.Prelude.{◌≡◌, ◌&&◌, ◌||◌, true, false, ℕ, [], ◌∷◌, ◌++◌, max, is_some, List as Items};
+ghost use Rattle.std.specs.Prelude.{◌≡◌, ◌&&◌, ◌||◌, true, false, ℕ, [], ◌∷◌, ◌++◌, max, is_some, IfOk, IfSome, IsTrue, OnOk, List as Items};
 ghost use Rattle.ds2_base.specs.Characters.{char_count};
-ghost use Rattle.ds2_csv_cells.specs.Cells.{is_missing};
+ghost use Rattle.ds2_csv_cells.specs.Cells.{is_missing, value_of};
 ghost use Rattle.ds2_csv_cells.specs.ColumnTypes.{without_sign, whole_digits, digits_before, digits_after, text_size, given, decimals_of, type_of_cells};
 ghost use Rattle.ds2_csv_cells.specs.Number.{integer_of};
 ghost use Rattle.ds2_decimal.specs.Text.{read};
+ghost use Rattle.ds2_csv_cells.specs.Held.{held_value};
 ghost use Rattle.ds2_csv_cells.specs.Inferred.{IsInferred};
+ghost use Rattle.ds2_value.specs.Types.{fits, in_bounds};
 
-use crate::cell::{decoded, is_missing};
+use crate::cell::{CellValue, bigint_value, decimal_value, decoded, is_missing, read_cell};
 use crate::decimal::decimal;
 use crate::number::integer;
-use ds2_base::char_count;
+use ds2_base::{OutOfMemory, char_count};
 use ds2_csv_records::cut;
 use ds2_decimal::MOST_DIGITS;
-use ds2_value::{TEXT_CHARACTERS, Ty};
+use ds2_value::{Cell, TEXT_CHARACTERS, Ty};
+use std::alloc::Global;
 
 /// What is known of a column's cells.
 #[derive(Clone, Copy)]
@@ -116,21 +119,31 @@ impl Inference {
         }
     }
 
-    // One more cell, which is not null in a number column; `longest` is known with it.
-    fn add_given(&mut self, cell: &str, longest: usize)
-        ensures { (cells : Items (Items ℕ)) → IsInferred self.old cells → is_missing cell.now ≡ false → longest ≡ max (text_size cell.now) self.old.longest
-            → IsInferred self.new (cells ++ cell.now ∷ []) }
+    // One more cell, which is null in a number column.
+    #[inline(always)]
+    fn add_missing(&mut self, cell: &str)
+        requires { is_missing cell.now ≡ true }
+        ensures { (cells : Items (Items ℕ)) → IsInferred self.old cells → IsInferred self.new (cells ++ cell.now ∷ []) }
     {
-        let integers = are_integers(self.integers, cell.as_bytes());
+        self.longest = with_size(self.longest, cell);
+    }
+
+    // One more cell, which is given in a number column. Whether all such cells are integers, or decimals, is known with it.
+    #[inline(always)]
+    fn add_given(&mut self, cell: &str, integers: bool, decimals: bool)
+        requires given { is_missing cell.now ≡ false }
+        requires integers { integers ≡ (self.old.integers && is_some (integer_of cell.now)) }
+        requires decimals { decimals ≡ (integers || (self.old.decimals && is_some (read cell.now))) }
+        ensures { (cells : Items (Items ℕ)) → IsInferred self.old cells → IsInferred self.new (cells ++ cell.now ∷ []) }
+    {
         self.given = true;
         self.integers = integers;
-        self.longest = longest;
-        if !are_decimals(integers, self.decimals, cell) {
-            self.decimals = false;
+        self.decimals = decimals;
+        self.longest = with_size(self.longest, cell);
+        if !decimals {
             return;
         }
         let (before, after) = digits(cell.as_bytes(), integers);
-        self.decimals = true;
         self.before = self.before.max(before);
         self.after = self.after.max(after);
     }
@@ -140,11 +153,74 @@ impl Inference {
     pub fn add_cell(&mut self, cell: &str)
         ensures { (cells : Items (Items ℕ)) → IsInferred self.old cells → IsInferred self.new (cells ++ cell.now ∷ []) }
     {
-        let longest = with_size(self.longest, cell);
         if is_missing(cell.as_bytes()) {
-            self.longest = longest;
-        } else {
-            self.add_given(cell, longest);
+            self.add_missing(cell);
+            return;
+        }
+        let integers = are_integers(self.integers, cell.as_bytes());
+        let decimals = are_decimals(integers, self.decimals, cell);
+        self.add_given(cell, integers, decimals);
+    }
+
+    // Adds one more cell, and gives its value in a BIGINT column.
+    #[inline(always)]
+    #[tactic(auto, unfolding(crate::specs::Cells::value_of))]
+    fn read_bigint<'t>(&mut self, cell: &'t str) -> CellValue<'t>
+        ensures value { held_value result ≡ value_of Ty.BigInt cell.now }
+        ensures fit { IfSome (held_value result) (λ v. IsTrue (fits v Ty.BigInt)) }
+        ensures known { (cells : Items (Items ℕ)) → IsInferred self.old cells → IsInferred self.new (cells ++ cell.now ∷ []) }
+    {
+        if is_missing(cell.as_bytes()) {
+            self.add_missing(cell);
+            return CellValue::Lent(Cell::Null);
+        }
+        let integer = integer(cell.as_bytes());
+        let integers = self.integers && integer.is_some();
+        let decimals = are_decimals(integers, self.decimals, cell);
+        self.add_given(cell, integers, decimals);
+        bigint_value(integer)
+    }
+
+    // The same in a DECIMAL(p,s) column.
+    #[inline(always)]
+    #[tactic(auto, unfolding(crate::specs::Cells::value_of))]
+    fn read_decimal<'t>(&mut self, p: u8, s: u8, cell: &'t str) -> CellValue<'t>
+        requires { IsTrue (in_bounds (Ty.Decimal p s)) }
+        ensures value { held_value result ≡ value_of (Ty.Decimal p s) cell.now }
+        ensures fit { IfSome (held_value result) (λ v. IsTrue (fits v (Ty.Decimal p s))) }
+        ensures known { (cells : Items (Items ℕ)) → IsInferred self.old cells → IsInferred self.new (cells ++ cell.now ∷ []) }
+    {
+        if is_missing(cell.as_bytes()) {
+            self.add_missing(cell);
+            return CellValue::Lent(Cell::Null);
+        }
+        let decimal = decimal(cell);
+        let integers = are_integers(self.integers, cell.as_bytes());
+        let decimals = integers || (self.decimals && decimal.is_some());
+        self.add_given(cell, integers, decimals);
+        decimal_value(p, s, decimal)
+    }
+
+    /// Adds one more cell, and gives its value in a column of a type, as [`read_cell`] does. A number is parsed once.
+    #[inline(always)]
+    pub fn read_cell<'t>(
+        &mut self,
+        alloc: Global,
+        ty: Ty,
+        cell: &'t str,
+    ) -> Result<CellValue<'t>, OutOfMemory>
+        requires { IsTrue (in_bounds ty) }
+        ensures value { IfOk result (λ v. held_value v ≡ value_of ty cell.now) }
+        ensures fit { IfOk result (λ v. IfSome (held_value v) (λ x. IsTrue (fits x ty))) }
+        ensures known { (cells : Items (Items ℕ)) → IsInferred self.old cells → OnOk result (IsInferred self.new (cells ++ cell.now ∷ [])) }
+    {
+        match ty {
+            Ty::BigInt => Ok(self.read_bigint(cell)),
+            Ty::Decimal { p, s } => Ok(self.read_decimal(p, s, cell)),
+            _ => {
+                self.add_cell(cell);
+                read_cell(alloc, ty, cell)
+            }
         }
     }
 

@@ -18,10 +18,9 @@ use Rattle.csv.specs.declared.parser.Terminator.{Terminator}
 use Rattle.csv.specs.declared.parser.Terminator.TheVariants as term
 use Rattle.std.specs.List.{prefix_len}
 use Rattle.std.proofs.lemmas.List.{take_all}
-use Rattle.ds2_csv_records.specs.Reading.{Finished, finished, rest_of, records_left, rest_behind, Holds}
+use Rattle.ds2_csv_records.specs.Reading.{Finished, finished, rest_of, records_left, Holds, IsTaken, IsWithin}
 use Rattle.ds2_csv_records.specs.Records.{Rows}
 use Rattle.ds2_csv_records.specs.declared.cell.Cell.{Cell}
-use Rattle.ds2_csv_records.specs.declared.read.Record.{Record}
 use Rattle.ds2_csv_records.specs.declared.taken.Taken.{Taken}
 
 -- a byte of a cell without quotes
@@ -420,12 +419,6 @@ holds-counted kept count most cell cells l h =
       count = let k = h.count in omega (arith, length-append cells (spelled cell ∷ []));
     }
 
--- a record whose last cell was taken
-pub record-ends : (text rest : List ℕ) (cells : List (List ℕ)) (row : Record) (most : ℕ) → 0 < length (drop (prefix_len ends_line text) text)
-    → rest_of st.StartField [] [] (drop (prefix_len ends_line text) text) ≡ Some (cells, rest) → Holds row most cells
-    → (all : List (List ℕ)) × (records_left text ≡ all ∷ records_left rest) × Holds row most all
-record-ends text rest cells row most some read h = (cells, one-record text rest cells some read, h)
-
 -- ---- for the functions that take a cell
 
 pub some-left : (text : List ℕ) (b : Bool) → b ≡ (length text == 0) → b ≡ false → 0 < length text
@@ -470,17 +463,6 @@ quote-inside cells text front back n is f b = rw (f, b, is) (quoted-run true cel
 pub holds-empty : (kept : List Cell) (most : ℕ) → kept ≡ take 0 kept → kept ≡ [] → Holds (record { cells = kept; count = 0 }) most []
 holds-empty kept most e f = rw f (holds-none most)
 
-pub goes-on : (whole : Option Finished) (cells : List (List ℕ)) (taken next : Taken) → taken.more ≡ true → whole ≡ rest_behind cells taken
-    → rest_of st.StartField (cells ++ (spelled taken.cell ∷ [])) [] taken.rest.now ≡ rest_behind (cells ++ (spelled taken.cell ∷ [])) next
-    → whole ≡ rest_behind (cells ++ (spelled taken.cell ∷ [])) next
-goes-on whole cells taken next more before took =
-    before ∙ ap (λ b. if b then rest_of st.StartField (cells ++ (spelled taken.cell ∷ [])) [] taken.rest.now else Some (cells ++ (spelled taken.cell ∷ []), taken.rest.now)) more ∙ took
-
-pub goes-out : (whole : Option Finished) (cells : List (List ℕ)) (taken : Taken) → taken.more ≡ false → whole ≡ rest_behind cells taken
-    → whole ≡ Some (cells ++ (spelled taken.cell ∷ []), taken.rest.now)
-goes-out whole cells taken done before =
-    before ∙ ap (λ b. if b then rest_of st.StartField (cells ++ (spelled taken.cell ∷ [])) [] taken.rest.now else Some (cells ++ (spelled taken.cell ∷ []), taken.rest.now)) done
-
 pub no-more : (text start : List ℕ) (b : Bool) → start ≡ drop (prefix_len ends_line text) text → b ≡ (length start == 0) → b ≡ true → records_left text ≡ []
 no-more text start b is e f =
     let none = none-left start b e f in
@@ -488,6 +470,20 @@ no-more text start b is e f =
 
 pub some-more : (text start : List ℕ) (b : Bool) → start ≡ drop (prefix_len ends_line text) text → b ≡ (length start == 0) → b ≡ false → 0 < length (drop (prefix_len ends_line text) text)
 some-more text start b is e f = let s = some-left start b e f in rw is at s
+
+-- ---- cells within a record
+
+pub within-first : (text start : List ℕ) (b : Bool) (taken : Taken) → start ≡ drop (prefix_len ends_line text) text → b ≡ (length start == 0) → b ≡ false → IsTaken start taken → IsWithin text [] taken
+within-first text start b taken is e f took whole done =
+    one-record text whole.1 whole.0 (some-more text start b is e f) (ap (λ (t : List ℕ). rest_of st.StartField [] [] t) (sym is) ∙ took [] ∙ done)
+
+pub within-next : (text : List ℕ) (cells : List (List ℕ)) (taken next : Taken) → taken.more ≡ true → IsTaken taken.rest.now next → IsWithin text cells taken
+    → IsWithin text (cells ++ (spelled taken.cell ∷ [])) next
+within-next text cells taken next more took within whole done = within whole (rw more (took (cells ++ (spelled taken.cell ∷ [])) ∙ done))
+
+pub within-last : (text : List ℕ) (cells : List (List ℕ)) (taken : Taken) → taken.more ≡ false → IsWithin text cells taken
+    → records_left text ≡ (cells ++ (spelled taken.cell ∷ [])) ∷ records_left taken.rest.now
+within-last text cells taken last within = within (cells ++ (spelled taken.cell ∷ []), taken.rest.now) (rw last refl)
 
 pub still-left : (a b : Bool) (old new : ℕ) → a ≡ true → (b ≡ true → new < old) → (if b then suc new else 0) < (if a then suc old else 0)
 still-left a true old new e f = rw e (let k = f refl in omega (arith, k))

@@ -36,6 +36,15 @@ rest_behind cells taken =
 abbrev pub IsTaken : Bytes → Taken → Type 0
 IsTaken text taken = (cells : List Bytes) → rest_of st.StartField cells [] text ≡ rest_behind cells taken
 
+-- a cell was taken within the next record of a text, behind these cells of it: what the rest of the record makes of them is that record
+abbrev pub IsWithin : Bytes → List Bytes → Taken → Type 0
+IsWithin text cells taken = (record_read : Finished) → rest_behind cells taken ≡ Some record_read → records_left text ≡ record_read.0 ∷ records_left record_read.1
+
+-- the first cell of the next record of a text, or there is no record
+abbrev pub IsFirst : Option Taken → Bytes → Type 0
+IsFirst None text = records_left text ≡ []
+IsFirst (Some taken) text = IsWithin text [] taken
+
 -- a record holds the first of these cells, as many as are kept at most, and counts them all
 pub record Holds (record_now : Record) (most : ℕ) (cells : List Bytes) : Type 0 where
   pub kept : map spelled record_now.cells ≡ take most cells

@@ -5,8 +5,7 @@ ghost use Rattle.ds2_csv_records.specs.Cells.{begins_mark, spelled};
 ghost use Rattle.ds2_csv_records.specs.Reading.{Holds, IsNext, records_left};
 
 use crate::cell::Cell;
-use crate::part::without_front;
-use crate::taken::take_cell;
+use crate::taken::first_cell;
 use ds2_base::{List, OutOfMemory};
 use std::alloc::Global;
 
@@ -78,15 +77,14 @@ pub fn next_record<'t>(
 {
     row.cells.truncate(0);
     row.count = 0;
-    let start = without_front(text, b'\r', b'\n');
-    if start.is_empty() {
+    let Some(first) = first_cell(text) else {
         return Ok(None);
-    }
-    let mut taken = take_cell(start);
+    };
+    let mut taken = first;
     'cells: while taken.more {
         row.add(taken.cell, most)?;
-        taken = take_cell(taken.rest);
+        taken = taken.next();
     }
     row.add(taken.cell, most)?;
-    Ok(Some(taken.rest))
+    Ok(Some(taken.behind()))
 }

@@ -1,15 +1,17 @@
 //! The first cell of a text.
-ghost use Rattle.std.specs.Prelude.{◌≡◌, ◌∷◌, ◌<◌, ◌≤◌, true, false, List as Items, ℕ, [], length};
+ghost use Rattle.std.specs.Prelude.{◌≡◌, ◌∷◌, ◌++◌, ◌<◌, ◌≤◌, true, false, List as Items, ℕ, [], length};
 ghost use Rattle.csv.specs.declared.parser.State.TheVariants as st;
 ghost use Rattle.ds2_csv_records.specs.Cells.{begins_comma, begins_end, begins_quoted, spelled};
-ghost use Rattle.ds2_csv_records.specs.Reading.{rest_behind, rest_of, IsTaken};
+ghost use Rattle.ds2_csv_records.specs.Reading.{records_left, rest_behind, rest_of, IsFirst, IsTaken, IsWithin};
 
 use crate::cell::{Cell, bare_len, begins_end, begins_quoted, behind_quote, quoted_len, to_quote};
+use crate::part::without_front;
 
-/// A cell and the text behind it.
+/// A cell of a record, and where the text goes on behind it.
 #[derive(Clone, Copy)]
 pub struct Taken<'t> {
     pub cell: Cell<'t>,
+    /// The text behind the cell, and behind the comma or the end of the line that ends it.
     pub rest: &'t str,
     /// Whether the record goes on with one more cell.
     pub more: bool,
@@ -73,9 +75,9 @@ fn bare(text: &str) -> Taken<'_>
     ended(Cell::Plain(cell), behind)
 }
 
-/// The first cell of a text, which stands at the start of a cell.
+// The first cell of a text, which stands at the start of a cell.
 #[inline(always)]
-pub fn take_cell(text: &str) -> Taken<'_>
+fn take_cell(text: &str) -> Taken<'_>
     ensures taken { IsTaken text.now result }
     ensures shorter { result.more ≡ true → length result.rest.now < length text.now }
 {
@@ -83,5 +85,39 @@ pub fn take_cell(text: &str) -> Taken<'_>
         quoted(behind_quote(text))
     } else {
         bare(text)
+    }
+}
+
+/// The first cell of the next record of a text that stands between two records; None where there is no more record.
+#[inline(always)]
+pub fn first_cell(text: &str) -> Option<Taken<'_>>
+    ensures { IsFirst result text.now }
+{
+    let start = without_front(text, b'\r', b'\n');
+    if start.is_empty() {
+        None
+    } else {
+        Some(take_cell(start))
+    }
+}
+
+impl<'t> Taken<'t> {
+    /// The next cell of the record, which has one more.
+    #[inline(always)]
+    pub fn next(self) -> Taken<'t>
+        requires { self.more ≡ true }
+        ensures within { (text : Items ℕ) (cells : Items (Items ℕ)) → IsWithin text cells self.entry → IsWithin text (cells ++ spelled self.entry.cell ∷ []) result }
+        ensures shorter { result.more ≡ true → length result.rest.now < length self.entry.rest.now }
+    {
+        take_cell(self.rest)
+    }
+
+    /// The text behind the record, of which this is the last cell.
+    #[inline(always)]
+    pub fn behind(self) -> &'t str
+        requires { self.more ≡ false }
+        ensures { (text : Items ℕ) (cells : Items (Items ℕ)) → IsWithin text cells self.entry → records_left text ≡ (cells ++ spelled self.entry.cell ∷ []) ∷ records_left result.now }
+    {
+        self.rest
     }
 }

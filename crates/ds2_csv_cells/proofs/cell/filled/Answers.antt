@@ -1,4 +1,4 @@
-use Rattle.std.proofs.Common.{◌≡◌, ◌∙◌, ◌++◌, ◌-◌, ap, arith, List, ℕ}
+use Rattle.std.proofs.Common.{◌≡◌, ◌∙◌, ◌++◌, ◌-◌, ap, List, ℕ}
 use Rattle.std.specs.Prelude.{replicate}
 use Rattle.ds2_base.specs.Characters.{char_count}
 use Rattle.ds2_csv_cells.specs.Cells.{filled}
