@@ -9,7 +9,8 @@ user seconds and peak memory, the least of several runs where they seem to grow.
 - it takes more than 2.5 times the seconds or the memory for a doubling, or 5 times where the rules want a product of two of its parts, such as of calls and
   their arguments, and a doubling doubles both. Below 0.1 seconds and below 32 MB nothing grows;
 - it has not ended after 10 seconds, wants more than 3 GB, or ends with another status than it should;
-- it is the `check` of a source of 262,144 bytes, and takes more than 4 seconds or 700 MB.
+- it is the `check` of a source of 262,144 bytes, and takes more than 4 seconds or 700 MB;
+- it takes more than 2.2 times the seconds that it takes over a plain input of this kind and size.
 
 An input of which a command has failed goes no further, but with --on, where each run may take 60 seconds, it does. Prints what has failed and what
 takes more than 0.1 seconds or 32 MB as a whole, with --all all. Memory below some 15 MB is that of Python, which starts the program.
@@ -32,6 +33,7 @@ TOP = os.path.dirname(os.path.dirname(os.path.abspath(__file__)))
 MOST_GROWTH = 2.5
 LEAST_SECONDS, LEAST_MEGABYTES = 0.1, 32
 GOAL_SECONDS, GOAL_MEGABYTES = 4, 700
+MOST_TIMES_PLAIN = 2.2
 MOST_BYTES = 3 << 30
 DOUBLINGS = 6
 MOST_RUNS, MOST_SECONDS_OF_RUNS = 6, 12
@@ -43,11 +45,11 @@ def program_that_runs():
     return os.path.join(TOP, told.splitlines()[1].removeprefix("runs ").partition(",")[0])
 
 
-def put_files(given, size, folder):
+def put_files(given, make, size, folder):
     """Writes the files of an input in a process of its own, so that this one stays small."""
     child = os.fork()
     if child == 0:
-        for name, data in given.make(size).items():
+        for name, data in make(size).items():
             with open(os.path.join(folder, name), "wb") as file:
                 file.write(data if isinstance(data, bytes) else data.encode())
         os._exit(0)
@@ -89,15 +91,20 @@ class Command:
         return f"has ended with status {self.status}"
 
     def has_grown(self, less):
+        """Whether it takes too many times what it takes at half the size."""
         seconds = self.seconds > LEAST_SECONDS and self.seconds > self.most_growth * less.seconds
         return seconds or self.megabytes > LEAST_MEGABYTES and self.megabytes > self.most_growth * less.megabytes
 
-    def grows(self, less):
-        """Whether it grows beyond one at half the size, by the least of several runs of both."""
-        while self.has_grown(less) and self.runs < MOST_RUNS and self.spent < MOST_SECONDS_OF_RUNS:
-            less.run()
+    def outlasts(self, plain):
+        """Whether it takes too many times the seconds of one over a plain input."""
+        return self.seconds > MOST_TIMES_PLAIN * plain.seconds
+
+    def still(self, seems, other):
+        """Whether what seems so beside another command is so by the least of several runs of both."""
+        while seems(other) and self.runs < MOST_RUNS and self.spent < MOST_SECONDS_OF_RUNS:
+            other.run()
             self.run()
-        return self.has_grown(less)
+        return seems(other)
 
     def is_dear(self):
         return self.seconds > LEAST_SECONDS or self.megabytes > LEAST_MEGABYTES
@@ -126,12 +133,14 @@ class Input:
         while size <= self.given.whole and (self.args.on or not self.failed):
             self.look_at(size)
             size *= 2
+        if self.given.plain and not self.failed:
+            self.look_beside()
         shutil.rmtree(self.folder)
 
     def look_at(self, size):
         """Runs the commands at a size, up to the first that fails."""
         before, self.folder = self.folder, tempfile.mkdtemp(dir=self.work)
-        put_files(self.given, size, self.folder)
+        put_files(self.given, self.given.make, size, self.folder)
         for words, statuses in self.given.commands:
             command = Command(self.args.program, words, self.folder, 60 if self.args.on else 10, self.given.power)
             command.run()
@@ -145,11 +154,23 @@ class Input:
         if before:
             shutil.rmtree(before)
 
+    def look_beside(self):
+        """Runs the commands over the plain input of the whole size too."""
+        with tempfile.TemporaryDirectory(dir=self.work) as folder:
+            put_files(self.given, self.given.plain, self.given.whole, folder)
+            for words, command in self.last.items():
+                plain = Command(self.args.program, words, folder, command.most_seconds, self.given.power)
+                plain.run()
+                beyond = command.still(command.outlasts, plain)
+                print(f"{'FAILED: ' if beyond else ''}{self.given.name}: {words[0]}: {command.seconds:.2f} s, {command.seconds / plain.seconds:.1f} times the {plain.seconds:.2f} s of a plain input", flush=True)
+                if beyond:
+                    self.failed.add(words)
+
     def flaw(self, command, statuses, size):
         less = self.last.get(command.words)
         if flaw := command.flaw(statuses):
             return flaw
-        if less and command.grows(less):
+        if less and command.still(command.has_grown, less):
             return "grows"
         return "is beyond the goal" if size == self.given.whole and command.is_beyond_goal() else None
 
@@ -163,7 +184,7 @@ def write_files(chosen, args):
     for number, given in enumerate(chosen):
         folder = os.path.join(args.write, str(number))
         os.makedirs(folder)
-        put_files(given, args.size or given.whole, folder)
+        put_files(given, given.make, args.size or given.whole, folder)
         print(f"{folder}: {given.name}: {', '.join(' '.join(words) for words, _ in given.commands)}")
 
 

@@ -1,15 +1,16 @@
 """Hostile sources, tables and objects for bench/hostile.py, each made anew for a size.
 
 A size is the bytes of a source or an object, or how many rows or items there are. An input is a name, its whole size, a function that gives its files for
-a size, the commands that run one behind the other in a folder with these files, each with the statuses that it may end with, and a power: how many
-factors a doubling of the size doubles, where the rules want a product of them.
+a size, the commands that run one behind the other in a folder with these files, each with the statuses that it may end with, a power: how many
+factors a doubling of the size doubles, where the rules want a product of them, and, where the input is a hard one of its kind, a function that gives the
+files of a plain one.
 """
 from collections import namedtuple
 import itertools
 
 from object_cases import text, u8, u16, u32
 
-Input = namedtuple("Input", "name whole make commands power", defaults=(1,))
+Input = namedtuple("Input", "name whole make commands power plain", defaults=(1, None))
 INPUTS = []
 SOURCE_LIMIT = 262_144
 CHECK, RUN, EXEC = ("check", "job.ds2"), ("run", "job.ds2"), ("exec", "job.dso")
@@ -26,9 +27,10 @@ def refused(name, make, statuses=(3,)):
     source(f"refused: {name}", make, statuses=statuses)
 
 
-def table(name, whole, job, make, status=0):
+def table(name, whole, job, make, status=0, plain=None):
     """Adds tables of so many rows, and a job that reads them."""
-    INPUTS.append(Input(name, whole, lambda size: {"job.ds2": job, **make(size)}, [(RUN, (status,))]))
+    plain_files = plain and (lambda size: {"job.ds2": job, **plain(size)})
+    INPUTS.append(Input(name, whole, lambda size: {"job.ds2": job, **make(size)}, [(RUN, (status,))], plain=plain_files))
 
 
 def job(name, whole, make):
@@ -434,7 +436,9 @@ job("60 iterators of a hash object", 50_000, hash_job("do while (e.next() = 0); 
 
 COPY = "data out (overwrite=yes); method run(); set t; end; enddata;"
 
-table("types that change in the last row", 200_000, reads("set t;"), one_table("a,b,c,d", lambda n, count: "1,2,3,4" if n < count - 1 else "x,1.5,-0,99999999999999999999"))
+SMALL = one_table("a,b,c,d", lambda n, count: "1,2,3,4")
+table("types that change in the last row", 200_000, reads("set t;"), one_table("a,b,c,d", lambda n, count: "1,2,3,4" if n < count - 1 else "x,1.5,-0,99999999999999999999"), plain=SMALL)
+table("types that change in row 1,001", 200_000, reads("set t;"), one_table("a,b,c,d", lambda n, count: "1,2,3,4" if n != 1000 else "1,2,3,4.5"), plain=SMALL)
 table("types that change again and again", 50_000, reads("set t;"), one_table("a,b", lambda n, count: f"{'9' * (n % 30 + 1)}.{'1' * (n % 8 + 1)},{'x' * (n % 1000 + 1)}"))
 table("cells of quotes", 100_000, COPY, one_table("a", lambda n, count: '"' + '""' * 30 + '"'))
 table("a quote without an end", 400_000, COPY, one_table("a,b", lambda n, count: "1,2" if n else '"1,2'), 4)
