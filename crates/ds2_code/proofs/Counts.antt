@@ -15,7 +15,10 @@ use Rattle.ds2_code.specs.declared.parts.OutputPart.{OutputPart}
 use Rattle.ds2_code.specs.declared.parts.ParameterPart.{ParameterPart}
 use Rattle.ds2_code.specs.declared.parts.ProgramParts.{ProgramParts}
 use Rattle.ds2_code.specs.InstructionTable.{Kind, Pure, Partial, Loads, Stores, Drops, CallsHash, CallsIterator, Writes, Puts, Ticks, Jumps, Tests, Enters, GoesBack, Raises, Finishes, kind_of}
-use Rattle.ds2_code.specs.OperandTypes.{OperandTypes, Signature, CodeRole, OfUnit, OfMethod, OperandClass, OneType, AnyDecimal, AnyText, AnyType, is_of_class, TakenTypes, take_classes, with_type, one_for, none_for, when_none, none_below, always, as_operand, by_scales, part_of_first, both_texts, is_number_type, chosen_types, chosen_numbers, when_there, stored_type, with_in_out_types, with_result_type, after_call_types, call_types, without_result, with_only_result, return_types, result_types, types_behind}
+use Rattle.ds2_value.specs.ValueFunctions.{row_of, type_by, is_of_class, always, as_operand, by_scales}
+use Rattle.ds2_value.specs.declared.value_function.OperandClass.{OperandClass}
+use Rattle.ds2_value.specs.declared.value_function.OperandClass.TheVariants.{OneType, AnyDecimal, AnyText, AnyType}
+use Rattle.ds2_code.specs.OperandTypes.{OperandTypes, Signature, CodeRole, OfUnit, OfMethod, TakenTypes, take_classes, with_type, one_for, none_for, when_none, none_below, both_texts, is_number_type, chosen_types, chosen_numbers, when_there, stored_type, with_in_out_types, with_result_type, after_call_types, call_types, without_result, with_only_result, return_types, result_types, types_behind}
 
 some_is : {A : Type 0} (x y : A) → Some x ≡ Some y → x ≡ y
 some_is x y h = cc
@@ -205,17 +208,11 @@ module _ (code : ProgramParts) (parameters : List (Option Ty)) (role : CodeRole)
   counts instr.ISub types after h = one_counts (always BigInt) (OneType BigInt ∷ OneType BigInt ∷ []) types after h
   counts instr.IMul types after h = one_counts (always BigInt) (OneType BigInt ∷ OneType BigInt ∷ []) types after h
   counts instr.INeg types after h = one_counts (always BigInt) (OneType BigInt ∷ []) types after h
-  counts instr.IAbs types after h = one_counts (always BigInt) (OneType BigInt ∷ []) types after h
-  counts instr.IMod types after h = one_counts (always BigInt) (OneType BigInt ∷ OneType BigInt ∷ []) types after h
   counts instr.DAdd types after h = one_counts (by_scales max) (AnyDecimal ∷ AnyDecimal ∷ []) types after h
   counts instr.DSub types after h = one_counts (by_scales max) (AnyDecimal ∷ AnyDecimal ∷ []) types after h
   counts instr.DMul types after h = one_counts (by_scales (λ s t. s + t)) (AnyDecimal ∷ AnyDecimal ∷ []) types after h
   counts instr.DDiv types after h = one_counts (by_scales (λ s t. max 6 (max s t))) (AnyDecimal ∷ AnyDecimal ∷ []) types after h
   counts instr.DNeg types after h = one_counts as_operand (AnyDecimal ∷ []) types after h
-  counts instr.DAbs types after h = one_counts as_operand (AnyDecimal ∷ []) types after h
-  counts instr.DMod types after h = one_counts (by_scales max) (AnyDecimal ∷ AnyDecimal ∷ []) types after h
-  counts instr.DFloor types after h = one_counts (always (DecimalOf 38 0)) (AnyDecimal ∷ []) types after h
-  counts instr.DCeil types after h = one_counts (always (DecimalOf 38 0)) (AnyDecimal ∷ []) types after h
   counts (instr.ICmp c) types after h = one_counts (always BigInt) (OneType BigInt ∷ OneType BigInt ∷ []) types after h
   counts (instr.DCmp c) types after h = one_counts (always BigInt) (AnyDecimal ∷ AnyDecimal ∷ []) types after h
   counts (instr.TCmp c) types after h = one_counts (always BigInt) (AnyText ∷ AnyText ∷ []) types after h
@@ -224,15 +221,11 @@ module _ (code : ProgramParts) (parameters : List (Option Ty)) (role : CodeRole)
   counts instr.Not types after h = one_counts (always BigInt) (OneType BigInt ∷ []) types after h
   counts instr.ITruth types after h = one_counts (always BigInt) (OneType BigInt ∷ []) types after h
   counts instr.DTruth types after h = one_counts (always BigInt) (AnyDecimal ∷ []) types after h
-  counts instr.IsNull types after h = one_counts (always BigInt) (AnyType ∷ []) types after h
   counts (instr.Choose n) types after h = chosen_counts 1 n types after h
   counts (instr.Least n) types after h = number_counts n types after h
   counts (instr.Greatest n) types after h = number_counts n types after h
+  counts (instr.Apply f) types after h = one_counts (type_by (row_of f).result) (row_of f).operands types after h
   counts instr.Cat types after h = one_counts both_texts (AnyText ∷ AnyText ∷ []) types after h
-  counts instr.Len types after h = one_counts (always BigInt) (AnyText ∷ []) types after h
-  counts instr.Substr types after h = one_counts part_of_first (OneType BigInt ∷ OneType BigInt ∷ AnyText ∷ []) types after h
-  counts instr.SubFrom types after h = one_counts part_of_first (OneType BigInt ∷ AnyText ∷ []) types after h
-  counts instr.Trim types after h = one_counts part_of_first (AnyText ∷ []) types after h
   counts (instr.Tick p) types after h = same_counts types after h
   counts (instr.Jump t) types after h = (none_is types after h).0
   counts (instr.JFalse t) types after h = only_counts (OneType BigInt ∷ []) types after h

@@ -19,6 +19,8 @@ use Rattle.ds2_value.specs.declared.ty.Ty.{Ty}
 use Rattle.ds2_value.specs.declared.ty.Ty.TheVariants.{BigInt, Decimal as DecimalOf, Char, Varchar}
 use Rattle.ds2_value.specs.declared.value.Value.{Value}
 use Rattle.ds2_value.specs.declared.value.Value.TheVariants.{Null}
+use Rattle.ds2_value.specs.declared.value_function.ValueFunction.{ValueFunction}
+use Rattle.ds2_value.specs.declared.value_function.ValueFunction.TheVariants as function
 use Rattle.ds2_code.specs.declared.instr.Instr.{Instr}
 use Rattle.ds2_code.specs.declared.instr.Instr.TheVariants as instr
 use Rattle.ds2_code.specs.declared.parts.Constant.{Constant}
@@ -29,7 +31,10 @@ use Rattle.ds2_code.specs.declared.parts.ProgramParts.{ProgramParts}
 use Rattle.ds2_code.specs.CodeRun.{method_result}
 use Rattle.ds2_code.specs.Desk.{Desk, Taken, take_off, constant_value, loaded_value, with_stored}
 use Rattle.ds2_code.specs.InstructionTable.{Kind, Pure, Partial, Loads, Stores, Drops, CallsHash, CallsIterator, Writes, Puts, Ticks, Jumps, Tests, Enters, GoesBack, Raises, Finishes, kind_of}
-use Rattle.ds2_code.specs.OperandTypes.{OperandTypes, Signature, CodeRole, OfUnit, OfMethod, OperandClass, OneType, AnyDecimal, AnyText, AnyType, is_text_type, text_length, TakenTypes, take_classes, with_type, one_for, none_for, always, as_operand, by_scales, part_of_first, both_texts, when_there, stored_type, types_of_parameters, types_of_locals, with_in_out_types, with_result_type, after_call_types, call_types, without_result, with_only_result, return_types, result_types, slot_type, type_of_parameter, types_behind}
+use Rattle.ds2_value.specs.ValueFunctions.{row_of, type_by, function_value, is_text_type, text_length, always, as_operand, by_scales, part_of_first}
+use Rattle.ds2_value.specs.declared.value_function.OperandClass.{OperandClass}
+use Rattle.ds2_value.specs.declared.value_function.OperandClass.TheVariants.{OneType, AnyDecimal, AnyText, AnyType}
+use Rattle.ds2_code.specs.OperandTypes.{OperandTypes, Signature, CodeRole, OfUnit, OfMethod, TakenTypes, take_classes, with_type, one_for, none_for, both_texts, when_there, stored_type, types_of_parameters, types_of_locals, with_in_out_types, with_result_type, after_call_types, call_types, without_result, with_only_result, return_types, result_types, slot_type, type_of_parameter, types_behind}
 use Rattle.ds2_code.specs.ValidCode.{constant_allowed, is_char_type, stage_parameters}
 use Rattle.ds2_code.specs.Fitting.{is_of_type, AreOfTypes, slot_types, AreParametersOfStage}
 use Rattle.ds2_code.proofs.FittingLists.{both, if_some, when_true, some_is, type_bounds, of_type, get_of_type, set_of_type, slot_type_at, parameter_of_slots}
@@ -152,13 +157,20 @@ first_bounds : (vs : Row) (t : Ty) (more : List Ty) → AreOfTypes vs (t ∷ mor
 first_bounds [] t more h = absurd h
 first_bounds (v ∷ vs) t more h = type_bounds v t h.0
 
+-- the type of a part of the first operand
+part_is : (t : Ty) (more : List Ty) (u : Ty) → is_text_type t ≡ true → part_of_first (t ∷ more) ≡ Some u → Varchar (text_length t) ≡ u
+part_is BigInt more u k e = absurd cc
+part_is (DecimalOf p s) more u k e = absurd cc
+part_is (Char n) more u k e = some_is (Varchar n) u e
+part_is (Varchar n) more u k e = some_is (Varchar n) u e
+
 -- texts of a part of the first operand
 part_typed : (v : Value) (cs : List OperandClass) (types : OperandTypes) (vs : Row) (q : TakenTypes) (u : Ty) → take_classes (cs ++ AnyText ∷ []) [] types ≡ Some q → AreOfTypes vs q.taken → part_of_first q.taken ≡ Some u
     → ((t : Ty) (more : List Ty) → AreOfTypes vs (t ∷ more) → fits v (Varchar (text_length t)) ≡ true) → IsTrue (is_of_type v u)
 part_typed v cs types vs q u e s r made =
     let c = first_class cs AnyText [] types q e in
     let here : AreOfTypes vs (c.0 ∷ c.1) = subst (λ (z : List Ty). AreOfTypes vs z) c.2 s in
-    let is : Varchar (text_length c.0) ≡ u = some_is (Varchar (text_length c.0)) u (sym (ap part_of_first c.2) ∙ r) in
+    let is : Varchar (text_length c.0) ≡ u = part_is c.0 c.1 u c.3 (sym (ap part_of_first c.2) ∙ r) in
     subst (λ z. IsTrue (is_of_type v z)) is (of_type v (Varchar (text_length c.0)) (made c.0 c.1 here) (part_bounds c.0 (first_bounds vs c.0 c.1 here) c.3))
 
 part_ok : (n : ℕ) (r : Result Value Fault) (v : Value) → IsPart n r → r ≡ Ok v → fits v (Varchar n) ≡ true
@@ -181,6 +193,10 @@ both_typed v types vs q u e s r made =
         let is : Varchar (min TEXT_CHARACTERS (text_length t + text_length w)) ≡ u = some_is (Varchar n) u g in
         subst (λ z. IsTrue (is_of_type v z)) is (of_type v (Varchar n) (made t w h) (varchar_bounds n some few))
     of t (w ∷ x ∷ more) k h g = absurd cc
+
+-- a value that can't be a fault
+abbrev sure_of : (Row → Value) → Row → Result Value Fault
+sure_of f vs = Ok (f vs)
 
 module _ (held : FittingIsHeld) (assigned : AssignedFits) (code : ProgramParts) (stage : Option ProgramParts) (constants : list_all constant_allowed code.constants ≡ true) (role : CodeRole) where
   -- an operation whose result is of one type
@@ -231,6 +247,30 @@ module _ (held : FittingIsHeld) (assigned : AssignedFits) (code : ProgramParts) 
   shown_fits (v ∷ []) (t ∷ ts) h = line_fits v (value_held held assigned v t h.0)
   shown_fits (a ∷ b ∷ vs) ts h = refl
 
+  -- a function that can't fault
+  sure : (f : Row → Value) (n : ℕ) (types after : OperandTypes) → ((stack : Row) (t : Taken) → AreOfTypes stack types → take_off n [] stack ≡ Some t → AreOfTypes (f t.values ∷ t.below) after)
+      → (stack : Row) (t : Taken) (v : Value) → AreOfTypes stack types → take_off n [] stack ≡ Some t → sure_of f t.values ≡ Ok v → AreOfTypes (v ∷ t.below) after
+  sure f n types after made stack t v s g e = let is : f t.values ≡ v = cc in subst (λ z. AreOfTypes (z ∷ t.below) after) is (made stack t s g)
+
+  -- functions of values, row by row
+  function_kept : (f : ValueFunction) (types after : OperandTypes) → one_for (type_by (row_of f).result) (take_classes (row_of f).operands [] types) ≡ Some after
+      → (stack : Row) (t : Taken) (v : Value) → AreOfTypes stack types → take_off (length (row_of f).operands) [] stack ≡ Some t → function_value f t.values ≡ Ok v → AreOfTypes (v ∷ t.below) after
+  function_kept function.IntegerAbsolute types after h = bigint_outcome _ absolute_fits (OneType BigInt ∷ []) types after h
+  function_kept function.IntegerModulo types after h = bigint_outcome _ remainder_fits (OneType BigInt ∷ OneType BigInt ∷ []) types after h
+  function_kept function.DecimalAbsolute types after h =
+      sure (of_one (of_decimal decimal.abs)) 1 types after (same_sign decimal.abs (λ d. refl) (λ d. refl) types after h)
+  function_kept function.DecimalModulo types after h = of_two_decimals decimal.modulo max remainder_scale types after h
+  function_kept function.Floor types after h =
+      sure (of_one (of_decimal decimal.floor)) 1 types after (of_one_type (of_one (of_decimal decimal.floor)) (DecimalOf 38 0) refl (whole_fits decimal.floor (λ d. refl) floor_less) (AnyDecimal ∷ []) types after h)
+  function_kept function.Ceiling types after h =
+      sure (of_one (of_decimal decimal.ceil)) 1 types after (of_one_type (of_one (of_decimal decimal.ceil)) (DecimalOf 38 0) refl (whole_fits decimal.ceil (λ d. refl) ceil_less) (AnyDecimal ∷ []) types after h)
+  function_kept function.IsNull types after h = sure is_null_of 1 types after (bigint_value is_null_of is_null_fits (AnyType ∷ []) types after h)
+  function_kept function.Length types after h = sure length_of 1 types after (bigint_value length_of length_fits (AnyText ∷ []) types after h)
+  function_kept function.Substring types after h = part_outcome (OneType BigInt ∷ OneType BigInt ∷ []) types after h
+  function_kept function.SubstringFrom types after h = part_outcome (OneType BigInt ∷ []) types after h
+  function_kept function.Trim types after h = sure trim_of 1 types after (λ stack t s g.
+      put_of_type (trim_of t.values) part_of_first t (AnyText ∷ []) types (λ q u is k r. part_typed (trim_of t.values) [] types t.values q u is k r (λ a more f. trim_fits t.values a more f)) after stack h s g)
+
   pub types_kept : (i : Instr) (types after : OperandTypes) → types_behind code (stage_parameters stage) role i types ≡ Some after → FitsFor code stage role (kind_of i) types after
   types_kept (instr.Const k) types after h = λ d s l g. typed_fits (constant_value k code.constants) d.stack _ types after h (λ t e. constants_of_types code.constants k t constants e) s
   types_kept (instr.Null u) types after h = λ stack t s g.
@@ -263,17 +303,11 @@ module _ (held : FittingIsHeld) (assigned : AssignedFits) (code : ProgramParts) 
   types_kept instr.ISub types after h = bigint_outcome _ difference_fits (OneType BigInt ∷ OneType BigInt ∷ []) types after h
   types_kept instr.IMul types after h = bigint_outcome _ product_fits (OneType BigInt ∷ OneType BigInt ∷ []) types after h
   types_kept instr.INeg types after h = bigint_outcome _ negative_fits (OneType BigInt ∷ []) types after h
-  types_kept instr.IAbs types after h = bigint_outcome _ absolute_fits (OneType BigInt ∷ []) types after h
-  types_kept instr.IMod types after h = bigint_outcome _ remainder_fits (OneType BigInt ∷ OneType BigInt ∷ []) types after h
   types_kept instr.DAdd types after h = of_two_decimals decimal.add max sum_scale types after h
   types_kept instr.DSub types after h = of_two_decimals decimal.sub max difference_scale types after h
   types_kept instr.DMul types after h = of_two_decimals decimal.mul (λ s t. s + t) product_scale types after h
   types_kept instr.DDiv types after h = of_two_decimals decimal.div (λ s t. max 6 (max s t)) quotient_scale_is types after h
   types_kept instr.DNeg types after h = same_sign decimal.neg (λ d. refl) (λ d. negative_size d.units) types after h
-  types_kept instr.DAbs types after h = same_sign decimal.abs (λ d. refl) (λ d. refl) types after h
-  types_kept instr.DMod types after h = of_two_decimals decimal.modulo max remainder_scale types after h
-  types_kept instr.DFloor types after h = of_one_type (of_one (of_decimal decimal.floor)) (DecimalOf 38 0) refl (whole_fits decimal.floor (λ d. refl) floor_less) (AnyDecimal ∷ []) types after h
-  types_kept instr.DCeil types after h = of_one_type (of_one (of_decimal decimal.ceil)) (DecimalOf 38 0) refl (whole_fits decimal.ceil (λ d. refl) ceil_less) (AnyDecimal ∷ []) types after h
   types_kept (instr.ICmp c) types after h = bigint_value _ (compared_fits c) (OneType BigInt ∷ OneType BigInt ∷ []) types after h
   types_kept (instr.DCmp c) types after h = bigint_value _ (compared_fits c) (AnyDecimal ∷ AnyDecimal ∷ []) types after h
   types_kept (instr.TCmp c) types after h = bigint_value _ (compared_fits c) (AnyText ∷ AnyText ∷ []) types after h
@@ -282,17 +316,12 @@ module _ (held : FittingIsHeld) (assigned : AssignedFits) (code : ProgramParts) 
   types_kept instr.Not types after h = bigint_value _ not_fits (OneType BigInt ∷ []) types after h
   types_kept instr.ITruth types after h = bigint_value _ condition_fits (OneType BigInt ∷ []) types after h
   types_kept instr.DTruth types after h = bigint_value _ condition_fits (AnyDecimal ∷ []) types after h
-  types_kept instr.IsNull types after h = bigint_value is_null_of is_null_fits (AnyType ∷ []) types after h
   types_kept (instr.Choose n) types after h = λ stack t s g. chosen_fits first_of first_keeps 1 n types after stack t h s g
   types_kept (instr.Least n) types after h = λ stack t s g. number_fits lesser_of lesser_keeps n types after stack t h s g
   types_kept (instr.Greatest n) types after h = λ stack t s g. number_fits greater_of greater_keeps n types after stack t h s g
+  types_kept (instr.Apply f) types after h = function_kept f types after h
   types_kept instr.Cat types after h = λ stack t s g.
       put_of_type (concat_of t.values) both_texts t (AnyText ∷ AnyText ∷ []) types (λ q u is k r. both_typed (concat_of t.values) types t.values q u is k r (λ a b f. concat_fits t.values a b f)) after stack h s g
-  types_kept instr.Len types after h = bigint_value length_of length_fits (AnyText ∷ []) types after h
-  types_kept instr.Substr types after h = part_outcome (OneType BigInt ∷ OneType BigInt ∷ []) types after h
-  types_kept instr.SubFrom types after h = part_outcome (OneType BigInt ∷ []) types after h
-  types_kept instr.Trim types after h = λ stack t s g.
-      put_of_type (trim_of t.values) part_of_first t (AnyText ∷ []) types (λ q u is k r. part_typed (trim_of t.values) [] types t.values q u is k r (λ a more f. trim_fits t.values a more f)) after stack h s g
   types_kept (instr.Tick p) types after h = sym (some_is types after h)
   types_kept (instr.Jump t) types after h = λ stack s. (none_of_types stack types after h s).0
   types_kept (instr.JFalse t) types after h = λ v stack s. let k = only_of_type BigInt v stack types after h s in (k.1, k.2)

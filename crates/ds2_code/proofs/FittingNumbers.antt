@@ -29,7 +29,7 @@ use Rattle.ds2_value.specs.declared.ty.Ty.TheVariants.{BigInt, Decimal as Decima
 use Rattle.ds2_value.specs.declared.value.Value.{Value}
 use Rattle.ds2_value.specs.declared.value.Value.TheVariants.{Null, Int, Dec, Txt}
 use Rattle.ds2_code.specs.InstructionTable.{of_operands}
-use Rattle.ds2_code.specs.OperandTypes.{decimal_of_scale, by_scales, as_operand}
+use Rattle.ds2_value.specs.ValueFunctions.{decimal_of_scale, by_scales, as_operand}
 use Rattle.ds2_code.specs.Fitting.{is_of_type, AreOfTypes}
 use Rattle.ds2_code.proofs.FittingLists.{both, and_true, if_some, when_true, some_is, value_fits, type_bounds}
 

@@ -29,7 +29,7 @@ use Rattle.ds2_value.specs.declared.ty.Ty.{Ty}
 use Rattle.ds2_value.specs.declared.ty.Ty.TheVariants.{BigInt, Decimal as DecimalOf, Char, Varchar}
 use Rattle.ds2_value.specs.declared.value.Value.{Value}
 use Rattle.ds2_value.specs.declared.value.Value.TheVariants.{Null, Int, Dec, Txt}
-use Rattle.ds2_code.specs.OperandTypes.{text_length, is_text_type}
+use Rattle.ds2_value.specs.ValueFunctions.{text_length, is_text_type}
 use Rattle.ds2_code.specs.Fitting.{is_of_type, AreOfTypes}
 use Rattle.ds2_code.proofs.FittingLists.{both, and_true, value_fits, type_bounds}
 

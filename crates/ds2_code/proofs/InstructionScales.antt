@@ -17,6 +17,8 @@ use Rattle.ds2_value.specs.declared.ty.Ty.{Ty}
 use Rattle.ds2_value.specs.declared.ty.Ty.TheVariants.{BigInt, Decimal as DecimalOf, Char, Varchar}
 use Rattle.ds2_value.specs.declared.value.Value.{Value}
 use Rattle.ds2_value.specs.declared.value.Value.TheVariants.{Null}
+use Rattle.ds2_value.specs.declared.value_function.ValueFunction.{ValueFunction}
+use Rattle.ds2_value.specs.declared.value_function.ValueFunction.TheVariants as function
 use Rattle.ds2_code.specs.declared.instr.Instr.{Instr}
 use Rattle.ds2_code.specs.declared.instr.Instr.TheVariants as instr
 use Rattle.ds2_code.specs.declared.parts.Constant.{Constant}
@@ -26,7 +28,10 @@ use Rattle.ds2_code.specs.declared.parts.ProgramParts.{ProgramParts}
 use Rattle.ds2_code.specs.CodeRun.{method_result}
 use Rattle.ds2_code.specs.Desk.{Desk, Taken, take_off, constant_value, loaded_value, with_stored}
 use Rattle.ds2_code.specs.InstructionTable.{Kind, Pure, Partial, Loads, Stores, Drops, CallsHash, CallsIterator, Writes, Puts, Ticks, Jumps, Tests, Enters, GoesBack, Raises, Finishes, kind_of}
-use Rattle.ds2_code.specs.OperandTypes.{OperandTypes, Signature, CodeRole, OfUnit, OfMethod, OperandClass, OneType, AnyDecimal, AnyText, AnyType, TakenTypes, take_classes, with_type, one_for, none_for, always, as_operand, by_scales, part_of_first, both_texts, when_there, stored_type, types_of_parameters, types_of_locals, with_in_out_types, with_result_type, after_call_types, call_types, without_result, with_only_result, return_types, result_types, slot_type, types_behind}
+use Rattle.ds2_value.specs.ValueFunctions.{row_of, type_by, function_value, always, as_operand, by_scales, part_of_first}
+use Rattle.ds2_value.specs.declared.value_function.OperandClass.{OperandClass}
+use Rattle.ds2_value.specs.declared.value_function.OperandClass.TheVariants.{OneType, AnyDecimal, AnyText, AnyType}
+use Rattle.ds2_code.specs.OperandTypes.{OperandTypes, Signature, CodeRole, OfUnit, OfMethod, TakenTypes, take_classes, with_type, one_for, none_for, both_texts, when_there, stored_type, types_of_parameters, types_of_locals, with_in_out_types, with_result_type, after_call_types, call_types, without_result, with_only_result, return_types, result_types, slot_type, types_behind}
 use Rattle.ds2_code.specs.ValidCode.{constant_allowed, is_char_type}
 use Rattle.ds2_code.specs.Scales.{is_scaled, AreScaled, types_of_slots}
 use Rattle.ds2_code.proofs.ScaledLists.{both, if_some, some_is, fits_scaled, get_scaled, set_scaled, slot_type_at}
@@ -132,6 +137,10 @@ none_there (Some x) types after h = h
 
 -- ---- instructions
 
+-- a value that can't be a fault
+abbrev sure_of : (Row → Value) → Row → Result Value Fault
+sure_of f vs = Ok (f vs)
+
 module _ (code : ProgramParts) (constants : list_all constant_allowed code.constants ≡ true) (parameters : List (Option Ty)) (role : CodeRole) where
   -- an operation that gives no decimal
   plain_value : (f : Row → Value) → ((vs : Row) → IsTrue (is_plain (f vs))) → (result : List Ty → Option Ty) (cs : List OperandClass) (types after : OperandTypes) → one_for result (take_classes cs [] types) ≡ Some after
@@ -161,6 +170,28 @@ module _ (code : ProgramParts) (constants : list_all constant_allowed code.const
   same_sign f kept types after h stack t s g =
       put_scaled (of_one (of_decimal f) t.values) as_operand t (λ ts u k r. of_decimal_scaled f kept t.values ts u k r) (AnyDecimal ∷ []) types after stack h s g
 
+  -- a function that can't fault
+  sure : (f : Row → Value) (n : ℕ) (types after : OperandTypes) → ((stack : Row) (t : Taken) → AreScaled stack types → take_off n [] stack ≡ Some t → AreScaled (f t.values ∷ t.below) after)
+      → (stack : Row) (t : Taken) (v : Value) → AreScaled stack types → take_off n [] stack ≡ Some t → sure_of f t.values ≡ Ok v → AreScaled (v ∷ t.below) after
+  sure f n types after made stack t v s g e = let is : f t.values ≡ v = cc in subst (λ z. AreScaled (z ∷ t.below) after) is (made stack t s g)
+
+  -- functions of values, row by row
+  function_scales : (f : ValueFunction) (types after : OperandTypes) → one_for (type_by (row_of f).result) (take_classes (row_of f).operands [] types) ≡ Some after
+      → (stack : Row) (t : Taken) (v : Value) → AreScaled stack types → take_off (length (row_of f).operands) [] stack ≡ Some t → function_value f t.values ≡ Ok v → AreScaled (v ∷ t.below) after
+  function_scales function.IntegerAbsolute types after h = plain_outcome _ absolute_plain (always BigInt) (OneType BigInt ∷ []) types after h
+  function_scales function.IntegerModulo types after h = plain_outcome _ remainder_plain (always BigInt) (OneType BigInt ∷ OneType BigInt ∷ []) types after h
+  function_scales function.DecimalAbsolute types after h = sure (of_one (of_decimal decimal.abs)) 1 types after (same_sign decimal.abs (λ d. refl) types after h)
+  function_scales function.DecimalModulo types after h = of_two_decimals decimal.modulo max remainder_scale types after h
+  function_scales function.Floor types after h =
+      sure (of_one (of_decimal decimal.floor)) 1 types after (of_one_type (of_one (of_decimal decimal.floor)) (DecimalOf 38 0) (whole_scaled decimal.floor (λ d. refl) 38) (AnyDecimal ∷ []) types after h)
+  function_scales function.Ceiling types after h =
+      sure (of_one (of_decimal decimal.ceil)) 1 types after (of_one_type (of_one (of_decimal decimal.ceil)) (DecimalOf 38 0) (whole_scaled decimal.ceil (λ d. refl) 38) (AnyDecimal ∷ []) types after h)
+  function_scales function.IsNull types after h = sure is_null_of 1 types after (plain_value is_null_of is_null_plain (always BigInt) (AnyType ∷ []) types after h)
+  function_scales function.Length types after h = sure length_of 1 types after (plain_value length_of length_plain (always BigInt) (AnyText ∷ []) types after h)
+  function_scales function.Substring types after h = plain_outcome substr_of substr_plain part_of_first (OneType BigInt ∷ OneType BigInt ∷ AnyText ∷ []) types after h
+  function_scales function.SubstringFrom types after h = plain_outcome substr_of substr_plain part_of_first (OneType BigInt ∷ AnyText ∷ []) types after h
+  function_scales function.Trim types after h = sure trim_of 1 types after (plain_value trim_of trim_plain part_of_first (AnyText ∷ []) types after h)
+
   pub scales : (i : Instr) (types after : OperandTypes) → types_behind code parameters role i types ≡ Some after → ScalesFor code role (kind_of i) types after
   scales (instr.Const k) types after h = λ d s l g. typed_scaled (constant_value k code.constants) d.stack _ types after h (λ t e. constants_scaled code.constants k t constants e) s
   scales (instr.Null u) types after h = λ stack t s g.
@@ -185,17 +216,11 @@ module _ (code : ProgramParts) (constants : list_all constant_allowed code.const
   scales instr.ISub types after h = plain_outcome _ difference_plain (always BigInt) (OneType BigInt ∷ OneType BigInt ∷ []) types after h
   scales instr.IMul types after h = plain_outcome _ product_plain (always BigInt) (OneType BigInt ∷ OneType BigInt ∷ []) types after h
   scales instr.INeg types after h = plain_outcome _ negative_plain (always BigInt) (OneType BigInt ∷ []) types after h
-  scales instr.IAbs types after h = plain_outcome _ absolute_plain (always BigInt) (OneType BigInt ∷ []) types after h
-  scales instr.IMod types after h = plain_outcome _ remainder_plain (always BigInt) (OneType BigInt ∷ OneType BigInt ∷ []) types after h
   scales instr.DAdd types after h = of_two_decimals decimal.add max sum_scale types after h
   scales instr.DSub types after h = of_two_decimals decimal.sub max difference_scale types after h
   scales instr.DMul types after h = of_two_decimals decimal.mul (λ s t. s + t) product_scale types after h
   scales instr.DDiv types after h = of_two_decimals decimal.div (λ s t. max 6 (max s t)) quotient_scale_is types after h
   scales instr.DNeg types after h = same_sign decimal.neg (λ d. refl) types after h
-  scales instr.DAbs types after h = same_sign decimal.abs (λ d. refl) types after h
-  scales instr.DMod types after h = of_two_decimals decimal.modulo max remainder_scale types after h
-  scales instr.DFloor types after h = of_one_type (of_one (of_decimal decimal.floor)) (DecimalOf 38 0) (whole_scaled decimal.floor (λ d. refl) 38) (AnyDecimal ∷ []) types after h
-  scales instr.DCeil types after h = of_one_type (of_one (of_decimal decimal.ceil)) (DecimalOf 38 0) (whole_scaled decimal.ceil (λ d. refl) 38) (AnyDecimal ∷ []) types after h
   scales (instr.ICmp c) types after h = plain_value _ (compared_plain c) (always BigInt) (OneType BigInt ∷ OneType BigInt ∷ []) types after h
   scales (instr.DCmp c) types after h = plain_value _ (compared_plain c) (always BigInt) (AnyDecimal ∷ AnyDecimal ∷ []) types after h
   scales (instr.TCmp c) types after h = plain_value _ (compared_plain c) (always BigInt) (AnyText ∷ AnyText ∷ []) types after h
@@ -204,15 +229,11 @@ module _ (code : ProgramParts) (constants : list_all constant_allowed code.const
   scales instr.Not types after h = plain_value _ not_plain (always BigInt) (OneType BigInt ∷ []) types after h
   scales instr.ITruth types after h = plain_value _ condition_plain (always BigInt) (OneType BigInt ∷ []) types after h
   scales instr.DTruth types after h = plain_value _ condition_plain (always BigInt) (AnyDecimal ∷ []) types after h
-  scales instr.IsNull types after h = plain_value is_null_of is_null_plain (always BigInt) (AnyType ∷ []) types after h
   scales (instr.Choose n) types after h = λ stack t s g. chosen_scaled first_of first_keeps 1 n types after stack t h s g
   scales (instr.Least n) types after h = λ stack t s g. number_scaled lesser_of lesser_keeps n types after stack t h s g
   scales (instr.Greatest n) types after h = λ stack t s g. number_scaled greater_of greater_keeps n types after stack t h s g
+  scales (instr.Apply f) types after h = function_scales f types after h
   scales instr.Cat types after h = plain_value concat_of concat_plain both_texts (AnyText ∷ AnyText ∷ []) types after h
-  scales instr.Len types after h = plain_value length_of length_plain (always BigInt) (AnyText ∷ []) types after h
-  scales instr.Substr types after h = plain_outcome substr_of substr_plain part_of_first (OneType BigInt ∷ OneType BigInt ∷ AnyText ∷ []) types after h
-  scales instr.SubFrom types after h = plain_outcome substr_of substr_plain part_of_first (OneType BigInt ∷ AnyText ∷ []) types after h
-  scales instr.Trim types after h = plain_value trim_of trim_plain part_of_first (AnyText ∷ []) types after h
   scales (instr.Tick p) types after h = sym (some_is types after h)
   scales (instr.Jump t) types after h = λ stack s. (none_scaled stack types after h s).0
   scales (instr.JFalse t) types after h = λ v stack s. let k = only_scaled BigInt v stack types after h s in (k.1, k.2)

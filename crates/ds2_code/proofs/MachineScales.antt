@@ -28,7 +28,9 @@ use Rattle.ds2_code.specs.CodeUnit.{unit_begun}
 use Rattle.ds2_code.specs.Desk.{ProgramData, Desk, with_stack, with_state, pushed, Taken, take_off, with_value_for, result_above, with_result_for, StoreTarget, IntoSlot, IntoLocal, IntoParameter, loaded_value, with_stored, top_into, without_top, values_of_slots}
 use Rattle.ds2_code.specs.HashCalls.{answer_of_hash, after_hash_call, hash_called, answer_of_iterator, after_iterator_call, iterator_moved, iterator_called}
 use Rattle.ds2_code.specs.InstructionTable.{Kind, Pure, Partial, Loads, Stores, Drops, CallsHash, CallsIterator, Writes, Puts, Ticks, Jumps, Tests, Enters, GoesBack, Raises, Finishes, kind_of}
-use Rattle.ds2_code.specs.OperandTypes.{OperandTypes, AnyDecimal, TakenTypes, take_classes, one_for, by_scales, with_type, CodeRole, OfUnit, OfMethod, Signature, signature_of, types_of_parameters, types_of_locals, with_in_out_types, with_result_type, types_behind}
+use Rattle.ds2_value.specs.ValueFunctions.{by_scales}
+use Rattle.ds2_value.specs.declared.value_function.OperandClass.TheVariants.{AnyDecimal}
+use Rattle.ds2_code.specs.OperandTypes.{OperandTypes, TakenTypes, take_classes, one_for, with_type, CodeRole, OfUnit, OfMethod, Signature, signature_of, types_of_parameters, types_of_locals, with_in_out_types, with_result_type, types_behind}
 use Rattle.ds2_code.specs.ValidCode.{CodePoint, point, HasOperandTypes, stage_parameters, constant_allowed, values_allowed, IsValidProgram, unit_entries}
 use Rattle.ds2_code.specs.Scales.{is_scaled, AreScaled, AreHashesScaled, IsDataScaled, AreCallersScaled, IsScaledAt, is_scale_of_product, UnitsBeginScaled, InstructionsKeepScales, ProductsHaveScales, UnitsEndScaled}
 use Rattle.ds2_code.proofs.ScaledLists.{both, some_is, append_scaled, nulls_scaled}

@@ -9,7 +9,10 @@ use Rattle.ds2_value.specs.declared.value.Value.TheVariants.{Null}
 use Rattle.ds2_code.specs.declared.parts.ParameterPart.{ParameterPart}
 use Rattle.ds2_code.specs.CodeRun.{with_in_outs}
 use Rattle.ds2_code.specs.Desk.{Taken, take_off}
-use Rattle.ds2_code.specs.OperandTypes.{OperandTypes, OperandClass, OneType, TakenTypes, is_of_class, take_classes, with_type, one_for, none_for, when_none, none_below, always, is_number_type, chosen_types, chosen_numbers, types_of_parameters, with_in_out_types}
+use Rattle.ds2_value.specs.ValueFunctions.{is_of_class, always}
+use Rattle.ds2_value.specs.declared.value_function.OperandClass.{OperandClass}
+use Rattle.ds2_value.specs.declared.value_function.OperandClass.TheVariants.{OneType}
+use Rattle.ds2_code.specs.OperandTypes.{OperandTypes, TakenTypes, take_classes, with_type, one_for, none_for, when_none, none_below, is_number_type, chosen_types, chosen_numbers, types_of_parameters, with_in_out_types}
 use Rattle.ds2_code.specs.Scales.{is_scaled, AreScaled}
 use Rattle.ds2_code.proofs.ScaledLists.{if_some, when_true, some_is, of_same_type}
 use Rattle.ds2_code.proofs.ScaledResults.{AllScaled, KeepsType, fold_scaled}

@@ -20,7 +20,7 @@ use Rattle.ds2_value.specs.declared.ty.Ty.{Ty}
 use Rattle.ds2_value.specs.declared.ty.Ty.TheVariants.{BigInt, Decimal as DecimalOf, Char, Varchar}
 use Rattle.ds2_value.specs.declared.value.Value.{Value}
 use Rattle.ds2_value.specs.declared.value.Value.TheVariants.{Null, Int, Dec, Txt}
-use Rattle.ds2_code.specs.OperandTypes.{decimal_of_scale, by_scales, as_operand}
+use Rattle.ds2_value.specs.ValueFunctions.{decimal_of_scale, by_scales, as_operand}
 use Rattle.ds2_code.specs.Scales.{is_type_of_scale, is_scaled, AreScaled, is_scale_of_product}
 use Rattle.ds2_code.proofs.ScaledLists.{if_some, some_is}
 

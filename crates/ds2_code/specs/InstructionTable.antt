@@ -1,12 +1,13 @@
 -- The machine's table: what each instruction is, by kinds.
-use Rattle.std.specs.Prelude.{ℕ, Bool, true, false, [], ◌∷◌, fold, Result, Ok}
+use Rattle.std.specs.Prelude.{ℕ, Bool, true, false, [], ◌∷◌, length, fold, Result, Ok}
 use Rattle.ds2_base.specs.declared.place.Place.{Place}
 use Rattle.ds2_decimal.specs.Arithmetic as decimal
-use Rattle.ds2_value.specs.Functions.{is_null_of, length_of, trim_of, concat_of, substr_of, first_of, lesser_of, greater_of}
+use Rattle.ds2_value.specs.Functions.{concat_of, first_of, lesser_of, greater_of}
 use Rattle.ds2_value.specs.Operations.{of_decimals, of_decimal, truth_value, widened, or_null_at_fault, line_value, of_one, of_one_or_fault, of_two}
 use Rattle.ds2_value.specs.Row.{Row}
 use Rattle.ds2_value.specs.Types.{assign_of}
-use Rattle.ds2_value.specs.Value.{sum_of, difference_of, product_of, negative_of, absolute_of, remainder_of, compared_of, truth_of, and_of, or_of, not_of}
+use Rattle.ds2_value.specs.Value.{sum_of, difference_of, product_of, negative_of, compared_of, truth_of, and_of, or_of, not_of}
+use Rattle.ds2_value.specs.ValueFunctions.{row_of, function_value}
 use Rattle.ds2_value.specs.declared.fault.Fault.{Fault}
 use Rattle.ds2_value.specs.declared.fault.Fault.TheVariants.{NoWhen as NoWhenFault}
 use Rattle.ds2_value.specs.declared.hash_function.HashFunction.{HashFunction}
@@ -75,17 +76,11 @@ kind_of instr.IAdd = Partial 2 (of_two sum_of)
 kind_of instr.ISub = Partial 2 (of_two difference_of)
 kind_of instr.IMul = Partial 2 (of_two product_of)
 kind_of instr.INeg = Partial 1 (of_one_or_fault negative_of)
-kind_of instr.IAbs = Partial 1 (of_one_or_fault absolute_of)
-kind_of instr.IMod = Partial 2 (of_two remainder_of)
 kind_of instr.DAdd = Partial 2 (of_two (of_decimals decimal.add))
 kind_of instr.DSub = Partial 2 (of_two (of_decimals decimal.sub))
 kind_of instr.DMul = Partial 2 (of_two (of_decimals decimal.mul))
 kind_of instr.DDiv = Partial 2 (of_two (of_decimals decimal.div))
 kind_of instr.DNeg = Pure 1 (of_one (of_decimal decimal.neg))
-kind_of instr.DAbs = Pure 1 (of_one (of_decimal decimal.abs))
-kind_of instr.DMod = Partial 2 (of_two (of_decimals decimal.modulo))
-kind_of instr.DFloor = Pure 1 (of_one (of_decimal decimal.floor))
-kind_of instr.DCeil = Pure 1 (of_one (of_decimal decimal.ceil))
 kind_of (instr.ICmp comparison) = Pure 2 (of_operands (compared_of comparison))
 kind_of (instr.DCmp comparison) = Pure 2 (of_operands (compared_of comparison))
 kind_of (instr.TCmp comparison) = Pure 2 (of_operands (compared_of comparison))
@@ -94,15 +89,11 @@ kind_of instr.Or = Pure 2 (of_operands (λ a b. truth_value (or_of (truth_of a) 
 kind_of instr.Not = Pure 1 (of_one (λ a. truth_value (not_of (truth_of a))))
 kind_of instr.ITruth = Pure 1 (of_one (λ a. truth_value (truth_of a)))
 kind_of instr.DTruth = Pure 1 (of_one (λ a. truth_value (truth_of a)))
-kind_of instr.IsNull = Pure 1 is_null_of
 kind_of (instr.Choose n) = Pure n (fold first_of Null)
 kind_of (instr.Least n) = Pure n (fold lesser_of Null)
 kind_of (instr.Greatest n) = Pure n (fold greater_of Null)
+kind_of (instr.Apply f) = Partial (length (row_of f).operands) (function_value f)
 kind_of instr.Cat = Pure 2 concat_of
-kind_of instr.Len = Pure 1 length_of
-kind_of instr.Substr = Partial 3 substr_of
-kind_of instr.SubFrom = Partial 2 substr_of
-kind_of instr.Trim = Pure 1 trim_of
 kind_of (instr.Tick place) = Ticks place
 kind_of (instr.Jump target) = Jumps target
 kind_of (instr.JFalse target) = Tests false target

@@ -2,10 +2,13 @@
 use Rattle.std.specs.Prelude.{ℕ, ◌+◌, ◌==◌, max, min, nat_le, Bool, true, false, ◌&&◌, if◌then◌else◌, List, [], ◌∷◌, ◌++◌, map, reverse, replicate, slice_get, Option, Some, None, unwrap_or}
 use Rattle.std.specs.List.{cons_option}
 use Rattle.std.specs.Option.{option_and, option_map}
-use Rattle.ds2_value.specs.Types.{in_bounds, same_ty}
+use Rattle.ds2_value.specs.Types.{in_bounds}
+use Rattle.ds2_value.specs.ValueFunctions.{is_of_class, always, as_operand, by_scales, text_length, type_by, row_of}
 use Rattle.ds2_value.specs.declared.ty.TheConstants.{TEXT_CHARACTERS}
 use Rattle.ds2_value.specs.declared.ty.Ty.{Ty}
 use Rattle.ds2_value.specs.declared.ty.Ty.TheVariants.{BigInt, Decimal as DecimalOf, Char, Varchar}
+use Rattle.ds2_value.specs.declared.value_function.OperandClass.{OperandClass}
+use Rattle.ds2_value.specs.declared.value_function.OperandClass.TheVariants.{OneType, AnyDecimal, AnyText, AnyType}
 use Rattle.ds2_code.specs.declared.instr.Instr.{Instr}
 use Rattle.ds2_code.specs.declared.instr.Instr.TheVariants as instr
 use Rattle.ds2_code.specs.declared.parts.Constant.{Constant}
@@ -46,31 +49,6 @@ types_of_locals (OfMethod signature) = types_of_parameters signature.parameters 
 
 -- ---- operands that are taken off
 
--- what an instruction may need of an operand: one type, a DECIMAL, a text, or nothing
-pub data OperandClass : Type 0 where
-  OneType : Ty → OperandClass
-  AnyDecimal : OperandClass
-  AnyText : OperandClass
-  AnyType : OperandClass
-
--- a DECIMAL of whatever digits
-abbrev pub is_decimal_type : Ty → Bool
-is_decimal_type (DecimalOf p s) = true
-is_decimal_type _ = false
-
--- a CHAR or VARCHAR of whatever length
-abbrev pub is_text_type : Ty → Bool
-is_text_type (Char n) = true
-is_text_type (Varchar n) = true
-is_text_type _ = false
-
--- an operand of this type is what is needed
-abbrev pub is_of_class : OperandClass → Ty → Bool
-is_of_class (OneType needed) t = same_ty needed t
-is_of_class AnyDecimal t = is_decimal_type t
-is_of_class AnyText t = is_text_type t
-is_of_class AnyType t = true
-
 -- the types of operands that were taken off, the first operand first, and those below them
 pub record TakenTypes : Type 0 where
   pub taken : List Ty
@@ -108,35 +86,6 @@ none_below None = None
 none_below (Some operands) = when_none operands.below
 
 -- ---- the types of results
-
--- one type, whatever the operands are
-abbrev pub always : Ty → List Ty → Option Ty
-always t operands = Some t
-
--- the type of the one operand
-abbrev pub as_operand : List Ty → Option Ty
-as_operand (t ∷ []) = Some t
-as_operand _ = None
-
--- a DECIMAL of 38 digits and this scale, where it is in bounds
-abbrev pub decimal_of_scale : ℕ → Option Ty
-decimal_of_scale s = if nat_le s 38 then Some (DecimalOf 38 s) else None
-
--- a DECIMAL of a scale that the scales of two operands give
-abbrev pub by_scales : (ℕ → ℕ → ℕ) → List Ty → Option Ty
-by_scales scale (DecimalOf p s ∷ DecimalOf q t ∷ []) = decimal_of_scale (scale s t)
-by_scales scale _ = None
-
--- the greatest number of a text's characters
-abbrev pub text_length : Ty → ℕ
-text_length (Char n) = n
-text_length (Varchar n) = n
-text_length _ = 0
-
--- a VARCHAR of the length of the first operand, a text
-abbrev pub part_of_first : List Ty → Option Ty
-part_of_first (t ∷ operands) = Some (Varchar (text_length t))
-part_of_first [] = None
 
 -- a VARCHAR of the lengths of two texts
 abbrev pub both_texts : List Ty → Option Ty
@@ -251,17 +200,11 @@ types_behind code parameters role instr.IAdd types = one_for (always BigInt) (ta
 types_behind code parameters role instr.ISub types = one_for (always BigInt) (take_classes (OneType BigInt ∷ OneType BigInt ∷ []) [] types)
 types_behind code parameters role instr.IMul types = one_for (always BigInt) (take_classes (OneType BigInt ∷ OneType BigInt ∷ []) [] types)
 types_behind code parameters role instr.INeg types = one_for (always BigInt) (take_classes (OneType BigInt ∷ []) [] types)
-types_behind code parameters role instr.IAbs types = one_for (always BigInt) (take_classes (OneType BigInt ∷ []) [] types)
-types_behind code parameters role instr.IMod types = one_for (always BigInt) (take_classes (OneType BigInt ∷ OneType BigInt ∷ []) [] types)
 types_behind code parameters role instr.DAdd types = one_for (by_scales max) (take_classes (AnyDecimal ∷ AnyDecimal ∷ []) [] types)
 types_behind code parameters role instr.DSub types = one_for (by_scales max) (take_classes (AnyDecimal ∷ AnyDecimal ∷ []) [] types)
 types_behind code parameters role instr.DMul types = one_for (by_scales (λ s t. s + t)) (take_classes (AnyDecimal ∷ AnyDecimal ∷ []) [] types)
 types_behind code parameters role instr.DDiv types = one_for (by_scales (λ s t. max 6 (max s t))) (take_classes (AnyDecimal ∷ AnyDecimal ∷ []) [] types)
 types_behind code parameters role instr.DNeg types = one_for as_operand (take_classes (AnyDecimal ∷ []) [] types)
-types_behind code parameters role instr.DAbs types = one_for as_operand (take_classes (AnyDecimal ∷ []) [] types)
-types_behind code parameters role instr.DMod types = one_for (by_scales max) (take_classes (AnyDecimal ∷ AnyDecimal ∷ []) [] types)
-types_behind code parameters role instr.DFloor types = one_for (always (DecimalOf 38 0)) (take_classes (AnyDecimal ∷ []) [] types)
-types_behind code parameters role instr.DCeil types = one_for (always (DecimalOf 38 0)) (take_classes (AnyDecimal ∷ []) [] types)
 types_behind code parameters role (instr.ICmp comparison) types = one_for (always BigInt) (take_classes (OneType BigInt ∷ OneType BigInt ∷ []) [] types)
 types_behind code parameters role (instr.DCmp comparison) types = one_for (always BigInt) (take_classes (AnyDecimal ∷ AnyDecimal ∷ []) [] types)
 types_behind code parameters role (instr.TCmp comparison) types = one_for (always BigInt) (take_classes (AnyText ∷ AnyText ∷ []) [] types)
@@ -270,16 +213,11 @@ types_behind code parameters role instr.Or types = one_for (always BigInt) (take
 types_behind code parameters role instr.Not types = one_for (always BigInt) (take_classes (OneType BigInt ∷ []) [] types)
 types_behind code parameters role instr.ITruth types = one_for (always BigInt) (take_classes (OneType BigInt ∷ []) [] types)
 types_behind code parameters role instr.DTruth types = one_for (always BigInt) (take_classes (AnyDecimal ∷ []) [] types)
-types_behind code parameters role instr.IsNull types = one_for (always BigInt) (take_classes (AnyType ∷ []) [] types)
 types_behind code parameters role (instr.Choose n) types = chosen_types 1 n types
 types_behind code parameters role (instr.Least n) types = chosen_numbers n types
 types_behind code parameters role (instr.Greatest n) types = chosen_numbers n types
+types_behind code parameters role (instr.Apply f) types = one_for (type_by (row_of f).result) (take_classes (row_of f).operands [] types)
 types_behind code parameters role instr.Cat types = one_for both_texts (take_classes (AnyText ∷ AnyText ∷ []) [] types)
-types_behind code parameters role instr.Len types = one_for (always BigInt) (take_classes (AnyText ∷ []) [] types)
-types_behind code parameters role instr.Substr types =
-    one_for part_of_first (take_classes (OneType BigInt ∷ OneType BigInt ∷ AnyText ∷ []) [] types)
-types_behind code parameters role instr.SubFrom types = one_for part_of_first (take_classes (OneType BigInt ∷ AnyText ∷ []) [] types)
-types_behind code parameters role instr.Trim types = one_for part_of_first (take_classes (AnyText ∷ []) [] types)
 types_behind code parameters role (instr.Tick place) types = Some types
 types_behind code parameters role (instr.Jump target) types = when_none types
 types_behind code parameters role (instr.JFalse target) types = none_below (take_classes (OneType BigInt ∷ []) [] types)

@@ -1,6 +1,7 @@
 -- The numbers of the instructions' rows, which are their operation codes in an object file.
 use Rattle.std.specs.Prelude.{◌≡◌, ℕ, zero, suc, ◌+◌, List, [], ◌∷◌}
 use Rattle.std.specs.List.{range_with_len}
+use Rattle.ds2_value.specs.ValueFunctions.{row_of}
 use Rattle.ds2_code.specs.declared.instr.Instr.{Instr}
 use Rattle.ds2_code.specs.declared.instr.Instr.TheVariants as instr
 use Rattle.ds2_code.specs.declared.rows.TheConstants.{ROWS}
@@ -22,17 +23,11 @@ operation_code instr.IAdd = 11
 operation_code instr.ISub = 12
 operation_code instr.IMul = 13
 operation_code instr.INeg = 14
-operation_code instr.IAbs = 15
-operation_code instr.IMod = 16
 operation_code instr.DAdd = 17
 operation_code instr.DSub = 18
 operation_code instr.DMul = 19
 operation_code instr.DDiv = 20
 operation_code instr.DNeg = 21
-operation_code instr.DAbs = 22
-operation_code instr.DMod = 23
-operation_code instr.DFloor = 24
-operation_code instr.DCeil = 25
 operation_code (instr.ICmp a) = 26
 operation_code (instr.DCmp a) = 27
 operation_code (instr.TCmp a) = 28
@@ -41,15 +36,11 @@ operation_code instr.Or = 30
 operation_code instr.Not = 31
 operation_code instr.ITruth = 32
 operation_code instr.DTruth = 33
-operation_code instr.IsNull = 34
 operation_code (instr.Choose a) = 35
 operation_code (instr.Least a) = 36
 operation_code (instr.Greatest a) = 37
+operation_code (instr.Apply f) = (row_of f).code
 operation_code instr.Cat = 38
-operation_code instr.Len = 39
-operation_code instr.Substr = 40
-operation_code instr.SubFrom = 41
-operation_code instr.Trim = 42
 operation_code (instr.Tick a) = 43
 operation_code (instr.Jump a) = 44
 operation_code (instr.JFalse a) = 45

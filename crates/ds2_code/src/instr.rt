@@ -4,7 +4,7 @@ ghost use Rattle.ds2_code.specs.CodeBound.{jump_target, falls_through};
 ghost use Rattle.ds2_code.specs.InstructionTable.{kind_of};
 
 use ds2_base::Place;
-use ds2_value::{Comparison, HashFunction, IteratorFunction, Ty};
+use ds2_value::{Comparison, HashFunction, IteratorFunction, Ty, ValueFunction};
 
 /// One instruction. What it takes from the operand list and what it leaves there is said as `a b -> c`, the last one on top; `Overflow`
 /// and the like are the faults that it may give. A null operand makes the result null, unless it is said otherwise.
@@ -40,10 +40,6 @@ pub enum Instr {
     IMul,
     /// BIGINT `->` it with the other sign; `Overflow`.
     INeg,
-    /// BIGINT `->` it without its sign; `Overflow`.
-    IAbs,
-    /// BIGINT BIGINT `->` what whole multiples of the second leave of the first; `DivideByZero`.
-    IMod,
     /// DECIMAL DECIMAL `->` their sum; `Overflow`.
     DAdd,
     /// DECIMAL DECIMAL `->` the first less the second; `Overflow`.
@@ -54,14 +50,6 @@ pub enum Instr {
     DDiv,
     /// DECIMAL `->` it with the other sign.
     DNeg,
-    /// DECIMAL `->` it without its sign.
-    DAbs,
-    /// DECIMAL DECIMAL `->` what whole multiples of the second leave of the first; `Overflow`, `DivideByZero`.
-    DMod,
-    /// DECIMAL `->` the greatest whole number that is not above it.
-    DFloor,
-    /// DECIMAL `->` the least whole number that is not below it.
-    DCeil,
     /// BIGINT BIGINT `->` 1, 0 or null.
     ICmp(Comparison),
     /// DECIMAL DECIMAL `->` 1, 0 or null, of any two DECIMAL types.
@@ -78,24 +66,16 @@ pub enum Instr {
     ITruth,
     /// DECIMAL `->` it is not 0: 1, 0 or null.
     DTruth,
-    /// value `->` 1 where it is null, else 0.
-    IsNull,
     /// n values of one type `->` the first that is not null; null where all are.
     Choose(u32),
     /// n numbers of one type `->` the least without the nulls; null where all are.
     Least(u32),
     /// n numbers of one type `->` the greatest without the nulls; null where all are.
     Greatest(u32),
+    /// operands `->` a function of them; its fault.
+    Apply(ValueFunction),
     /// text text `->` one behind the other, at most 1,024 characters of them.
     Cat,
-    /// text `->` the number of its characters without the blanks at its end.
-    Len,
-    /// text BIGINT BIGINT `->` the part from a character on of a length; `Range`.
-    Substr,
-    /// text BIGINT `->` the part from a character on; `Range`.
-    SubFrom,
-    /// text `->` it without the blanks at its end.
-    Trim,
     /// A step of the budget begins at a place; `BudgetSpent`.
     Tick(Place),
     /// On to the target.

@@ -3,6 +3,7 @@ ghost use Rattle.std.specs.Prelude.{◌≡◌};
 ghost use Rattle.ds2_code.specs.OperationCode.{operation_code, RowsInOrder};
 
 use crate::Instr;
+use ds2_value::ValueFunction;
 
 /// A table with an item for each row of the machine's table.
 #[derive(Clone, Copy)]
@@ -12,7 +13,7 @@ pub struct Rows<const N: usize> {
 }
 
 /// Hands all rows on to a macro, with what else that one takes: the name of each row, which fields stand behind its operation code in an
-/// object file, and its number.
+/// object file, the function of one that applies a function, and its number.
 #[macro_export]
 macro_rules! with_rows {
     ($then:ident $($more:tt)*) => {
@@ -33,17 +34,17 @@ macro_rules! with_rows {
             ISub(bare) = 12,
             IMul(bare) = 13,
             INeg(bare) = 14,
-            IAbs(bare) = 15,
-            IMod(bare) = 16,
+            Apply(function IntegerAbsolute) = 15,
+            Apply(function IntegerModulo) = 16,
             DAdd(bare) = 17,
             DSub(bare) = 18,
             DMul(bare) = 19,
             DDiv(bare) = 20,
             DNeg(bare) = 21,
-            DAbs(bare) = 22,
-            DMod(bare) = 23,
-            DFloor(bare) = 24,
-            DCeil(bare) = 25,
+            Apply(function DecimalAbsolute) = 22,
+            Apply(function DecimalModulo) = 23,
+            Apply(function Floor) = 24,
+            Apply(function Ceiling) = 25,
             ICmp(test) = 26,
             DCmp(test) = 27,
             TCmp(test) = 28,
@@ -52,15 +53,15 @@ macro_rules! with_rows {
             Not(bare) = 31,
             ITruth(bare) = 32,
             DTruth(bare) = 33,
-            IsNull(bare) = 34,
+            Apply(function IsNull) = 34,
             Choose(number) = 35,
             Least(number) = 36,
             Greatest(number) = 37,
             Cat(bare) = 38,
-            Len(bare) = 39,
-            Substr(bare) = 40,
-            SubFrom(bare) = 41,
-            Trim(bare) = 42,
+            Apply(function Length) = 39,
+            Apply(function Substring) = 40,
+            Apply(function SubstringFrom) = 41,
+            Apply(function Trim) = 42,
             Tick(place) = 43,
             Jump(number) = 44,
             JFalse(number) = 45,
@@ -82,16 +83,23 @@ macro_rules! with_rows {
 
 // A list of the numbers.
 macro_rules! codes {
-    ([] $($name:ident($fields:ident) = $code:literal,)*) => {
+    ([] $($name:ident($fields:ident $($function:ident)?) = $code:literal,)*) => {
         [$($code),*]
     };
 }
 
+/// The instructions of a row, as a pattern.
+#[macro_export]
+macro_rules! of_row {
+    (function $name:ident $function:ident) => { Instr::$name(ValueFunction::$function) };
+    ($fields:ident $name:ident) => { Instr::$name { .. } };
+}
+
 // The number of an instruction's row.
 macro_rules! code_of {
-    ([$instr:expr] $($name:ident($fields:ident) = $code:literal,)*) => {
+    ([$instr:expr] $($name:ident($fields:ident $($function:ident)?) = $code:literal,)*) => {
         match $instr {
-            $(Instr::$name { .. } => $code,)*
+            $(of_row!($fields $name $($function)?) => $code,)*
         }
     };
 }

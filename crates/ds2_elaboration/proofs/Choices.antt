@@ -1,5 +1,5 @@
 -- Functions of several values, and functions by their names, become typed nodes where their arguments break no rule.
-use Rattle.std.proofs.Common.{◌≡◌, ℕ, suc, ◌≤◌, max, nat_le, Bool, true, false, not, ◌||◌, List, [], ◌∷◌, ◌++◌, length, map, fold, if◌then◌else◌, Option, Some, refl, sym, ap, ◌∙◌, subst, arith}
+use Rattle.std.proofs.Common.{◌≡◌, ℕ, suc, ◌≤◌, max, nat_le, Bool, true, false, not, ◌&&◌, ◌||◌, List, [], ◌∷◌, ◌++◌, length, map, fold, if◌then◌else◌, Option, Some, refl, sym, ap, ◌∙◌, subst, arith}
 use Rattle.std.specs.List.{list_all, AllByRecursion}
 use Rattle.std.proofs.lemmas.Bool.{and_parts, and_from, leb-true, le-leb}
 use Rattle.ds2_base.specs.declared.place.Place.{Place}
@@ -11,23 +11,40 @@ use Rattle.ds2_meaning.specs.IsTyped.{NamesInScope, type_scale, type_width, deci
 use Rattle.ds2_meaning.specs.TypedExpression.{TypedExpression, TypedExpressions}
 use Rattle.ds2_meaning.specs.declared.expressions.Function.{Function}
 use Rattle.ds2_meaning.specs.declared.expressions.Function.TheVariants as function
-use Rattle.ds2_names.proofs.FunctionRows.{and_others, of_function_named}
-use Rattle.ds2_names.specs.Functions.{takes_so_many}
+use Rattle.ds2_names.proofs.FunctionRows.{of_function_named}
+use Rattle.ds2_names.specs.Functions.{null_test, functions, takes_so_many}
 use Rattle.ds2_names.specs.declared.functions.FunctionOfMany.TheVariants as many
-use Rattle.ds2_names.specs.declared.functions.FunctionOfOne.{FunctionOfOne}
-use Rattle.ds2_names.specs.declared.functions.FunctionOfOne.TheVariants as one
+use Rattle.ds2_names.specs.declared.functions.ByType.{ByType}
 use Rattle.ds2_names.specs.declared.functions.FunctionRow.{FunctionRow}
 use Rattle.ds2_names.specs.declared.functions.NamedFunction.{NamedFunction}
 use Rattle.ds2_names.specs.declared.functions.NamedFunction.TheVariants as named
 use Rattle.ds2_names.specs.NameRules.{from_each}
 use Rattle.ds2_names.specs.SourceUnit.{spelled_name}
-use Rattle.ds2_elaboration.specs.FunctionTypes.{ElaboratedArgument, nodes_in_order, refusals_in, argument_refusals, known_types, is_null_argument, common_type, common_node, elaborated_coalesce, elaborated_extreme, elaborated_substring, elaborated_null_test, form_of_one, form_of_function, form_of_row, elaborated_function, elaborated_null_call}
-use Rattle.ds2_elaboration.specs.TypedForms.{IsOfTyping, IsSoundlyElaborated, IsSoundArgument, IsInType}
-use Rattle.ds2_elaboration.specs.Typings.{TypeRefusals, clash_unless, Typing, Known, NullAt, Unknown, ElaboratedExpression, elaborated_nameless, is_numeric_type, is_characters, is_integer_type, is_assigned_from, where_known, null_clash, operand_clash, assigned_node}
-use Rattle.ds2_elaboration.proofs.Functions.{absolute_typed, floor_typed, ceiling_typed, remainder_typed, length_typed, width_bounds, trim_typed}
-use Rattle.ds2_elaboration.proofs.Links.{scale_at_most, result_in_bounds, greater_within, width_from_one}
-use Rattle.ds2_elaboration.proofs.Operands.{unclashed, numeric, integer, textual, operand, form_typed, assigned_as}
+use Rattle.ds2_elaboration.specs.FunctionTypes.{ElaboratedArgument, nodes_in_order, refusals_in, argument_refusals, known_types, is_null_argument, common_type, common_node, elaborated_coalesce, elaborated_extreme, elaborated_substring, form_of_function, form_of_row, elaborated_function, elaborated_null_call}
+use Rattle.ds2_elaboration.specs.TypedForms.{IsOfTyping, IsSoundlyElaborated, IsSoundArgument, IsInType, EveryFormIsTyped}
+use Rattle.ds2_elaboration.specs.Typings.{TypeRefusals, clash_unless, Typing, Known, NullAt, Unknown, ElaboratedExpression, elaborated_nameless, is_numeric_type, is_characters, is_integer_type, is_assigned_from, where_known, operand_clash, assigned_node}
+use Rattle.ds2_elaboration.proofs.Comparisons.{comparison_typed}
+use Rattle.ds2_elaboration.proofs.Functions.{part_from_taken, part_taken, is_right, one_typed, remainder_typed, width_bounds}
+use Rattle.ds2_elaboration.proofs.Links.{scale_at_most, result_in_bounds, greater_within, width_from_one, sign_typed, not_typed, next_link}
+use Rattle.ds2_elaboration.proofs.Operands.{unclashed, numeric, integer, operand, form_typed, assigned_as, assigned_typed}
 use Rattle.ds2_elaboration.proofs.Outcome.{both_empty}
+
+-- ---- rows of functions
+
+-- what a function takes, and how many arguments, let it be typed
+abbrev is_right_row : NamedFunction → ℕ × ℕ → Bool
+is_right_row (named.OfOne f) counts = is_right f
+is_right_row (named.OfMany many.Coalesce) counts = nat_le 1 counts.0 && nat_le counts.1 16
+is_right_row (named.OfMany many.Greatest) counts = nat_le 2 counts.0 && nat_le counts.1 16
+is_right_row (named.OfMany many.Least) counts = nat_le 2 counts.0 && nat_le counts.1 16
+is_right_row named.Remainder counts = true
+is_right_row named.Substring counts = nat_le 2 counts.0 && nat_le counts.1 3
+
+-- so many arguments are within these numbers
+within : (n : ℕ) (counts : ℕ × ℕ) (least most : ℕ) → (nat_le least counts.0 && nat_le counts.1 most) ≡ true → counts.0 ≤ n → n ≤ counts.1 → (least ≤ n) × (n ≤ most)
+within n counts least most h some few =
+    let p = and_parts (nat_le least counts.0) (nat_le counts.1 most) h in
+    (omega (arith, leb-true least counts.0 p.0, some), omega (arith, leb-true counts.1 most p.1, few))
 
 -- ---- the common type
 
@@ -229,21 +246,11 @@ module _ (names : NamesInScope) where
   pub nameless_typed : (place : Place) → IsSoundlyElaborated names (elaborated_nameless place)
   nameless_typed place h = cc
 
-  any_typing : (typing : Typing) (node : TypedExpression) → IsOfTyping names typing node → null_clash typing ≡ [] → IsTypedExpression names node
-  any_typing (Known ty) node h c = h.0
-  any_typing (NullAt place) node h c = cc
-  any_typing Unknown node h c = absurd h
-
   -- an expression is typed, whatever is known of its type
   pub any_of_typing : (typing : Typing) (node : TypedExpression) → IsOfTyping names typing node → IsTypedExpression names node
   any_of_typing (Known ty) node h = h.0
   any_of_typing (NullAt place) node h = subst (IsTypedExpression names) (sym h) (refl, refl)
   any_of_typing Unknown node h = absurd h
-
-  null_test_typed : (name : Place) (x : ElaboratedArgument) → IsSoundArgument names x → IsSoundlyElaborated names (elaborated_null_test name x)
-  null_test_typed name x f =
-      λ h. let p = both_empty x.value.refusals (null_clash x.value.typing) h in
-      (((any_typing x.value.typing x.value.node (f p.0) p.1, tt), refl), refl, refl)
 
   substring_of_two : (name : Place) (x n : ElaboratedArgument) → IsSoundArgument names x → IsSoundArgument names n
       → IsSoundlyElaborated names (elaborated_substring name x (n ∷ []))
@@ -253,7 +260,7 @@ module _ (names : NamesInScope) where
       let q = both_empty (argument_refusals is_integer_type name n) [] p.1 in
       let o = operand names is_characters name x.value f p.0 in
       let i = operand names is_integer_type name n.value g q.0 in (
-        ((o.typed, (i.typed, tt)), (textual (expression_type x.value.node) o.passes, integer (expression_type n.value.node) i.passes, refl)),
+        ((o.typed, (i.typed, tt)), part_from_taken (expression_type x.value.node) (expression_type n.value.node) o.passes (integer (expression_type n.value.node) i.passes)),
         width_bounds names (expression_type x.value.node) o.passes o.bounds,
       ))
 
@@ -269,7 +276,8 @@ module _ (names : NamesInScope) where
       let j = operand names is_integer_type name m.value k r.0 in (
         (
           (o.typed, (i.typed, (j.typed, tt))),
-          (textual (expression_type x.value.node) o.passes, integer (expression_type n.value.node) i.passes, integer (expression_type m.value.node) j.passes, refl),
+          part_taken (expression_type x.value.node) (expression_type n.value.node) (expression_type m.value.node) o.passes (integer (expression_type n.value.node) i.passes)
+              (integer (expression_type m.value.node) j.passes),
         ),
         width_bounds names (expression_type x.value.node) o.passes o.bounds,
       ))
@@ -281,22 +289,14 @@ module _ (names : NamesInScope) where
   either true x y f g = f
   either false x y f g = g
 
-  one_typed : (f : FunctionOfOne) (name : Place) (x : ElaboratedArgument) → IsSoundArgument names x → IsSoundlyElaborated names (form_of_one f name x)
-  one_typed one.Absolute name x h = absolute_typed names name x h
-  one_typed one.Ceiling name x h = ceiling_typed names name x h
-  one_typed one.Floor name x h = floor_typed names name x h
-  one_typed one.Length name x h = length_typed names name x h
-  one_typed one.NullTest name x h = null_test_typed name x h
-  one_typed one.Trim name x h = trim_typed names name x h
-
-  of_one_typed : (f : FunctionOfOne) (name : Place) (xs : List ElaboratedArgument) → AllByRecursion (IsSoundArgument names) xs
+  of_one_typed : (f : ByType) → is_right f ≡ true → (name : Place) (xs : List ElaboratedArgument) → AllByRecursion (IsSoundArgument names) xs
       → IsSoundlyElaborated names (form_of_function (named.OfOne f) name xs)
-  of_one_typed f name [] h = nameless_typed name
-  of_one_typed f name (x ∷ []) h = one_typed f name x h.0
-  of_one_typed f name (x ∷ (y ∷ more)) h = nameless_typed name
+  of_one_typed f right name [] h = nameless_typed name
+  of_one_typed f right name (x ∷ []) h = one_typed names f right name x h.0
+  of_one_typed f right name (x ∷ (y ∷ more)) h = nameless_typed name
 
   pub null_call_typed : (word : Place) (xs : List ElaboratedArgument) → AllByRecursion (IsSoundArgument names) xs → IsSoundlyElaborated names (elaborated_null_call word xs)
-  null_call_typed word xs h = of_one_typed one.NullTest word xs h
+  null_call_typed word xs h = of_one_typed null_test refl word xs h
 
   remainder_of : (name : Place) (xs : List ElaboratedArgument) → AllByRecursion (IsSoundArgument names) xs → IsSoundlyElaborated names (form_of_function named.Remainder name xs)
   remainder_of name [] h = nameless_typed name
@@ -317,29 +317,39 @@ module _ (names : NamesInScope) where
   taken_if true name form f = f refl
   taken_if false name form f = nameless_typed name
 
-  -- a function that takes at least and at most so many arguments
-  taken : (f : NamedFunction) (least most : ℕ) (name : Place) (xs : List ElaboratedArgument)
-      → (least ≤ length xs → length xs ≤ most → IsSoundlyElaborated names (form_of_function f name xs))
-      → IsSoundlyElaborated names (form_of_row (Some (record { function = f; counts = (least, most) })) name xs)
-  taken f least most name xs h =
-      taken_if (takes_so_many (least, most) (length xs)) name (form_of_function f name xs) (λ e.
-      let p = and_parts (nat_le least (length xs)) (nat_le (length xs) most) e in
-      h (leb-true least (length xs) p.0) (leb-true (length xs) most p.1))
+  module _ (name : Place) (xs : List ElaboratedArgument) (sound : AllByRecursion (IsSoundArgument names) xs) where
+    by_function : (f : NamedFunction) (counts : ℕ × ℕ) → is_right_row f counts ≡ true → counts.0 ≤ length xs → length xs ≤ counts.1 → IsSoundlyElaborated names (form_of_function f name xs)
+    by_function (named.OfOne f) counts h some few = of_one_typed f h name xs sound
+    by_function (named.OfMany many.Coalesce) counts h some few = let n = within (length xs) counts 1 16 h some few in coalesce_typed name xs n.0 n.1 sound
+    by_function (named.OfMany many.Greatest) counts h some few = let n = within (length xs) counts 2 16 h some few in greatest_typed name xs n.0 n.1 sound
+    by_function (named.OfMany many.Least) counts h some few = let n = within (length xs) counts 2 16 h some few in least_typed name xs n.0 n.1 sound
+    by_function named.Remainder counts h some few = remainder_of name xs sound
+    by_function named.Substring counts h some few = let n = within (length xs) counts 2 3 h some few in substring_of name xs n.0 n.1 sound
+
+    row_typed : (row : FunctionRow) → is_right_row row.function row.counts ≡ true → IsSoundlyElaborated names (form_of_row (Some row) name xs)
+    row_typed row right =
+        taken_if (takes_so_many row.counts (length xs)) name (form_of_function row.function name xs) (λ e.
+        let p = and_parts (nat_le row.counts.0 (length xs)) (nat_le (length xs) row.counts.1) e in
+        by_function row.function row.counts right (leb-true row.counts.0 (length xs) p.0) (leb-true (length xs) row.counts.1 p.1))
+
+    rows_typed : (rows : List (List ℕ × FunctionRow)) → list_all (λ (row : List ℕ × FunctionRow). is_right_row row.1.function row.1.counts) rows ≡ true
+        → AllByRecursion (λ (row : List ℕ × FunctionRow). IsSoundlyElaborated names (form_of_row (Some row.1) name xs)) rows
+    rows_typed [] h = tt
+    rows_typed (row ∷ rows) h =
+        let p = and_parts (is_right_row row.1.function row.1.counts) (list_all (λ (r : List ℕ × FunctionRow). is_right_row r.1.function r.1.counts) rows) h in
+        (row_typed row.1 p.0, rows_typed rows p.1)
 
   pub function_typed : (t : Token) (xs : List ElaboratedArgument) → AllByRecursion (IsSoundArgument names) xs → IsSoundlyElaborated names (elaborated_function t xs)
-  function_typed t xs h =
-      let name = t.place in
-      let single : (f : FunctionOfOne) → IsSoundlyElaborated names (form_of_row (Some (record { function = named.OfOne f; counts = (1, 1) })) name xs) =
-      λ f. taken (named.OfOne f) 1 1 name xs (λ least most. of_one_typed f name xs h) in
-      of_function_named (λ (o : Option FunctionRow). IsSoundlyElaborated names (form_of_row o name xs)) (nameless_typed name) (spelled_name t)
-      (and_others (single one.Absolute)
-      (and_others (single one.Ceiling)
-      (and_others (taken (named.OfMany many.Coalesce) 1 16 name xs (λ least most. coalesce_typed name xs least most h))
-      (and_others (single one.Floor)
-      (and_others (single one.Length)
-      (and_others (taken (named.OfMany many.Greatest) 2 16 name xs (λ least most. greatest_typed name xs least most h))
-      (and_others (taken (named.OfMany many.Least) 2 16 name xs (λ least most. least_typed name xs least most h))
-      (and_others (taken named.Remainder 2 2 name xs (λ least most. remainder_of name xs h))
-      (and_others (single one.NullTest)
-      (and_others (taken named.Substring 2 3 name xs (λ least most. substring_of name xs least most h))
-      (and_others (single one.Trim) tt)))))))))))
+  function_typed t xs sound =
+      of_function_named (λ (o : Option FunctionRow). IsSoundlyElaborated names (form_of_row o t.place xs)) (nameless_typed t.place) (spelled_name t)
+      (rows_typed t.place xs sound functions refl)
+
+pub every_form_is_typed : EveryFormIsTyped
+every_form_is_typed names = record {
+  assigned = assigned_typed names;
+  sign = sign_typed names;
+  negation = not_typed names;
+  link = next_link names;
+  comparison = comparison_typed names;
+  functions = function_typed names;
+}

@@ -5,6 +5,7 @@ use Rattle.ds2_tree.specs.declared.expressions.Callee.TheVariants as callee
 use Rattle.ds2_tree.specs.declared.expressions.ChainKind.TheVariants.{Concatenation, And}
 use Rattle.ds2_value.specs.declared.ty.Ty.TheVariants.{BigInt, Decimal as DecimalOf, Varchar}
 use Rattle.ds2_value.specs.declared.value.Value.TheVariants.{Null}
+use Rattle.ds2_value.specs.declared.value_function.ValueFunction.TheVariants as of_values
 use Rattle.ds2_meaning.specs.ExampleWords.{col, int, function_of, global}
 use Rattle.ds2_names.specs.NameExamples.{word_in}
 use Rattle.ds2_meaning.specs.TypedExpression.{Constant, Widen, Convert, Called, NoArgument, ByValue, InOut, Then, NoExpression}
@@ -42,27 +43,27 @@ pub record FunctionExamples : Type 0 where
   pub greatest_of_null : setting (codes "i") (calling_at 104 (codes "max") (name_at 108 (codes "i") ∷ null_at 111 ∷ [])) ≡ refused_in TypeClash 111
   -- d = mod(i, d);
   pub remainder_widened : setting (codes "d") (calling_at 104 (codes "mod") (name_at 108 (codes "i") ∷ name_at 111 (codes "d") ∷ []))
-      ≡ set_to (codes "d") (Convert (function_of function.DecimalModulo (DecimalOf 38 2) (Widen value_i ∷ value_d ∷ [])) (DecimalOf 5 2))
+      ≡ set_to (codes "d") (Convert (function_of (function.Value of_values.DecimalModulo) (DecimalOf 38 2) (Widen value_i ∷ value_d ∷ [])) (DecimalOf 5 2))
   -- d = abs(d); i = floor(i); d = ceil(d);
-  pub absolute_keeps_its_type : setting (codes "d") (calling_at 104 (codes "abs") (name_at 108 (codes "d") ∷ [])) ≡ set_to (codes "d") (function_of function.DecimalAbsolute (DecimalOf 5 2) (value_d ∷ []))
+  pub absolute_keeps_its_type : setting (codes "d") (calling_at 104 (codes "abs") (name_at 108 (codes "d") ∷ [])) ≡ set_to (codes "d") (function_of (function.Value of_values.DecimalAbsolute) (DecimalOf 5 2) (value_d ∷ []))
   pub floor_of_integer : setting (codes "i") (calling_at 104 (codes "floor") (name_at 110 (codes "i") ∷ [])) ≡ set_to (codes "i") (function_of function.Unchanged BigInt (value_i ∷ []))
   pub ceiling_of_decimal : setting (codes "d") (calling_at 104 (codes "ceil") (name_at 109 (codes "d") ∷ []))
-      ≡ set_to (codes "d") (Convert (function_of function.Ceiling (DecimalOf 38 0) (value_d ∷ [])) (DecimalOf 5 2))
+      ≡ set_to (codes "d") (Convert (function_of (function.Value of_values.Ceiling) (DecimalOf 38 0) (value_d ∷ [])) (DecimalOf 5 2))
   -- i = length(c); i = length(i); v = length(i); : a BIGINT always, so the last is refused at the statement
-  pub length_of_text : setting (codes "i") (calling_at 104 (codes "length") (name_at 111 (codes "c") ∷ [])) ≡ set_to (codes "i") (function_of function.Length BigInt (value_c ∷ []))
+  pub length_of_text : setting (codes "i") (calling_at 104 (codes "length") (name_at 111 (codes "c") ∷ [])) ≡ set_to (codes "i") (function_of (function.Value of_values.Length) BigInt (value_c ∷ []))
   pub length_of_number : setting (codes "i") (calling_at 104 (codes "length") (name_at 111 (codes "i") ∷ [])) ≡ refused_in TypeClash 104
   pub length_all_the_same : setting (codes "v") (calling_at 104 (codes "length") (name_at 111 (codes "i") ∷ [])) ≡ refused_in TypeClash 100
   -- i = trim(i); : no type, so the statement is not refused
   pub trim_of_number : setting (codes "i") (calling_at 104 (codes "trim") (name_at 109 (codes "i") ∷ [])) ≡ refused_in TypeClash 104
   -- v = substr(c, i); v = substr(c, 1, d);
   pub part_of_text : setting (codes "v") (calling_at 104 (codes "substr") (name_at 111 (codes "c") ∷ name_at 114 (codes "i") ∷ []))
-      ≡ set_to (codes "v") (Convert (function_of function.Substring (Varchar 3) (value_c ∷ value_i ∷ [])) (Varchar 5))
+      ≡ set_to (codes "v") (Convert (function_of (function.Value of_values.SubstringFrom) (Varchar 3) (value_c ∷ value_i ∷ [])) (Varchar 5))
   pub part_of_decimal_length : setting (codes "v") (calling_at 104 (codes "substr") (name_at 111 (codes "c") ∷ integer_at 114 (codes "1") ∷ name_at 117 (codes "d") ∷ [])) ≡ refused_in TypeClash 104
   -- i = null(c); i = null(null);
-  pub null_test : setting (codes "i") (null_test_at 104 (name_at 109 (codes "c"))) ≡ set_to (codes "i") (function_of function.IsNull BigInt (value_c ∷ []))
+  pub null_test : setting (codes "i") (null_test_at 104 (name_at 109 (codes "c"))) ≡ set_to (codes "i") (function_of (function.Value of_values.IsNull) BigInt (value_c ∷ []))
   pub null_test_of_null : setting (codes "i") (null_test_at 104 (null_at 109)) ≡ refused_in TypeClash 109
   -- abs(i); as a statement: its value is dropped
-  pub function_as_statement : become (calls 100 (codes "abs") (name_at 104 (codes "i") ∷ []) ∷ []) ≡ only (Evaluate (col 100) (function_of function.IntegerAbsolute BigInt (value_i ∷ [])))
+  pub function_as_statement : become (calls 100 (codes "abs") (name_at 104 (codes "i") ∷ []) ∷ []) ≡ only (Evaluate (col 100) (function_of (function.Value of_values.IntegerAbsolute) BigInt (value_i ∷ [])))
 
 -- calls of methods: what they become, TypeClash at an argument and at the name
 pub record MethodCallExamples : Type 0 where

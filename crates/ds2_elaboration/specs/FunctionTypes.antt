@@ -1,16 +1,20 @@
 -- The rules of functions: what arguments they take, and what they become.
-use Rattle.std.specs.Prelude.{max, length, Bool, true, false, ◌&&◌, ◌||◌, not, if◌then◌else◌, List, [], ◌∷◌, ◌++◌, map, fold, Option, Some, None}
+use Rattle.std.specs.Prelude.{ℕ, nat_eq, max, length, Bool, true, false, ◌&&◌, ◌||◌, not, if◌then◌else◌, List, [], ◌∷◌, ◌++◌, map, fold, Option, Some, None, is_some, unwrap_or}
 use Rattle.std.specs.List.{list_all}
 use Rattle.ds2_base.specs.declared.place.Place.{Place}
 use Rattle.ds2_token.specs.declared.token.Token.{Token}
+use Rattle.ds2_value.specs.ValueFunctions.{type_by, row_of}
 use Rattle.ds2_value.specs.declared.ty.Ty.{Ty}
-use Rattle.ds2_value.specs.declared.ty.Ty.TheVariants.{BigInt, Varchar}
+use Rattle.ds2_value.specs.declared.ty.Ty.TheVariants.{BigInt, Decimal as DecimalOf, Char, Varchar}
+use Rattle.ds2_value.specs.declared.value_function.ResultType.{ResultType}
+use Rattle.ds2_value.specs.declared.value_function.ResultType.TheVariants.{Integer}
+use Rattle.ds2_value.specs.declared.value_function.ValueFunction.{ValueFunction}
+use Rattle.ds2_value.specs.declared.value_function.ValueFunction.TheVariants as of_values
 use Rattle.ds2_meaning.specs.IsTyped.{expression_type, type_scale, type_width, decimal_result}
-use Rattle.ds2_names.specs.Functions.{function_named, takes_so_many}
+use Rattle.ds2_names.specs.Functions.{null_test, function_named, takes_so_many}
+use Rattle.ds2_names.specs.declared.functions.ByType.{ByType}
 use Rattle.ds2_names.specs.declared.functions.FunctionOfMany.{FunctionOfMany}
 use Rattle.ds2_names.specs.declared.functions.FunctionOfMany.TheVariants as many
-use Rattle.ds2_names.specs.declared.functions.FunctionOfOne.{FunctionOfOne}
-use Rattle.ds2_names.specs.declared.functions.FunctionOfOne.TheVariants as one
 use Rattle.ds2_names.specs.declared.functions.FunctionRow.{FunctionRow}
 use Rattle.ds2_names.specs.declared.functions.NamedFunction.{NamedFunction}
 use Rattle.ds2_names.specs.declared.functions.NamedFunction.TheVariants as named
@@ -19,7 +23,7 @@ use Rattle.ds2_names.specs.SourceUnit.{spelled_name}
 use Rattle.ds2_meaning.specs.TypedExpression.{TypedExpression, TypedExpressions, NoExpression, Then, Applied}
 use Rattle.ds2_meaning.specs.declared.expressions.Function.{Function}
 use Rattle.ds2_meaning.specs.declared.expressions.Function.TheVariants as function
-use Rattle.ds2_elaboration.specs.Typings.{TypeRefusals, clash_unless, Typing, Known, NullAt, ElaboratedExpression, form_of_type, form_of_operands, elaborated_nameless, is_numeric_type, is_characters, is_integer_type, null_clash, operand_clash, widened_node, assigned_node}
+use Rattle.ds2_elaboration.specs.Typings.{TypeRefusals, clash_unless, Typing, Known, NullAt, Unknown, ElaboratedExpression, form_of_operands, elaborated_nameless, is_numeric_type, is_characters, is_integer_type, operand_clash, widened_node, assigned_node}
 
 -- an argument, with the place of its first token
 pub record ElaboratedArgument : Type 0 where
@@ -45,27 +49,63 @@ refusals_in xs = from_each (λ (x : ElaboratedArgument). x.value.refusals) xs
 abbrev pub argument_refusals : (Ty → Bool) → Place → ElaboratedArgument → TypeRefusals
 argument_refusals test name x = x.value.refusals ++ operand_clash test name x.value.typing
 
+-- ---- functions of one value
+
+-- what a function is for a value of this type, where it takes one
+abbrev pub function_for : ByType → Ty → Option Function
+function_for f BigInt = f.integer
+function_for f (DecimalOf p s) = f.decimal
+function_for f (Char n) = f.text
+function_for f (Varchar n) = f.text
+
+-- the type of a function's value for a value of this type, which it takes
+abbrev pub type_of_one : Function → Ty → Ty
+type_of_one (function.Value f) ty = unwrap_or (type_by (row_of f).result (ty ∷ [])) BigInt
+type_of_one _ ty = ty
+
+-- a function of a typed value
+abbrev pub one_node : ByType → TypedExpression → TypedExpression
+one_node f a =
+    let ty = expression_type a in
+    let applied = unwrap_or (function_for f ty) function.Unchanged in
+    of_one_node applied a (type_of_one applied ty)
+
+-- a BIGINT, whatever the operands are
+abbrev pub is_integer_result : ResultType → Bool
+is_integer_result Integer = true
+is_integer_result _ = false
+
+-- its value is a BIGINT, where it is there
+abbrev pub is_of_integers : Option Function → Bool
+is_of_integers None = true
+is_of_integers (Some (function.Value f)) = is_integer_result (row_of f).result
+is_of_integers (Some _) = false
+
+-- what is known of a function's type where a rule is broken in it: BIGINT where its value is one of whatever type
+abbrev pub broken_typing : ByType → Typing
+broken_typing f = if is_of_integers f.integer && is_of_integers f.decimal && is_of_integers f.text then Known BigInt else Unknown
+
+-- what is known of its type
+abbrev pub one_typing : ByType → TypeRefusals → TypedExpression → Typing
+one_typing f [] node = Known (expression_type node)
+one_typing f (r ∷ refusals) node = broken_typing f
+
+-- a function of one value: of a type that it takes
+abbrev pub elaborated_of_one : ByType → Place → ElaboratedArgument → ElaboratedExpression
+elaborated_of_one f name x =
+    let refusals = argument_refusals (λ ty. is_some (function_for f ty)) name x in
+    let node = one_node f x.value.node in
+    record { typing = one_typing f refusals node; refusals = refusals; node = node }
+
 -- ---- functions of numbers
-
--- abs(x): the type of x
-abbrev pub elaborated_absolute : Place → ElaboratedArgument → ElaboratedExpression
-elaborated_absolute name x =
-    let ty = expression_type x.value.node in
-    form_of_operands (argument_refusals is_numeric_type name x) (of_one_node (if is_integer_type ty then function.IntegerAbsolute else function.DecimalAbsolute) x.value.node ty)
-
--- floor(x) and ceil(x): a BIGINT as it is, of a DECIMAL a DECIMAL without digits behind the point
-abbrev pub elaborated_whole : Function → Place → ElaboratedArgument → ElaboratedExpression
-elaborated_whole f name x =
-    form_of_operands (argument_refusals is_numeric_type name x)
-    (if is_integer_type (expression_type x.value.node) then of_one_node function.Unchanged x.value.node BigInt else of_one_node f x.value.node (decimal_result 0))
 
 -- mod(a, b) of two typed numbers: of BIGINT values a BIGINT; with a DECIMAL the greater of the two scales
 abbrev pub remainder_node : TypedExpression → TypedExpression → TypedExpression
 remainder_node a b =
     let left = expression_type a in
     let right = expression_type b in
-    if is_integer_type left && is_integer_type right then Applied function.IntegerModulo (nodes_in_order (a ∷ b ∷ [])) BigInt
-    else Applied function.DecimalModulo (nodes_in_order (widened_node a ∷ widened_node b ∷ [])) (decimal_result (max (type_scale left) (type_scale right)))
+    if is_integer_type left && is_integer_type right then Applied (function.Value of_values.IntegerModulo) (nodes_in_order (a ∷ b ∷ [])) BigInt
+    else Applied (function.Value of_values.DecimalModulo) (nodes_in_order (widened_node a ∷ widened_node b ∷ [])) (decimal_result (max (type_scale left) (type_scale right)))
 
 -- mod(a, b)
 abbrev pub elaborated_remainder : Place → ElaboratedArgument → ElaboratedArgument → ElaboratedExpression
@@ -117,36 +157,17 @@ elaborated_extreme f name xs = form_of_operands (from_each (argument_refusals is
 
 -- ---- functions of texts
 
--- length(t): a BIGINT always
-abbrev pub elaborated_length : Place → ElaboratedArgument → ElaboratedExpression
-elaborated_length name x = form_of_type BigInt (argument_refusals is_characters name x) (of_one_node function.Length x.value.node BigInt)
-
--- trim(t)
-abbrev pub elaborated_trim : Place → ElaboratedArgument → ElaboratedExpression
-elaborated_trim name x = form_of_operands (argument_refusals is_characters name x) (of_one_node function.Trim x.value.node (Varchar (type_width (expression_type x.value.node))))
+-- the function that substr is with so many numbers behind its text
+abbrev pub substring_of : ℕ → ValueFunction
+substring_of n = if nat_eq n 1 then of_values.SubstringFrom else of_values.Substring
 
 -- substr(t, i) and substr(t, i, k): a text and then BIGINT values
 abbrev pub elaborated_substring : Place → ElaboratedArgument → List ElaboratedArgument → ElaboratedExpression
 elaborated_substring name x numbers =
     form_of_operands (argument_refusals is_characters name x ++ from_each (argument_refusals is_integer_type name) numbers)
-    (Applied function.Substring (nodes_in_order (x.value.node ∷ map (λ (n : ElaboratedArgument). n.value.node) numbers)) (Varchar (type_width (expression_type x.value.node))))
-
--- ---- null(x)
-
--- null(x): 1 or 0; the constant null itself may not stand there
-abbrev pub elaborated_null_test : Place → ElaboratedArgument → ElaboratedExpression
-elaborated_null_test name x = form_of_type BigInt (x.value.refusals ++ null_clash x.value.typing) (of_one_node function.IsNull x.value.node BigInt)
+    (Applied (function.Value (substring_of (length numbers))) (nodes_in_order (x.value.node ∷ map (λ (n : ElaboratedArgument). n.value.node) numbers)) (Varchar (type_width (expression_type x.value.node))))
 
 -- ---- functions by their names
-
--- a function of one value
-abbrev pub form_of_one : FunctionOfOne → Place → ElaboratedArgument → ElaboratedExpression
-form_of_one one.Absolute name x = elaborated_absolute name x
-form_of_one one.Ceiling name x = elaborated_whole function.Ceiling name x
-form_of_one one.Floor name x = elaborated_whole function.Floor name x
-form_of_one one.Length name x = elaborated_length name x
-form_of_one one.NullTest name x = elaborated_null_test name x
-form_of_one one.Trim name x = elaborated_trim name x
 
 -- a function of several values in one type
 abbrev pub form_of_many : FunctionOfMany → Place → List ElaboratedArgument → ElaboratedExpression
@@ -156,7 +177,7 @@ form_of_many many.Least name xs = elaborated_extreme function.Least name xs
 
 -- a function of as many arguments as it takes
 abbrev pub form_of_function : NamedFunction → Place → List ElaboratedArgument → ElaboratedExpression
-form_of_function (named.OfOne f) name (x ∷ []) = form_of_one f name x
+form_of_function (named.OfOne f) name (x ∷ []) = elaborated_of_one f name x
 form_of_function (named.OfMany f) name xs = form_of_many f name xs
 form_of_function named.Remainder name (x ∷ y ∷ []) = elaborated_remainder name x y
 form_of_function named.Substring name (x ∷ numbers) = elaborated_substring name x numbers
@@ -173,4 +194,4 @@ elaborated_function t xs = form_of_row (function_named (spelled_name t)) t.place
 
 -- the word null, as a function
 abbrev pub elaborated_null_call : Place → List ElaboratedArgument → ElaboratedExpression
-elaborated_null_call word xs = form_of_function (named.OfOne one.NullTest) word xs
+elaborated_null_call word xs = form_of_function (named.OfOne null_test) word xs

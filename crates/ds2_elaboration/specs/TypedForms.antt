@@ -1,5 +1,6 @@
 -- Forms whose parts become typed expressions become typed expressions themselves, where they break no rule.
-use Rattle.std.specs.Prelude.{◌≡◌, true, false, []}
+use Rattle.std.specs.Prelude.{◌≡◌, true, false, List, []}
+use Rattle.std.specs.List.{AllByRecursion}
 use Rattle.ds2_base.specs.declared.place.Place.{Place}
 use Rattle.ds2_token.specs.declared.token.Token.{Token}
 use Rattle.ds2_tree.specs.declared.expressions.ChainKind.{ChainKind}
@@ -9,9 +10,8 @@ use Rattle.ds2_value.specs.declared.ty.Ty.TheVariants.{BigInt}
 use Rattle.ds2_value.specs.declared.value.Value.TheVariants.{Null}
 use Rattle.ds2_meaning.specs.IsTyped.{NamesInScope, expression_type, IsTypedExpression, IsLeftOperand, IsOperation}
 use Rattle.ds2_meaning.specs.TypedExpression.{TypedExpression, Constant}
-use Rattle.ds2_meaning.specs.declared.expressions.Function.TheVariants.{Floor, Ceiling}
 use Rattle.ds2_elaboration.specs.ExpressionTypes.{is_truth_chain, link_refusals}
-use Rattle.ds2_elaboration.specs.FunctionTypes.{ElaboratedArgument, elaborated_absolute, elaborated_whole, elaborated_remainder, elaborated_length, elaborated_trim}
+use Rattle.ds2_elaboration.specs.FunctionTypes.{ElaboratedArgument, elaborated_function}
 use Rattle.ds2_elaboration.specs.OperatorTypes.{ElaboratedLink, elaborated_link, elaborated_comparison, elaborated_sign, elaborated_not}
 use Rattle.ds2_elaboration.specs.Typings.{Typing, Known, NullAt, Unknown, ElaboratedExpression, assigned_refusals, assigned_node}
 
@@ -46,8 +46,7 @@ pub record LinkFits (names : NamesInScope) (ty : Ty) (link : ElaboratedLink) : T
   pub left : (l : Ty) × IsLeftOperand link.widens ty l × IsOperation link.operation l (expression_type link.operand) link.ty
   pub bounds : in_bounds link.ty ≡ true
 
--- assigned, passed and returned values, operators, comparisons, and functions of numbers and texts: where nothing in them is refused, what
--- they become is typed
+-- assigned, passed and returned values, operators, comparisons, and functions by their names: where nothing in them is refused, what they become is typed
 pub record FormsAreTyped (names : NamesInScope) : Type 0 where
   pub assigned : (ty : Ty) (place : Place) (x : ElaboratedExpression) → IsSoundlyElaborated names x → in_bounds ty ≡ true → assigned_refusals ty place x ≡ []
       → IsInType names ty (assigned_node ty x)
@@ -57,12 +56,7 @@ pub record FormsAreTyped (names : NamesInScope) : Type 0 where
       → IsLeft left ty → IsSoundlyElaborated names x → link_refusals kind operator left x ≡ [] → LinkFits names ty (elaborated_link kind operator ty x.node)
   pub comparison : (operator : Token) (a b : ElaboratedExpression) → IsSoundlyElaborated names a → IsSoundlyElaborated names b
       → IsSoundlyElaborated names (elaborated_comparison operator a b)
-  pub absolute : (name : Place) (x : ElaboratedArgument) → IsSoundArgument names x → IsSoundlyElaborated names (elaborated_absolute name x)
-  pub floor : (name : Place) (x : ElaboratedArgument) → IsSoundArgument names x → IsSoundlyElaborated names (elaborated_whole Floor name x)
-  pub ceiling : (name : Place) (x : ElaboratedArgument) → IsSoundArgument names x → IsSoundlyElaborated names (elaborated_whole Ceiling name x)
-  pub remainder : (name : Place) (a b : ElaboratedArgument) → IsSoundArgument names a → IsSoundArgument names b → IsSoundlyElaborated names (elaborated_remainder name a b)
-  pub length : (name : Place) (x : ElaboratedArgument) → IsSoundArgument names x → IsSoundlyElaborated names (elaborated_length name x)
-  pub trim : (name : Place) (x : ElaboratedArgument) → IsSoundArgument names x → IsSoundlyElaborated names (elaborated_trim name x)
+  pub functions : (t : Token) (xs : List ElaboratedArgument) → AllByRecursion (IsSoundArgument names) xs → IsSoundlyElaborated names (elaborated_function t xs)
 
 -- in every scope
 abbrev pub EveryFormIsTyped : Type 0

@@ -155,18 +155,6 @@ pub fn comparison_instr(ty: Ty, comparison: Comparison) -> Instr
     }
 }
 
-// A part of a text.
-#[tactic(auto, using(crate::proofs::Appended::one_run))]
-fn emit_part(code: &mut List<Instr>, n: usize) -> Result<(), OutOfMemory>
-    ensures { OnOk result (code.new ≡ with_run (function_code Function.Substring n) code.old) }
-{
-    if n == 2 {
-        emit(code, Instr::SubFrom)
-    } else {
-        emit(code, Instr::Substr)
-    }
-}
-
 /// A function of so many arguments.
 #[tactic(auto, using(crate::proofs::Appended::no_run, crate::proofs::Appended::one_run))]
 pub fn emit_function(
@@ -177,19 +165,10 @@ pub fn emit_function(
     ensures { OnOk result (code.new ≡ with_run (function_code function n) code.old) }
 {
     match function {
-        Function::IsNull => emit(code, Instr::IsNull),
+        Function::Value(function) => emit(code, Instr::Apply(function)),
         Function::Coalesce => emit(code, Instr::Choose(operands(n)?)),
         Function::Least => emit(code, Instr::Least(operands(n)?)),
         Function::Greatest => emit(code, Instr::Greatest(operands(n)?)),
-        Function::IntegerAbsolute => emit(code, Instr::IAbs),
-        Function::DecimalAbsolute => emit(code, Instr::DAbs),
-        Function::IntegerModulo => emit(code, Instr::IMod),
-        Function::DecimalModulo => emit(code, Instr::DMod),
-        Function::Floor => emit(code, Instr::DFloor),
-        Function::Ceiling => emit(code, Instr::DCeil),
         Function::Unchanged => Ok(()),
-        Function::Length => emit(code, Instr::Len),
-        Function::Substring => emit_part(code, n),
-        Function::Trim => emit(code, Instr::Trim),
     }
 }

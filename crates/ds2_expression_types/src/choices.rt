@@ -1,7 +1,7 @@
 //! Functions of several values: in one type, or a text and numbers.
 ghost use Rattle.std.specs.Prelude.{◌≡◌, ◌||◌, ◌∷◌, [], List as Items, IfOk, Ok};
 ghost use Rattle.std.specs.List.{list_all};
-ghost use Rattle.ds2_elaboration.specs.FunctionTypes.{ElaboratedArgument, nodes_in_order, elaborated_coalesce, elaborated_extreme, elaborated_substring};
+ghost use Rattle.ds2_elaboration.specs.FunctionTypes.{ElaboratedArgument, nodes_in_order, elaborated_coalesce, elaborated_extreme, elaborated_substring, substring_of};
 ghost use Rattle.ds2_elaboration.specs.Typings.{TypeRefusals, form_of_operands, is_numeric_type, is_characters};
 ghost use Rattle.ds2_meaning.specs.IsTyped.{type_width};
 ghost use Rattle.ds2_meaning.specs.TypedExpression as tree;
@@ -18,7 +18,7 @@ use ds2_types::judgement::{Judgement, Outcome, Typing};
 use ds2_types::nodes::applied;
 use ds2_types::refusals::{first_of_both, ruled};
 use ds2_types::rules::{ArgumentRule, OperandTest, clash_unless, operand_clash};
-use ds2_value::Ty;
+use ds2_value::{Ty, ValueFunction};
 use std::alloc::Global;
 
 /// What stands of values once a further rule was looked at.
@@ -124,6 +124,17 @@ fn one_value(alloc: Global, operand: Outcome) -> Result<TypedValues, OutOfMemory
     }
 }
 
+/// The function that `substr` is with so many numbers behind its text.
+fn substring_of(numbers: usize) -> ValueFunction
+    ensures { result ≡ substring_of numbers }
+{
+    if numbers == 1 {
+        ValueFunction::SubstringFrom
+    } else {
+        ValueFunction::Substring
+    }
+}
+
 /// `substr(t, i)` and `substr(t, i, k)`: a text and BIGINT values; a VARCHAR of as many characters as the text.
 pub fn substring(
     alloc: Global,
@@ -140,7 +151,8 @@ pub fn substring(
         test: OperandTest::Integer,
         name,
     });
+    let function = substring_of(numbers.len());
     let first = one_value(alloc, text)?;
     let all = values(alloc, None, rule, first, numbers)?;
-    of_values(alloc, Function::Substring, Ty::Varchar { n }, all)
+    of_values(alloc, Function::Value(function), Ty::Varchar { n }, all)
 }

@@ -8,11 +8,11 @@ use Rattle.ds2_token.specs.declared.token.Token.{Token}
 use Rattle.ds2_names.specs.Functions.{function_named, takes_so_many}
 use Rattle.ds2_names.specs.SourceUnit.{spelled_name}
 use Rattle.ds2_names.specs.declared.functions.FunctionOfMany.{FunctionOfMany}
-use Rattle.ds2_names.specs.declared.functions.FunctionOfOne.{FunctionOfOne}
+use Rattle.ds2_names.specs.declared.functions.ByType.{ByType}
 use Rattle.ds2_names.specs.declared.functions.FunctionRow.{FunctionRow}
 use Rattle.ds2_names.specs.declared.functions.NamedFunction.{NamedFunction}
 use Rattle.ds2_names.specs.declared.functions.NamedFunction.TheVariants as named
-use Rattle.ds2_elaboration.specs.FunctionTypes.{ElaboratedArgument, elaborated_remainder, elaborated_substring, form_of_one, form_of_many, form_of_function, form_of_row, elaborated_function}
+use Rattle.ds2_elaboration.specs.FunctionTypes.{ElaboratedArgument, elaborated_remainder, elaborated_substring, elaborated_of_one, form_of_many, form_of_function, form_of_row, elaborated_function}
 use Rattle.ds2_elaboration.specs.Typings.{ElaboratedExpression, elaborated_nameless}
 use Rattle.ds2_types.specs.Judgements.{IsJudged, Judges}
 use Rattle.ds2_types.specs.declared.judgement.Judgement.{Judgement}
@@ -74,11 +74,7 @@ beyond_bound false form other j e h = h
 
 -- ---- one value
 
-pub one_told : (name : Place) (x : ElaboratedArgument) (f kind : FunctionOfOne) (result : Result Judgement OutOfMemory) → f ≡ kind → Judges (form_of_one kind name x) result
-    → Judges (form_of_one f name x) result
-one_told name x f kind result e h = subst (λ (g : FunctionOfOne). Judges (form_of_one g name x) result) (sym e) h
-
-module _ (f : FunctionOfOne) (name : Place) where
+module _ (f : ByType) (name : Place) where
   pub not_single : (xs : List ElaboratedArgument) (js : List Judgement) (j : Judgement) → one_of js ≡ None → AreJudged xs js → IsJudged (elaborated_nameless name) j
       → IsJudged (form_of_function (named.OfOne f) name xs) j
   not_single [] js j e h k = k
@@ -88,7 +84,7 @@ module _ (f : FunctionOfOne) (name : Place) where
   not_single (x ∷ y ∷ xs) js j e h k = k
 
   pub of_single : (xs : List ElaboratedArgument) (js : List Judgement) (j : Judgement) (result : Result Judgement OutOfMemory) → one_of js ≡ Some j → AreJudged xs js
-      → ((x : ElaboratedArgument) → IsJudged x.value j → Judges (form_of_one f name x) result) → Judges (form_of_function (named.OfOne f) name xs) result
+      → ((x : ElaboratedArgument) → IsJudged x.value j → Judges (elaborated_of_one f name x) result) → Judges (form_of_function (named.OfOne f) name xs) result
   of_single xs [] j result e h k = absurd (some_not_none j e)
   of_single [] (a ∷ []) j result e h k = absurd h
   of_single (x ∷ []) (a ∷ []) j result e h k = k x (subst (λ (b : Judgement). IsJudged x.value b) (inside a j e) h.0)

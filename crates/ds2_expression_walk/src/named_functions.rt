@@ -1,54 +1,35 @@
 //! Functions by their names.
 ghost use Rattle.std.specs.Prelude.{List as Items, Some};
-ghost use Rattle.ds2_elaboration.specs.FunctionTypes.{ElaboratedArgument, form_of_one, form_of_many, form_of_function, form_of_row, elaborated_function, elaborated_null_call};
+ghost use Rattle.ds2_elaboration.specs.FunctionTypes.{ElaboratedArgument, form_of_many, form_of_function, form_of_row, elaborated_function, elaborated_null_call};
 ghost use Rattle.ds2_expression_types.specs.Arguments.{AreJudged};
 ghost use Rattle.ds2_names.specs.declared.functions.NamedFunction.TheVariants as named;
-ghost use Rattle.ds2_types.specs.Judgements.{IsJudged, Judges};
+ghost use Rattle.ds2_types.specs.Judgements.{Judges};
 
 use crate::argument_counts::{headed, single, two};
 use ds2_base::{List, OutOfMemory, Place};
 use ds2_expression_types::choices::{coalesce, extreme, substring};
 use ds2_meaning::Function;
 use ds2_names::{
-    FunctionOfMany, FunctionOfOne, FunctionRow, NamedFunction, function_named, takes_so_many,
+    ByType, FunctionOfMany, FunctionRow, NamedFunction, function_named, null_test, takes_so_many,
 };
 use ds2_reference_types::names::{nameless, spelled_name};
 use ds2_token::Token;
-use ds2_types::functions::{absolute, length, null_test, remainder, trim, whole};
+use ds2_types::functions::{of_one, remainder};
 use ds2_types::judgement::Judgement;
 use std::alloc::Global;
 
-/// A function of one value.
-fn of_value(
-    alloc: Global,
-    function: FunctionOfOne,
-    name: Place,
-    x: Judgement,
-) -> Result<Judgement, OutOfMemory>
-    ensures { (e : ElaboratedArgument) → IsJudged e.value x → Judges (form_of_one function name e) result }
-{
-    match function {
-        FunctionOfOne::Absolute => absolute(alloc, name, x),
-        FunctionOfOne::Ceiling => whole(alloc, Function::Ceiling, name, x),
-        FunctionOfOne::Floor => whole(alloc, Function::Floor, name, x),
-        FunctionOfOne::Length => length(alloc, name, x),
-        FunctionOfOne::NullTest => null_test(alloc, name, x),
-        FunctionOfOne::Trim => trim(alloc, name, x),
-    }
-}
-
 /// A function of one value, whose argument is alone.
-fn of_one(
+fn of_single(
     alloc: Global,
-    function: FunctionOfOne,
+    by_type: ByType,
     name: Place,
     arguments: List<Judgement>,
 ) -> Result<Judgement, OutOfMemory>
-    ensures { (xs : Items ElaboratedArgument) → AreJudged xs arguments → Judges (form_of_function (named.OfOne function) name xs) result }
+    ensures { (xs : Items ElaboratedArgument) → AreJudged xs arguments → Judges (form_of_function (named.OfOne by_type) name xs) result }
 {
     match single(arguments) {
         None => Ok(nameless(name)),
-        Some(x) => of_value(alloc, function, name, x),
+        Some(x) => of_one(alloc, by_type, name, x),
     }
 }
 
@@ -106,7 +87,7 @@ fn form(
     ensures { (xs : Items ElaboratedArgument) → AreJudged xs arguments → Judges (form_of_function function name xs) result }
 {
     match function {
-        NamedFunction::OfOne(one) => of_one(alloc, one, name, arguments),
+        NamedFunction::OfOne(by_type) => of_single(alloc, by_type, name, arguments),
         NamedFunction::OfMany(many) => of_many(alloc, many, name, arguments),
         NamedFunction::Remainder => remainder_of(alloc, name, arguments),
         NamedFunction::Substring => substring_of(alloc, name, arguments),
@@ -152,5 +133,5 @@ pub fn null_call(
 ) -> Result<Judgement, OutOfMemory>
     ensures { (xs : Items ElaboratedArgument) → AreJudged xs arguments → Judges (elaborated_null_call word xs) result }
 {
-    of_one(alloc, FunctionOfOne::NullTest, word, arguments)
+    of_single(alloc, null_test(), word, arguments)
 }

@@ -23,17 +23,13 @@ operation_result (Pure n f) operands = Ok (f operands)
 operation_result (Partial n f) operands = f operands
 operation_result _ operands = Ok Null
 
--- an operation that goes by the list of its operands: a function on texts or on null, a choice, the text in a line
+-- an operation that goes by the list of its operands: a function of values, a choice, texts one behind the other, the text in a line
 abbrev pub goes_by_list : Instr → Bool
-goes_by_list instr.IsNull = true
+goes_by_list (instr.Apply f) = true
 goes_by_list (instr.Choose n) = true
 goes_by_list (instr.Least n) = true
 goes_by_list (instr.Greatest n) = true
 goes_by_list instr.Cat = true
-goes_by_list instr.Len = true
-goes_by_list instr.Substr = true
-goes_by_list instr.SubFrom = true
-goes_by_list instr.Trim = true
 goes_by_list instr.Show = true
 goes_by_list _ = false
 

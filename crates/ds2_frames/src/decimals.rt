@@ -26,36 +26,6 @@ pub(crate) fn negated(v: &Value) -> Value
     }
 }
 
-/// A decimal without its sign.
-pub(crate) fn without_sign(v: &Value) -> Value
-    ensures { result ≡ of_decimal decimal.abs v.now }
-{
-    match v {
-        Value::Dec(d) => Value::Dec(d.abs()),
-        Value::Null | Value::Int(_) | Value::Txt(_) => Value::Null,
-    }
-}
-
-/// A decimal rounded down.
-pub(crate) fn floored(v: &Value) -> Value
-    ensures { result ≡ of_decimal decimal.floor v.now }
-{
-    match v {
-        Value::Dec(d) => Value::Dec(d.floor()),
-        Value::Null | Value::Int(_) | Value::Txt(_) => Value::Null,
-    }
-}
-
-/// A decimal rounded up.
-pub(crate) fn raised(v: &Value) -> Value
-    ensures { result ≡ of_decimal decimal.ceil v.now }
-{
-    match v {
-        Value::Dec(d) => Value::Dec(d.ceil()),
-        Value::Null | Value::Int(_) | Value::Txt(_) => Value::Null,
-    }
-}
-
 /// The sum of two decimals.
 pub(crate) fn decimal_sum(a: &Value, b: &Value) -> Result<Value, Fault>
     ensures { result ≡ of_decimals decimal.add a.now b.now }
@@ -103,19 +73,6 @@ pub(crate) fn quotient(a: &Value, b: &Value) -> Result<Value, Fault>
     match a {
         Value::Dec(x) => match b {
             Value::Dec(y) => decimal_value(x.div(*y)),
-            Value::Null | Value::Int(_) | Value::Txt(_) => Ok(Value::Null),
-        },
-        Value::Null | Value::Int(_) | Value::Txt(_) => Ok(Value::Null),
-    }
-}
-
-/// The remainder of two decimals.
-pub(crate) fn decimal_remainder(a: &Value, b: &Value) -> Result<Value, Fault>
-    ensures { result ≡ of_decimals decimal.modulo a.now b.now }
-{
-    match a {
-        Value::Dec(x) => match b {
-            Value::Dec(y) => decimal_value(x.modulo(*y)),
             Value::Null | Value::Int(_) | Value::Txt(_) => Ok(Value::Null),
         },
         Value::Null | Value::Int(_) | Value::Txt(_) => Ok(Value::Null),

@@ -10,15 +10,14 @@ ghost use Rattle.ds2_frames.specs.OperationKinds.{goes_by_list, has_scales_for, 
 
 use crate::choices::{first, greatest, least};
 use crate::decimals::{
-    decimal_difference, decimal_product, decimal_remainder, decimal_sum, floored, negated,
-    quotient, raised, widened, without_sign,
+    decimal_difference, decimal_product, decimal_sum, negated, quotient, widened,
 };
 use crate::lines::shown;
 use ds2_base::{Stop, refusing};
 use ds2_code::Instr;
 use ds2_value::{
-    Fault, Truth, Ty, Value, absolute, and, assign, compared, concat, difference, is_null, length,
-    negative, not, or, product, remainder, substr, sum, trim,
+    Fault, Truth, Ty, Value, and, assign, compared, concat, difference, negative, not, or, product,
+    sum,
 };
 use std::alloc::Global;
 
@@ -35,19 +34,12 @@ pub fn operands_of(instr: Instr) -> usize
         Instr::Pad(_) => 1,
         Instr::Cut(_) => 1,
         Instr::INeg => 1,
-        Instr::IAbs => 1,
         Instr::DNeg => 1,
-        Instr::DAbs => 1,
-        Instr::DFloor => 1,
-        Instr::DCeil => 1,
         Instr::Not => 1,
         Instr::ITruth => 1,
         Instr::DTruth => 1,
-        Instr::IsNull => 1,
-        Instr::Len => 1,
-        Instr::Trim => 1,
         Instr::Show => 1,
-        Instr::Substr => 3,
+        Instr::Apply(function) => function.operands().len(),
         Instr::Choose(n) => n as usize,
         Instr::Least(n) => n as usize,
         Instr::Greatest(n) => n as usize,
@@ -64,15 +56,11 @@ pub fn computed(alloc: Global, instr: Instr, operands: &[Value]) -> Result<Value
     ensures { Says result (operation_result (kind_of instr) operands.now) }
 {
     match instr {
-        Instr::IsNull => Ok(is_null(operands)),
+        Instr::Apply(function) => function.value(alloc, operands),
         Instr::Choose(_) => Ok(first(alloc, operands)?),
         Instr::Least(_) => Ok(least(alloc, operands)?),
         Instr::Greatest(_) => Ok(greatest(alloc, operands)?),
         Instr::Cat => concat(alloc, operands),
-        Instr::Len => Ok(length(operands)),
-        Instr::Substr => substr(alloc, operands),
-        Instr::SubFrom => substr(alloc, operands),
-        Instr::Trim => trim(alloc, operands),
         Instr::Show => shown(alloc, operands),
         _ => computed_from_few(alloc, instr, operands),
     }
@@ -108,11 +96,7 @@ fn computed_from_one(alloc: Global, instr: Instr, a: &Value) -> Result<Value, St
         Instr::Pad(n) => padded(alloc, a, n),
         Instr::Cut(n) => cut(alloc, a, n),
         Instr::INeg => refusing(negative(a)),
-        Instr::IAbs => refusing(absolute(a)),
         Instr::DNeg => Ok(negated(a)),
-        Instr::DAbs => Ok(without_sign(a)),
-        Instr::DFloor => Ok(floored(a)),
-        Instr::DCeil => Ok(raised(a)),
         Instr::Not => Ok(truth_value(not(a.truth()))),
         Instr::ITruth => Ok(truth_value(a.truth())),
         Instr::DTruth => Ok(truth_value(a.truth())),
@@ -147,7 +131,6 @@ fn computed_from_two(instr: Instr, a: &Value, b: &Value) -> Result<Value, Fault>
         Instr::IAdd => sum(a, b),
         Instr::ISub => difference(a, b),
         Instr::IMul => product(a, b),
-        Instr::IMod => remainder(a, b),
         Instr::ICmp(comparison) => Ok(compared(comparison, a, b)),
         Instr::DCmp(comparison) => Ok(compared(comparison, a, b)),
         Instr::TCmp(comparison) => Ok(compared(comparison, a, b)),
@@ -157,7 +140,6 @@ fn computed_from_two(instr: Instr, a: &Value, b: &Value) -> Result<Value, Fault>
         Instr::DSub => decimal_difference(a, b),
         Instr::DMul => decimal_product(a, b),
         Instr::DDiv => quotient(a, b),
-        Instr::DMod => decimal_remainder(a, b),
         _ => Ok(Value::Null),
     }
 }

@@ -1,11 +1,10 @@
 -- Functions of several arguments: their values come onto the operands in order, and the function takes them all off.
-use Rattle.std.proofs.Common.{◌≡◌, ℕ, zero, suc, ◌+◌, List, [], ◌∷◌, ◌++◌, length, Option, Some, Result, inl, inr, refl, ap, ◌∙◌, subst, arith, append-nil}
-use Rattle.std.specs.Prelude.{◌⊎◌, fold, slice_get}
-use Rattle.ds2_decimal.specs.Arithmetic as decimal
-use Rattle.ds2_value.specs.Functions.{is_null_of, length_of, trim_of, substr_of, first_of, lesser_of, greater_of}
-use Rattle.ds2_value.specs.Operations.{of_decimals, of_decimal, of_one, of_one_or_fault, of_two}
+use Rattle.std.proofs.Common.{◌≡◌, ℕ, zero, suc, ◌+◌, List, [], ◌∷◌, ◌++◌, length, Option, Some, Result, refl, ap, ◌∙◌, arith, append-nil}
+use Rattle.std.specs.Prelude.{fold, slice_get}
+use Rattle.ds2_value.specs.Functions.{first_of, lesser_of, greater_of}
+use Rattle.ds2_value.specs.Operations.{of_one}
 use Rattle.ds2_value.specs.Row.{Row}
-use Rattle.ds2_value.specs.Value.{absolute_of, remainder_of}
+use Rattle.ds2_value.specs.ValueFunctions.{row_of, function_value}
 use Rattle.ds2_value.specs.declared.fault.Fault.{Fault}
 use Rattle.ds2_value.specs.declared.value.Value.{Value}
 use Rattle.ds2_value.specs.declared.value.Value.TheVariants.{Null}
@@ -24,7 +23,7 @@ use Rattle.ds2_gen.specs.CallPieces.{stacked}
 use Rattle.ds2_gen.specs.CodeCells.{Cells, desk_of, Placement, HoldState}
 use Rattle.ds2_gen.specs.CodePieces.{StandsAt, EndsWith, ComesTo, EvaluatesTo}
 use Rattle.ds2_gen.specs.CoveredForms.{TakesCount}
-use Rattle.ds2_gen.specs.ExpressionCode.{part_instr, function_code}
+use Rattle.ds2_gen.specs.ExpressionCode.{function_code}
 use Rattle.ds2_gen.proofs.PieceLemmas.{at_most, behind, comes_on, comes_by, comes_at_once, evaluates_on, attempt_evaluates}
 use Rattle.ds2_gen.proofs.StepLemmas.{from}
 
@@ -38,22 +37,6 @@ pub taken_all : (vs : List Value) (below : Row) (n : ℕ) → length vs ≡ n �
 taken_all vs below n e =
     let named : List Value → Option Taken = λ values. Some (record { values = values; below = below }) in
     taken_some vs [] below zero n (omega arith) ∙ ap named (append-nil vs)
-
-one_is : (f : Value → Value) (vs : List Value) → of_one f vs ≡ of_one f vs
-one_is f [] = refl
-one_is f (a ∷ []) = refl
-one_is f (a ∷ b ∷ vs) = refl
-
-one_or_fault_is : (f : Value → Result Value Fault) (vs : List Value) → of_one_or_fault f vs ≡ of_one_or_fault f vs
-one_or_fault_is f [] = refl
-one_or_fault_is f (a ∷ []) = refl
-one_or_fault_is f (a ∷ b ∷ vs) = refl
-
-two_is : (f : Value → Value → Result Value Fault) (vs : List Value) → of_two f vs ≡ of_two f vs
-two_is f [] = refl
-two_is f (a ∷ []) = refl
-two_is f (a ∷ b ∷ []) = refl
-two_is f (a ∷ b ∷ c ∷ vs) = refl
 
 module _ (code : ProgramParts) (p : Placement) (kept : ℕ) where
   -- the code of expressions in order: so many values come above the operands, or the first fault ends the run
@@ -95,41 +78,17 @@ module _ (code : ProgramParts) (p : Placement) (kept : ℕ) where
         attempt_evaluates code p kept i (f vs) at to (stacked vs below) below cells frames w here e
         (ap (λ k. perform code k m) is ∙ ap (λ t. on_result (with_result_for f t (desk_of (stacked vs below) cells)) m) (taken_all vs below n count)) holds
 
-    of_one_runs : (i : Instr) (f : Value → Value) → kind_of i ≡ Pure 1 (of_one f) → (at to : ℕ) (vs : List Value) (below : Row) (cells : Cells) (w : RunState) → length vs ≡ 1
-        → at + 1 ≡ to → slice_get code.instrs at ≡ Some i → HoldState p w cells → ComesTo code p kept (from frames at (stacked vs below) cells w) to (of_one f vs ∷ below) w
-    of_one_runs i f is at to vs below cells w count e here holds =
-        subst (λ v. ComesTo code p kept (from frames at (stacked vs below) cells w) to (v ∷ below) w) (one_is f vs) (pure_many i 1 (of_one f) is at to vs below cells w count e here holds)
-
     unchanged_runs : (at to : ℕ) (vs : List Value) (below : Row) (cells : Cells) (w : RunState) → length vs ≡ 1 → at ≡ to → HoldState p w cells
         → ComesTo code p kept (from frames at (stacked vs below) cells w) to (of_one (λ v. v) vs ∷ below) w
     unchanged_runs at to [] below cells w count e holds = absurd (omega arith)
     unchanged_runs at to (a ∷ []) below cells w count e holds = comes_at_once code p kept at to (a ∷ below) cells frames w e holds
     unchanged_runs at to (a ∷ b ∷ vs) below cells w count e holds = absurd (omega arith)
 
-    part_runs : (n at to : ℕ) (vs : List Value) (below : Row) (cells : Cells) (w : RunState) → (n ≡ 2) ⊎ (n ≡ 3) → length vs ≡ n → at + 1 ≡ to
-        → slice_get code.instrs at ≡ Some (part_instr n) → HoldState p w cells → EvaluatesTo code p kept (from frames at (stacked vs below) cells w) to below (attempt (substr_of vs) w)
-    part_runs n at to vs below cells w (inl two) count e here holds = partial_many instr.SubFrom 2 substr_of refl at to vs below cells w (count ∙ two) e (here ∙ ap (λ k. Some (part_instr k)) two) holds
-    part_runs n at to vs below cells w (inr three) count e here holds = partial_many instr.Substr 3 substr_of refl at to vs below cells w (count ∙ three) e (here ∙ ap (λ k. Some (part_instr k)) three) holds
-
     pub function_runs : (f : Function) (n at to : ℕ) (vs : List Value) (below : Row) (cells : Cells) (w : RunState) → length vs ≡ n → TakesCount f n → at + length (function_code f n) ≡ to
         → StandsAt code.instrs at (function_code f n) → HoldState p w cells → EvaluatesTo code p kept (from frames at (stacked vs below) cells w) to below (applied f vs w)
-    function_runs function.IsNull n at to vs below cells w count takes e has holds = pure_many instr.IsNull 1 is_null_of refl at to vs below cells w (count ∙ takes) e has.0 holds
+    function_runs (function.Value f) n at to vs below cells w count takes e has holds =
+        partial_many (instr.Apply f) (length (row_of f).operands) (function_value f) refl at to vs below cells w (count ∙ takes) e has.0 holds
     function_runs function.Coalesce n at to vs below cells w count takes e has holds = pure_many (instr.Choose n) n (fold first_of Null) refl at to vs below cells w count e has.0 holds
     function_runs function.Least n at to vs below cells w count takes e has holds = pure_many (instr.Least n) n (fold lesser_of Null) refl at to vs below cells w count e has.0 holds
     function_runs function.Greatest n at to vs below cells w count takes e has holds = pure_many (instr.Greatest n) n (fold greater_of Null) refl at to vs below cells w count e has.0 holds
-    function_runs function.IntegerAbsolute n at to vs below cells w count takes e has holds =
-        subst (λ r. EvaluatesTo code p kept (from frames at (stacked vs below) cells w) to below (attempt r w)) (one_or_fault_is absolute_of vs)
-        (partial_many instr.IAbs 1 (of_one_or_fault absolute_of) refl at to vs below cells w (count ∙ takes) e has.0 holds)
-    function_runs function.DecimalAbsolute n at to vs below cells w count takes e has holds = of_one_runs instr.DAbs (of_decimal decimal.abs) refl at to vs below cells w (count ∙ takes) e has.0 holds
-    function_runs function.IntegerModulo n at to vs below cells w count takes e has holds =
-        subst (λ r. EvaluatesTo code p kept (from frames at (stacked vs below) cells w) to below (attempt r w)) (two_is remainder_of vs)
-        (partial_many instr.IMod 2 (of_two remainder_of) refl at to vs below cells w (count ∙ takes) e has.0 holds)
-    function_runs function.DecimalModulo n at to vs below cells w count takes e has holds =
-        subst (λ r. EvaluatesTo code p kept (from frames at (stacked vs below) cells w) to below (attempt r w)) (two_is (of_decimals decimal.modulo) vs)
-        (partial_many instr.DMod 2 (of_two (of_decimals decimal.modulo)) refl at to vs below cells w (count ∙ takes) e has.0 holds)
-    function_runs function.Floor n at to vs below cells w count takes e has holds = of_one_runs instr.DFloor (of_decimal decimal.floor) refl at to vs below cells w (count ∙ takes) e has.0 holds
-    function_runs function.Ceiling n at to vs below cells w count takes e has holds = of_one_runs instr.DCeil (of_decimal decimal.ceil) refl at to vs below cells w (count ∙ takes) e has.0 holds
     function_runs function.Unchanged n at to vs below cells w count takes e has holds = unchanged_runs at to vs below cells w (count ∙ takes) (omega arith) holds
-    function_runs function.Length n at to vs below cells w count takes e has holds = pure_many instr.Len 1 length_of refl at to vs below cells w (count ∙ takes) e has.0 holds
-    function_runs function.Substring n at to vs below cells w count takes e has holds = part_runs n at to vs below cells w takes count e has.0 holds
-    function_runs function.Trim n at to vs below cells w count takes e has holds = pure_many instr.Trim 1 trim_of refl at to vs below cells w (count ∙ takes) e has.0 holds

@@ -1,6 +1,5 @@
 -- The code of expressions has no jump.
 use Rattle.std.proofs.Common.{◌≡◌, ℕ, Bool, true, false, List, [], ◌∷◌, ◌++◌, Option, Some, None, refl, if◌then◌else◌}
-use Rattle.std.specs.Prelude.{nat_eq}
 use Rattle.ds2_value.specs.declared.hash_function.HashFunction.{HashFunction}
 use Rattle.ds2_value.specs.declared.hash_function.IteratorFunction.{IteratorFunction}
 use Rattle.ds2_value.specs.declared.ty.Ty.{Ty}
@@ -99,10 +98,6 @@ operation_plain operation.Concatenate = refl
 operation_plain operation.And = refl
 operation_plain operation.Or = refl
 
-part_by : (b : Bool) → jump_target (kind_of (if b then instr.SubFrom else instr.Substr)) ≡ None
-part_by true = refl
-part_by false = refl
-
 -- ---- short runs
 
 conversion_plain : (ty : Ty) → IsPlain (conversion_code ty)
@@ -136,20 +131,11 @@ left_operand_plain : (b : Bool) (o : Operation) (ty : Ty) → IsPlain (left_oper
 left_operand_plain b o ty = plain_append (widening_code b) (operand_code o (widened_type b ty)) (widening_plain b) (operand_plain o (widened_type b ty))
 
 function_plain : (f : Function) (n : ℕ) → IsPlain (function_code f n)
-function_plain function.IsNull n = (refl, tt)
+function_plain (function.Value f) n = (refl, tt)
 function_plain function.Coalesce n = (refl, tt)
 function_plain function.Least n = (refl, tt)
 function_plain function.Greatest n = (refl, tt)
-function_plain function.IntegerAbsolute n = (refl, tt)
-function_plain function.DecimalAbsolute n = (refl, tt)
-function_plain function.IntegerModulo n = (refl, tt)
-function_plain function.DecimalModulo n = (refl, tt)
-function_plain function.Floor n = (refl, tt)
-function_plain function.Ceiling n = (refl, tt)
 function_plain function.Unchanged n = tt
-function_plain function.Length n = (refl, tt)
-function_plain function.Substring n = (part_by (nat_eq n 2), tt)
-function_plain function.Trim n = (refl, tt)
 
 -- ---- expressions
 

@@ -1,5 +1,6 @@
 -- The expressions and statements whose variables, constants, methods and objects have their places in the code.
-use Rattle.std.specs.Prelude.{◌≡◌, ◌⊎◌, ℕ, true, false, List, [], ◌∷◌, slice_get, Option, Some, None, pos}
+use Rattle.std.specs.Prelude.{◌≡◌, ℕ, true, false, List, [], ◌∷◌, length, slice_get, Option, Some, None, pos}
+use Rattle.ds2_value.specs.ValueFunctions.{row_of}
 use Rattle.ds2_value.specs.declared.ty.Ty.{Ty}
 use Rattle.ds2_value.specs.declared.ty.Ty.TheVariants.{BigInt}
 use Rattle.ds2_value.specs.declared.value.Value.{Value}
@@ -42,13 +43,11 @@ ReturnsNothing (HandsBack false) = Unit {0}
 
 -- a function takes so many arguments
 abbrev pub TakesCount : Function → ℕ → Type 0
+TakesCount (function.Value f) n = n ≡ length (row_of f).operands
 TakesCount function.Coalesce n = Unit {0}
 TakesCount function.Least n = Unit {0}
 TakesCount function.Greatest n = Unit {0}
-TakesCount function.IntegerModulo n = n ≡ 2
-TakesCount function.DecimalModulo n = n ≡ 2
-TakesCount function.Substring n = (n ≡ 2) ⊎ (n ≡ 3)
-TakesCount _ n = n ≡ 1
+TakesCount function.Unchanged n = n ≡ 1
 
 -- these slots are those of the program's variables of these names, in order
 abbrev pub AreSourceSlots : CodeNumbers → List (List ℕ) → List ℕ → Type 0

@@ -1,5 +1,5 @@
 -- The instructions of an expression.
-use Rattle.std.specs.Prelude.{ℕ, suc, Bool, true, false, nat_eq, List, [], ◌∷◌, ◌++◌, Option, Some, None, if◌then◌else◌}
+use Rattle.std.specs.Prelude.{ℕ, suc, Bool, true, false, List, [], ◌∷◌, ◌++◌, Option, Some, None}
 use Rattle.ds2_value.specs.declared.comparison.Comparison.{Comparison}
 use Rattle.ds2_value.specs.declared.hash_function.HashFunction.{HashFunction}
 use Rattle.ds2_value.specs.declared.hash_function.IteratorFunction.{IteratorFunction}
@@ -137,26 +137,13 @@ comparison_instr Integers comparison = instr.ICmp comparison
 comparison_instr Decimals comparison = instr.DCmp comparison
 comparison_instr Texts comparison = instr.TCmp comparison
 
--- a part of a text, from a character on or of a length too
-abbrev pub part_instr : ℕ → Instr
-part_instr n = if nat_eq n 2 then instr.SubFrom else instr.Substr
-
 -- a function of so many arguments
 abbrev pub function_code : Function → ℕ → List Instr
-function_code function.IsNull n = instr.IsNull ∷ []
+function_code (function.Value f) n = instr.Apply f ∷ []
 function_code function.Coalesce n = instr.Choose n ∷ []
 function_code function.Least n = instr.Least n ∷ []
 function_code function.Greatest n = instr.Greatest n ∷ []
-function_code function.IntegerAbsolute n = instr.IAbs ∷ []
-function_code function.DecimalAbsolute n = instr.DAbs ∷ []
-function_code function.IntegerModulo n = instr.IMod ∷ []
-function_code function.DecimalModulo n = instr.DMod ∷ []
-function_code function.Floor n = instr.DFloor ∷ []
-function_code function.Ceiling n = instr.DCeil ∷ []
 function_code function.Unchanged n = []
-function_code function.Length n = instr.Len ∷ []
-function_code function.Substring n = part_instr n ∷ []
-function_code function.Trim n = instr.Trim ∷ []
 
 -- how many expressions there are
 abbrev pub expressions_count : TypedExpressions → ℕ

@@ -6,13 +6,13 @@ use Rattle.std.proofs.lemmas.Bool.{true≢false}
 use Rattle.std.proofs.lemmas.Slice.Eq.{bytes_eq-Decides}
 use Rattle.ds2_base.specs.declared.place.Place.{Place}
 use Rattle.ds2_value.specs.HashList.{HashItems, Shift, Stays, Closes, Empties, shifted, with_replaced, without_item, found_item, checked_item, added_item, removed_item, iterator_answer, item_data, item_position}
-use Rattle.ds2_value.specs.Operations.{is_true, widened, of_decimals, line_text, of_one_or_fault, of_two}
+use Rattle.ds2_value.specs.Operations.{is_true, widened, of_decimals, line_text}
 use Rattle.ds2_value.specs.Progress.{with_step}
 use Rattle.ds2_value.specs.Row.{Row}
 use Rattle.ds2_value.specs.Run.{Tested}
 use Rattle.ds2_value.specs.Types.{assign_of}
-use Rattle.ds2_value.specs.Value.{sum_of, difference_of, product_of, negative_of, absolute_of, remainder_of, compared_of}
-use Rattle.ds2_value.specs.Functions.{substr_of}
+use Rattle.ds2_value.specs.Value.{sum_of, difference_of, product_of, negative_of, compared_of}
+use Rattle.ds2_value.specs.ValueFunctions.{function_value}
 use Rattle.ds2_value.specs.declared.comparison.Comparison.TheVariants.{Equal, Less, LessOrEqual, GreaterOrEqual}
 use Rattle.ds2_value.specs.declared.fault.Fault.{Fault}
 use Rattle.ds2_value.specs.declared.hash_function.HashFunction.{HashFunction}
@@ -335,20 +335,11 @@ module _ (p : UnitTree) (objects_seen : ObjectsSeen p) (x : Location) (old : Con
   converted_has (Varchar n) a w h = h
 
   applied_has : (f : Function) (vs : List Value) (w : RunState) → Has w → Still (applied f vs w)
-  applied_has function.IsNull vs w h = h
+  applied_has (function.Value f) vs w h = attempt_has (function_value f vs) w h
   applied_has function.Coalesce vs w h = h
   applied_has function.Least vs w h = h
   applied_has function.Greatest vs w h = h
-  applied_has function.IntegerAbsolute vs w h = attempt_has (of_one_or_fault absolute_of vs) w h
-  applied_has function.DecimalAbsolute vs w h = h
-  applied_has function.IntegerModulo vs w h = attempt_has (of_two remainder_of vs) w h
-  applied_has function.DecimalModulo vs w h = attempt_has (of_two (of_decimals decimal.modulo) vs) w h
-  applied_has function.Floor vs w h = h
-  applied_has function.Ceiling vs w h = h
   applied_has function.Unchanged vs w h = h
-  applied_has function.Length vs w h = h
-  applied_has function.Substring vs w h = attempt_has (substr_of vs) w h
-  applied_has function.Trim vs w h = h
 
   -- ---- words of calls
 

@@ -3,10 +3,11 @@ use Rattle.std.proofs.Common.{◌≡◌, ℕ, Bool, true, false, List, [], ◌�
 use Rattle.std.specs.List.{AllByRecursion}
 use Rattle.std.specs.Prelude.{pos}
 use Rattle.ds2_base.specs.declared.place.Place.{Place}
-use Rattle.ds2_value.specs.Functions.{concat_of, substr_of, is_null_of, length_of, trim_of, first_of, lesser_of, greater_of}
-use Rattle.ds2_value.specs.Operations.{widened, truth_value, of_decimals, of_decimal, of_one, of_one_or_fault, of_two, or_null_at_fault}
+use Rattle.ds2_value.specs.Functions.{concat_of, first_of, lesser_of, greater_of}
+use Rattle.ds2_value.specs.Operations.{widened, truth_value, of_decimals, of_decimal, of_one, or_null_at_fault}
 use Rattle.ds2_value.specs.Types.{assign_of}
-use Rattle.ds2_value.specs.Value.{sum_of, difference_of, product_of, negative_of, absolute_of, remainder_of, compared_of, truth_of, and_of, or_of, not_of}
+use Rattle.ds2_value.specs.Value.{sum_of, difference_of, product_of, negative_of, compared_of, truth_of, and_of, or_of, not_of}
+use Rattle.ds2_value.specs.ValueFunctions.{function_value}
 use Rattle.ds2_value.specs.declared.truth.Truth.{Truth}
 use Rattle.ds2_value.specs.declared.truth.Truth.TheVariants.{Yes, Unknown}
 use Rattle.ds2_value.specs.declared.ty.Ty.{Ty}
@@ -87,20 +88,11 @@ module _ (p : UnitTree) (known : Location → Bool) where
   converted_same (Varchar x) a d w u n = give (or_null_at_fault (assign_of a (Varchar x))) w u n tt
 
   applied_same : (f : Function) (vs : List Value) (d : DirtySet) (w u : RunState) → Near p known d w u → SameExpression p known d Unknown (applied f vs w) (applied f vs u)
-  applied_same function.IsNull vs d w u n = give (is_null_of vs) w u n tt
+  applied_same (function.Value f) vs d w u n = attempt_same p known d Unknown (function_value f vs) w u (λ v e. tt) n
   applied_same function.Coalesce vs d w u n = give (fold first_of Null vs) w u n tt
   applied_same function.Least vs d w u n = give (fold lesser_of Null vs) w u n tt
   applied_same function.Greatest vs d w u n = give (fold greater_of Null vs) w u n tt
-  applied_same function.IntegerAbsolute vs d w u n = attempt_same p known d Unknown (of_one_or_fault absolute_of vs) w u (λ v e. tt) n
-  applied_same function.DecimalAbsolute vs d w u n = give (of_one (of_decimal decimal.abs) vs) w u n tt
-  applied_same function.IntegerModulo vs d w u n = attempt_same p known d Unknown (of_two remainder_of vs) w u (λ v e. tt) n
-  applied_same function.DecimalModulo vs d w u n = attempt_same p known d Unknown (of_two (of_decimals decimal.modulo) vs) w u (λ v e. tt) n
-  applied_same function.Floor vs d w u n = give (of_one (of_decimal decimal.floor) vs) w u n tt
-  applied_same function.Ceiling vs d w u n = give (of_one (of_decimal decimal.ceil) vs) w u n tt
   applied_same function.Unchanged vs d w u n = give (of_one (λ v. v) vs) w u n tt
-  applied_same function.Length vs d w u n = give (length_of vs) w u n tt
-  applied_same function.Substring vs d w u n = attempt_same p known d Unknown (substr_of vs) w u (λ v e. tt) n
-  applied_same function.Trim vs d w u n = give (trim_of vs) w u n tt
 
   -- a widened value is not decided
   widened_fits : (widens : Bool) (t : Truth) (v : Value) → Fits t v → Fits (if widens then Unknown else t) (if widens then widened v else v)

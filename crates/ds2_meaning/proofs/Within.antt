@@ -4,13 +4,13 @@ use Rattle.std.specs.List.{join_with_byte}
 use Rattle.std.specs.Prelude.{bytes_eq, slice_get, if◌then◌else◌, pos}
 use Rattle.ds2_base.specs.declared.place.Place.{Place}
 use Rattle.ds2_value.specs.HashList.{Shift, shifted, hash_answer, iterator_answer}
-use Rattle.ds2_value.specs.Operations.{is_true, widened, of_decimals, line_text, of_one_or_fault, of_two}
+use Rattle.ds2_value.specs.Operations.{is_true, widened, of_decimals, line_text}
 use Rattle.ds2_value.specs.Progress.{with_step}
 use Rattle.ds2_value.specs.Row.{Row}
 use Rattle.ds2_value.specs.Run.{Tested}
 use Rattle.ds2_value.specs.Types.{assign_of}
-use Rattle.ds2_value.specs.Value.{sum_of, difference_of, product_of, negative_of, absolute_of, remainder_of, compared_of}
-use Rattle.ds2_value.specs.Functions.{substr_of}
+use Rattle.ds2_value.specs.Value.{sum_of, difference_of, product_of, negative_of, compared_of}
+use Rattle.ds2_value.specs.ValueFunctions.{function_value}
 use Rattle.ds2_value.specs.declared.comparison.Comparison.TheVariants.{Equal, Less, LessOrEqual, GreaterOrEqual}
 use Rattle.ds2_value.specs.declared.fault.Fault.{Fault}
 use Rattle.ds2_value.specs.declared.hash_function.HashFunction.{HashFunction}
@@ -108,20 +108,11 @@ converted_within n (Char c) a w h = h
 converted_within n (Varchar c) a w h = h
 
 applied_within : (n : ℕ) (f : Function) (vs : List Value) (w : RunState) → w.progress.left ≤ n → left_by_expression (applied f vs w) ≤ n
-applied_within n function.IsNull vs w h = h
+applied_within n (function.Value f) vs w h = attempt_within n (function_value f vs) w h
 applied_within n function.Coalesce vs w h = h
 applied_within n function.Least vs w h = h
 applied_within n function.Greatest vs w h = h
-applied_within n function.IntegerAbsolute vs w h = attempt_within n (of_one_or_fault absolute_of vs) w h
-applied_within n function.DecimalAbsolute vs w h = h
-applied_within n function.IntegerModulo vs w h = attempt_within n (of_two remainder_of vs) w h
-applied_within n function.DecimalModulo vs w h = attempt_within n (of_two (of_decimals decimal.modulo) vs) w h
-applied_within n function.Floor vs w h = h
-applied_within n function.Ceiling vs w h = h
 applied_within n function.Unchanged vs w h = h
-applied_within n function.Length vs w h = h
-applied_within n function.Substring vs w h = attempt_within n (substr_of vs) w h
-applied_within n function.Trim vs w h = h
 
 -- ---- calls of hash objects and iterators
 

@@ -4,6 +4,7 @@ use Rattle.std.specs.Prelude.{◌≡◌, true, false, codes, [], ◌∷◌, ◌+
 use Rattle.ds2_value.specs.declared.comparison.Comparison.TheVariants as comparison
 use Rattle.ds2_value.specs.declared.ty.Ty.TheVariants.{BigInt, Decimal as DecimalOf, Varchar}
 use Rattle.ds2_value.specs.declared.value.Value.TheVariants.{Null}
+use Rattle.ds2_value.specs.declared.value_function.ValueFunction.TheVariants as of_values
 use Rattle.ds2_meaning.specs.declared.expressions.Function.TheVariants as function
 use Rattle.ds2_meaning.specs.declared.expressions.Operation.TheVariants as operation
 use Rattle.ds2_meaning.specs.declared.readings.Reading.TheVariants.{Set, Merge, From}
@@ -76,7 +77,7 @@ pub record EdgeExamples : Type 0 where
 -- texts of more than 1,024 characters are cut
 pub record TextLimitExamples : Type 0 where
   -- x = length(t || t); where t has 600 characters
-  pub joined_text_is_cut : ran (program_with (codes "x" ∷ []) (assign_at 1 (codes "x") (function_of function.Length BigInt (
+  pub joined_text_is_cut : ran (program_with (codes "x" ∷ []) (assign_at 1 (codes "x") (function_of (function.Value of_values.Length) BigInt (
       binary operation.Concatenate (Varchar 1024) (text_constant (replicate 600 97) 600) (text_constant (replicate 600 97) 600) ∷ [])) ∷ [])) 10
       ≡ ends_with ((natural 1024 ∷ []) ∷ []) (10 ∷ 9 ∷ 10 ∷ [])
   -- put u=; where u has 1,024 characters

@@ -4,6 +4,7 @@ use Rattle.ds2_value.specs.declared.comparison.Comparison.TheVariants as compari
 use Rattle.ds2_value.specs.declared.fault.Fault.TheVariants.{Overflow, DivideByZero, Range}
 use Rattle.ds2_value.specs.declared.ty.Ty.TheVariants.{BigInt, Decimal as DecimalOf, Char, Varchar}
 use Rattle.ds2_value.specs.declared.value.Value.TheVariants.{Null, Int, Txt}
+use Rattle.ds2_value.specs.declared.value_function.ValueFunction.TheVariants as of_values
 use Rattle.ds2_meaning.specs.declared.expressions.Function.TheVariants as function
 use Rattle.ds2_meaning.specs.declared.expressions.Operation.TheVariants as operation
 use Rattle.ds2_meaning.specs.declared.expressions.Prefix.TheVariants as prefix
@@ -34,17 +35,17 @@ pub record IntegerExamples : Type 0 where
   -- x = -9223372036854775807 - 1; y = mod(x, -1); x = abs(x);
   pub least_integer : ran (program_with (codes "x" ∷ codes "y" ∷ []) (
       assign_at 7 (codes "x") (less (negated (int 9223372036854775807)) (int 1))
-      ∷ assign_at 40 (codes "y") (function_of function.IntegerModulo BigInt (variable_of (codes "x") ∷ negated (int 1) ∷ []))
-      ∷ assign_at 60 (codes "x") (function_of function.IntegerAbsolute BigInt (variable_of (codes "x") ∷ [])) ∷ [])) 10
+      ∷ assign_at 40 (codes "y") (function_of (function.Value of_values.IntegerModulo) BigInt (variable_of (codes "x") ∷ negated (int 1) ∷ []))
+      ∷ assign_at 60 (codes "x") (function_of (function.Value of_values.IntegerAbsolute) BigInt (variable_of (codes "x") ∷ [])) ∷ [])) 10
       ≡ faults_at Overflow 60 (10 ∷ 7 ∷ [])
   -- x = mod(-7, 3); y = abs(-5);
   pub remainder_has_the_sign_of_the_first : ran (program_with (codes "x" ∷ codes "y" ∷ []) (
-      assign_at 7 (codes "x") (function_of function.IntegerModulo BigInt (negated (int 7) ∷ int 3 ∷ []))
-      ∷ assign_at 20 (codes "y") (function_of function.IntegerAbsolute BigInt (negated (int 5) ∷ [])) ∷ [])) 10
+      assign_at 7 (codes "x") (function_of (function.Value of_values.IntegerModulo) BigInt (negated (int 7) ∷ int 3 ∷ []))
+      ∷ assign_at 20 (codes "y") (function_of (function.Value of_values.IntegerAbsolute) BigInt (negated (int 5) ∷ [])) ∷ [])) 10
       ≡ ends_with ((Int (negsuc 0) ∷ natural 5 ∷ []) ∷ []) (10 ∷ 8 ∷ 10 ∷ [])
   -- x = mod(5, 0);
   pub remainder_of_zero : ran (program_with (codes "x" ∷ []) (
-      assign_at 7 (codes "x") (function_of function.IntegerModulo BigInt (int 5 ∷ int 0 ∷ [])) ∷ [])) 10
+      assign_at 7 (codes "x") (function_of (function.Value of_values.IntegerModulo) BigInt (int 5 ∷ int 0 ∷ [])) ∷ [])) 10
       ≡ faults_at DivideByZero 7 (10 ∷ 9 ∷ [])
 
 -- operators on DECIMAL values: scales, rounding half away from 0, division
@@ -77,8 +78,8 @@ pub record DecimalExamples : Type 0 where
       ≡ ends_with ((Null ∷ Null ∷ []) ∷ []) (10 ∷ 9 ∷ 10 ∷ [])
   -- dcl decimal(5,0) f c; dcl bigint g; f = floor(-1.5n); c = ceil(-1.5n); g = floor(7);
   pub whole_parts : ran (unit_with (record { name = codes "f"; ty = DecimalOf 5 0 } ∷ record { name = codes "c"; ty = DecimalOf 5 0 } ∷ bigint (codes "g") ∷ []) (
-      assign_at 7 (codes "f") (Convert (function_of function.Floor (DecimalOf 38 0) (Prefixed prefix.DecimalNegate (decimal_constant 15 2 1) (DecimalOf 2 1) ∷ [])) (DecimalOf 5 0))
-      ∷ assign_at 25 (codes "c") (Convert (function_of function.Ceiling (DecimalOf 38 0) (Prefixed prefix.DecimalNegate (decimal_constant 15 2 1) (DecimalOf 2 1) ∷ [])) (DecimalOf 5 0))
+      assign_at 7 (codes "f") (Convert (function_of (function.Value of_values.Floor) (DecimalOf 38 0) (Prefixed prefix.DecimalNegate (decimal_constant 15 2 1) (DecimalOf 2 1) ∷ [])) (DecimalOf 5 0))
+      ∷ assign_at 25 (codes "c") (Convert (function_of (function.Value of_values.Ceiling) (DecimalOf 38 0) (Prefixed prefix.DecimalNegate (decimal_constant 15 2 1) (DecimalOf 2 1) ∷ [])) (DecimalOf 5 0))
       ∷ assign_at 45 (codes "g") (function_of function.Unchanged BigInt (int 7 ∷ [])) ∷ [])) 10
       ≡ ends_with ((fixed (negsuc 1) 0 ∷ fixed (negsuc 0) 0 ∷ natural 7 ∷ []) ∷ []) (10 ∷ 7 ∷ 10 ∷ [])
 
@@ -105,8 +106,8 @@ pub record TruthExamples : Type 0 where
       ≡ faults_at Overflow 1 (10 ∷ 9 ∷ [])
   -- a = null(y); b = null(5); c = coalesce(y, 5); d = min(y, 3, 2); e = max(y, 3, 2); f = min(y, y);
   pub chosen : ran (program_with (codes "a" ∷ codes "b" ∷ codes "c" ∷ codes "d" ∷ codes "e" ∷ codes "f" ∷ codes "y" ∷ []) (
-      assign_at 1 (codes "a") (function_of function.IsNull BigInt (variable_of (codes "y") ∷ []))
-      ∷ assign_at 11 (codes "b") (function_of function.IsNull BigInt (int 5 ∷ []))
+      assign_at 1 (codes "a") (function_of (function.Value of_values.IsNull) BigInt (variable_of (codes "y") ∷ []))
+      ∷ assign_at 11 (codes "b") (function_of (function.Value of_values.IsNull) BigInt (int 5 ∷ []))
       ∷ assign_at 21 (codes "c") (function_of function.Coalesce BigInt (variable_of (codes "y") ∷ int 5 ∷ []))
       ∷ assign_at 31 (codes "d") (function_of function.Least BigInt (variable_of (codes "y") ∷ int 3 ∷ int 2 ∷ []))
       ∷ assign_at 41 (codes "e") (function_of function.Greatest BigInt (variable_of (codes "y") ∷ int 3 ∷ int 2 ∷ []))
@@ -119,24 +120,24 @@ pub record TextExamples : Type 0 where
   pub cut_and_filled : ran (unit_with (record { name = codes "t"; ty = Varchar 3 } ∷ record { name = codes "u"; ty = Char 4 } ∷ bigint (codes "l") ∷ []) (
       assign_at 1 (codes "t") (Convert (binary operation.Concatenate (Varchar 4) (text_constant (codes "ab") 2) (text_constant (codes "cd") 2)) (Varchar 3))
       ∷ assign_at 21 (codes "u") (Convert (text_constant (codes "a") 1) (Char 4))
-      ∷ assign_at 31 (codes "l") (function_of function.Length BigInt (value_of_type (codes "u") (Char 4) ∷ [])) ∷ [])) 10
+      ∷ assign_at 31 (codes "l") (function_of (function.Value of_values.Length) BigInt (value_of_type (codes "u") (Char 4) ∷ [])) ∷ [])) 10
       ≡ ends_with ((Txt (codes "abc") ∷ Txt (codes "a   ") ∷ natural 1 ∷ []) ∷ []) (10 ∷ 7 ∷ 10 ∷ [])
   -- dcl varchar(3) t u v; t = substr('abc', 4); u = substr('abc', 2, 9); v = trim('a  ') || u;
   pub parts : ran (unit_with (record { name = codes "t"; ty = Varchar 3 } ∷ record { name = codes "u"; ty = Varchar 3 } ∷ record { name = codes "v"; ty = Varchar 3 } ∷ []) (
-      assign_at 1 (codes "t") (Convert (function_of function.Substring (Varchar 3) (text_constant (codes "abc") 3 ∷ int 4 ∷ [])) (Varchar 3))
-      ∷ assign_at 21 (codes "u") (Convert (function_of function.Substring (Varchar 3) (text_constant (codes "abc") 3 ∷ int 2 ∷ int 9 ∷ [])) (Varchar 3))
-      ∷ assign_at 41 (codes "v") (Convert (binary operation.Concatenate (Varchar 6) (function_of function.Trim (Varchar 3) (text_constant (codes "a  ") 3 ∷ [])) (value_of_type (codes "u") (Varchar 3))) (Varchar 3)) ∷ [])) 10
+      assign_at 1 (codes "t") (Convert (function_of (function.Value of_values.SubstringFrom) (Varchar 3) (text_constant (codes "abc") 3 ∷ int 4 ∷ [])) (Varchar 3))
+      ∷ assign_at 21 (codes "u") (Convert (function_of (function.Value of_values.Substring) (Varchar 3) (text_constant (codes "abc") 3 ∷ int 2 ∷ int 9 ∷ [])) (Varchar 3))
+      ∷ assign_at 41 (codes "v") (Convert (binary operation.Concatenate (Varchar 6) (function_of (function.Value of_values.Trim) (Varchar 3) (text_constant (codes "a  ") 3 ∷ [])) (value_of_type (codes "u") (Varchar 3))) (Varchar 3)) ∷ [])) 10
       ≡ ends_with ((Txt [] ∷ Txt (codes "bc") ∷ Txt (codes "abc") ∷ []) ∷ []) (10 ∷ 7 ∷ 10 ∷ [])
   -- dcl varchar(3) t; t = substr('abc', 5);
   pub past_the_end : ran (unit_with (record { name = codes "t"; ty = Varchar 3 } ∷ []) (
-      assign_at 1 (codes "t") (Convert (function_of function.Substring (Varchar 3) (text_constant (codes "abc") 3 ∷ int 5 ∷ [])) (Varchar 3)) ∷ [])) 10
+      assign_at 1 (codes "t") (Convert (function_of (function.Value of_values.SubstringFrom) (Varchar 3) (text_constant (codes "abc") 3 ∷ int 5 ∷ [])) (Varchar 3)) ∷ [])) 10
       ≡ faults_at Range 1 (10 ∷ 9 ∷ [])
   -- dcl varchar(3) t; t = substr('abc', 1, -1);
   pub less_than_none : ran (unit_with (record { name = codes "t"; ty = Varchar 3 } ∷ []) (
-      assign_at 1 (codes "t") (Convert (function_of function.Substring (Varchar 3) (text_constant (codes "abc") 3 ∷ int 1 ∷ negated (int 1) ∷ [])) (Varchar 3)) ∷ [])) 10
+      assign_at 1 (codes "t") (Convert (function_of (function.Value of_values.Substring) (Varchar 3) (text_constant (codes "abc") 3 ∷ int 1 ∷ negated (int 1) ∷ [])) (Varchar 3)) ∷ [])) 10
       ≡ faults_at Range 1 (10 ∷ 9 ∷ [])
   -- dcl varchar(3) t u; t = 'a' || u; u = substr(u, 0);
   pub null_text : ran (unit_with (record { name = codes "t"; ty = Varchar 3 } ∷ record { name = codes "u"; ty = Varchar 3 } ∷ []) (
       assign_at 1 (codes "t") (Convert (binary operation.Concatenate (Varchar 4) (text_constant (codes "a") 1) (value_of_type (codes "u") (Varchar 3))) (Varchar 3))
-      ∷ assign_at 21 (codes "u") (Convert (function_of function.Substring (Varchar 3) (value_of_type (codes "u") (Varchar 3) ∷ int 0 ∷ [])) (Varchar 3)) ∷ [])) 10
+      ∷ assign_at 21 (codes "u") (Convert (function_of (function.Value of_values.SubstringFrom) (Varchar 3) (value_of_type (codes "u") (Varchar 3) ∷ int 0 ∷ [])) (Varchar 3)) ∷ [])) 10
       ≡ ends_with ((Null ∷ Null ∷ []) ∷ []) (10 ∷ 8 ∷ 10 ∷ [])

@@ -8,6 +8,7 @@ use Rattle.ds2_value.specs.declared.fault.Ending.TheVariants.{Faulted}
 use Rattle.ds2_value.specs.declared.fault.Fault.TheVariants.{BudgetSpent, DivideByZero, Overflow, Range}
 use Rattle.ds2_value.specs.declared.ty.Ty.TheVariants.{BigInt, Decimal as DecimalOf, Varchar}
 use Rattle.ds2_value.specs.declared.value.Value.TheVariants.{Null, Txt}
+use Rattle.ds2_value.specs.declared.value_function.ValueFunction.TheVariants as of_values
 use Rattle.ds2_meaning.specs.declared.expressions.Function.TheVariants as function
 use Rattle.ds2_meaning.specs.declared.expressions.Operation.{Operation}
 use Rattle.ds2_meaning.specs.declared.expressions.Operation.TheVariants as operation
@@ -69,10 +70,10 @@ pub record OperandExamples : Type 0 where
       ∷ decimal_into 29 (codes "s") (behind_one_and_a_half operation.DecimalSubtract 1 the_null_decimal)
       ∷ decimal_into 43 (codes "t") (binary operation.DecimalMultiply (DecimalOf 38 2) the_null_decimal (decimal_constant 15 2 1))
       ∷ assign_at 57 (codes "u") (Prefixed prefix.DecimalNegate the_null_decimal (DecimalOf 5 1))
-      ∷ assign_at 65 (codes "v") (function_of function.DecimalAbsolute (DecimalOf 5 1) (the_null_decimal ∷ []))
-      ∷ decimal_into 77 (codes "w") (function_of function.DecimalModulo (DecimalOf 38 1) (the_null_decimal ∷ Widen (int 2) ∷ []))
-      ∷ decimal_into 92 (codes "x") (function_of function.DecimalModulo (DecimalOf 38 1) (decimal_constant 15 2 1 ∷ the_null_decimal ∷ []))
-      ∷ decimal_into 110 (codes "z") (function_of function.Ceiling (DecimalOf 38 0) (the_null_decimal ∷ [])) ∷ [])) 20
+      ∷ assign_at 65 (codes "v") (function_of (function.Value of_values.DecimalAbsolute) (DecimalOf 5 1) (the_null_decimal ∷ []))
+      ∷ decimal_into 77 (codes "w") (function_of (function.Value of_values.DecimalModulo) (DecimalOf 38 1) (the_null_decimal ∷ Widen (int 2) ∷ []))
+      ∷ decimal_into 92 (codes "x") (function_of (function.Value of_values.DecimalModulo) (DecimalOf 38 1) (decimal_constant 15 2 1 ∷ the_null_decimal ∷ []))
+      ∷ decimal_into 110 (codes "z") (function_of (function.Value of_values.Ceiling) (DecimalOf 38 0) (the_null_decimal ∷ [])) ∷ [])) 20
       ≡ ends_with ((Null ∷ Null ∷ Null ∷ Null ∷ Null ∷ Null ∷ Null ∷ Null ∷ Null ∷ Null ∷ []) ∷ []) (20 ∷ 11 ∷ 20 ∷ [])
   -- dcl decimal(5,1) d f; dcl decimal(5,2) e; d = 2.5n - 4; f = max(1.5n, 2); e = 0.125n;
   pub differences_and_rounding : ran (unit_with (variable_in (DecimalOf 5 1) (codes "d") ∷ variable_in (DecimalOf 5 1) (codes "f") ∷ variable_in (DecimalOf 5 2) (codes "e") ∷ []) (
@@ -159,11 +160,11 @@ spent_in_init column = record { rows = []; lines = []; ending = Some (Faulted Bu
 -- further faults of operations, and a budget that ends in a constructor
 pub record FaultFormExamples : Type 0 where
   -- dcl varchar(3) t; t = substr('abc', 0);
-  pub before_the_first : ran (unit_with (variable_in (Varchar 3) (codes "t") ∷ []) (assign_at 1 (codes "t") (function_of function.Substring (Varchar 3) (text_constant (codes "abc") 3 ∷ int 0 ∷ [])) ∷ [])) 10
+  pub before_the_first : ran (unit_with (variable_in (Varchar 3) (codes "t") ∷ []) (assign_at 1 (codes "t") (function_of (function.Value of_values.SubstringFrom) (Varchar 3) (text_constant (codes "abc") 3 ∷ int 0 ∷ [])) ∷ [])) 10
       ≡ faults_at Range 1 (10 ∷ 9 ∷ [])
   -- dcl decimal(5,1) x; x = mod(7.5n, 0);
   pub decimal_remainder_of_zero : ran (unit_with (variable_in (DecimalOf 5 1) (codes "x") ∷ []) (
-      decimal_into 7 (codes "x") (function_of function.DecimalModulo (DecimalOf 38 1) (decimal_constant 75 2 1 ∷ Widen (int 0) ∷ [])) ∷ [])) 10
+      decimal_into 7 (codes "x") (function_of (function.Value of_values.DecimalModulo) (DecimalOf 38 1) (decimal_constant 75 2 1 ∷ Widen (int 0) ∷ [])) ∷ [])) 10
       ≡ faults_at DivideByZero 7 (10 ∷ 9 ∷ [])
   -- x = -9223372036854775807 - 1; y = -x;
   pub least_integer_negated : ran (program_with (codes "x" ∷ codes "y" ∷ []) (

@@ -7,6 +7,7 @@ use Rattle.ds2_value.specs.declared.fault.Fault.TheVariants.{BudgetSpent, Divide
 use Rattle.ds2_value.specs.declared.ty.Ty.{Ty}
 use Rattle.ds2_value.specs.declared.ty.Ty.TheVariants.{BigInt, Decimal as DecimalOf, Char, Varchar}
 use Rattle.ds2_value.specs.declared.value.Value.TheVariants.{Null, Txt}
+use Rattle.ds2_value.specs.declared.value_function.ValueFunction.TheVariants as of_values
 use Rattle.ds2_meaning.specs.declared.expressions.Function.TheVariants as function
 use Rattle.ds2_meaning.specs.declared.expressions.Operation.TheVariants as operation
 use Rattle.ds2_meaning.specs.declared.expressions.Prefix.TheVariants as prefix
@@ -38,23 +39,23 @@ pub record NullExamples : Type 0 where
       assign_at 1 (codes "a") (less (int 1) (variable_of (codes "y")))
       ∷ assign_at 11 (codes "b") (binary operation.IntegerMultiply BigInt (variable_of (codes "y")) (int 2))
       ∷ assign_at 21 (codes "c") (negated (variable_of (codes "y")))
-      ∷ assign_at 31 (codes "d") (function_of function.IntegerAbsolute BigInt (variable_of (codes "y") ∷ []))
-      ∷ assign_at 41 (codes "e") (function_of function.IntegerModulo BigInt (variable_of (codes "y") ∷ int 0 ∷ []))
-      ∷ assign_at 51 (codes "f") (function_of function.Length BigInt (value_of_type (codes "u") (Varchar 3) ∷ []))
-      ∷ assign_at 61 (codes "g") (function_of function.IntegerModulo BigInt (int 5 ∷ variable_of (codes "y") ∷ [])) ∷ [])) 10
+      ∷ assign_at 31 (codes "d") (function_of (function.Value of_values.IntegerAbsolute) BigInt (variable_of (codes "y") ∷ []))
+      ∷ assign_at 41 (codes "e") (function_of (function.Value of_values.IntegerModulo) BigInt (variable_of (codes "y") ∷ int 0 ∷ []))
+      ∷ assign_at 51 (codes "f") (function_of (function.Value of_values.Length) BigInt (value_of_type (codes "u") (Varchar 3) ∷ []))
+      ∷ assign_at 61 (codes "g") (function_of (function.Value of_values.IntegerModulo) BigInt (int 5 ∷ variable_of (codes "y") ∷ [])) ∷ [])) 10
       ≡ ends_with ((Null ∷ Null ∷ Null ∷ Null ∷ Null ∷ Null ∷ Null ∷ Null ∷ Null ∷ []) ∷ []) (10 ∷ 3 ∷ 10 ∷ [])
   -- dcl decimal(5,1) p q r s; p = floor(q); r = q - 1.5n; s = min(q, 1.5n);
   pub decimals : ran (unit_with (map (variable_in (DecimalOf 5 1)) (codes "p" ∷ codes "q" ∷ codes "r" ∷ codes "s" ∷ [])) (
-      assign_at 1 (codes "p") (Convert (function_of function.Floor (DecimalOf 38 0) (value_of_type (codes "q") (DecimalOf 5 1) ∷ [])) (DecimalOf 5 1))
+      assign_at 1 (codes "p") (Convert (function_of (function.Value of_values.Floor) (DecimalOf 38 0) (value_of_type (codes "q") (DecimalOf 5 1) ∷ [])) (DecimalOf 5 1))
       ∷ assign_at 11 (codes "r") (Convert (binary operation.DecimalSubtract (DecimalOf 38 1) (value_of_type (codes "q") (DecimalOf 5 1)) (decimal_constant 15 2 1)) (DecimalOf 5 1))
       ∷ assign_at 21 (codes "s") (Convert (function_of function.Least (DecimalOf 38 1) (Convert (value_of_type (codes "q") (DecimalOf 5 1)) (DecimalOf 38 1) ∷ Convert (decimal_constant 15 2 1) (DecimalOf 38 1) ∷ [])) (DecimalOf 5 1)) ∷ [])) 10
       ≡ ends_with ((Null ∷ Null ∷ Null ∷ fixed (pos 15) 1 ∷ []) ∷ []) (10 ∷ 7 ∷ 10 ∷ [])
   -- dcl varchar(3) t v w u; dcl bigint y; dcl char(3) c; t = u || 'a'; v = substr('abc', y); w = substr('abc', 1, y); u = trim(u); c = null;
   pub texts : ran (unit_with (map (variable_in (Varchar 3)) (codes "t" ∷ codes "v" ∷ codes "w" ∷ codes "u" ∷ []) ++ bigint (codes "y") ∷ variable_in (Char 3) (codes "c") ∷ []) (
       assign_at 1 (codes "t") (Convert (binary operation.Concatenate (Varchar 4) (value_of_type (codes "u") (Varchar 3)) (text_constant (codes "a") 1)) (Varchar 3))
-      ∷ assign_at 21 (codes "v") (function_of function.Substring (Varchar 3) (text_constant (codes "abc") 3 ∷ variable_of (codes "y") ∷ []))
-      ∷ assign_at 41 (codes "w") (function_of function.Substring (Varchar 3) (text_constant (codes "abc") 3 ∷ int 1 ∷ variable_of (codes "y") ∷ []))
-      ∷ assign_at 61 (codes "u") (function_of function.Trim (Varchar 3) (value_of_type (codes "u") (Varchar 3) ∷ []))
+      ∷ assign_at 21 (codes "v") (function_of (function.Value of_values.SubstringFrom) (Varchar 3) (text_constant (codes "abc") 3 ∷ variable_of (codes "y") ∷ []))
+      ∷ assign_at 41 (codes "w") (function_of (function.Value of_values.Substring) (Varchar 3) (text_constant (codes "abc") 3 ∷ int 1 ∷ variable_of (codes "y") ∷ []))
+      ∷ assign_at 61 (codes "u") (function_of (function.Value of_values.Trim) (Varchar 3) (value_of_type (codes "u") (Varchar 3) ∷ []))
       ∷ assign_at 81 (codes "c") (Constant Null (Char 3)) ∷ [])) 10
       ≡ ends_with ((Null ∷ Null ∷ Null ∷ Null ∷ Null ∷ Null ∷ []) ∷ []) (10 ∷ 5 ∷ 10 ∷ [])
 
@@ -79,8 +80,8 @@ pub record ConversionExamples : Type 0 where
       ≡ ends_with ((fixed (pos 100) 2 ∷ Null ∷ []) ∷ []) (10 ∷ 9 ∷ 10 ∷ [])
   -- dcl decimal(5,1) x y z; x = mod(-7.5n, 2); y = abs(x); z = 1 + 0.5n;
   pub decimal_functions : ran (unit_with (map (variable_in (DecimalOf 5 1)) (codes "x" ∷ codes "y" ∷ codes "z" ∷ [])) (
-      assign_at 1 (codes "x") (Convert (function_of function.DecimalModulo (DecimalOf 38 1) (Prefixed prefix.DecimalNegate (decimal_constant 75 2 1) (DecimalOf 2 1) ∷ Widen (int 2) ∷ [])) (DecimalOf 5 1))
-      ∷ assign_at 21 (codes "y") (function_of function.DecimalAbsolute (DecimalOf 5 1) (value_of_type (codes "x") (DecimalOf 5 1) ∷ []))
+      assign_at 1 (codes "x") (Convert (function_of (function.Value of_values.DecimalModulo) (DecimalOf 38 1) (Prefixed prefix.DecimalNegate (decimal_constant 75 2 1) (DecimalOf 2 1) ∷ Widen (int 2) ∷ [])) (DecimalOf 5 1))
+      ∷ assign_at 21 (codes "y") (function_of (function.Value of_values.DecimalAbsolute) (DecimalOf 5 1) (value_of_type (codes "x") (DecimalOf 5 1) ∷ []))
       ∷ assign_at 31 (codes "z") (Convert (Chain (int 1) (Link true operation.DecimalAdd (decimal_constant 5 1 1) (DecimalOf 38 1) NoLink)) (DecimalOf 5 1)) ∷ [])) 10
       ≡ ends_with ((fixed (negsuc 14) 1 ∷ fixed (pos 15) 1 ∷ fixed (pos 15) 1 ∷ []) ∷ []) (10 ∷ 7 ∷ 10 ∷ [])
   -- dcl varchar(3) t u; dcl bigint x; t = coalesce(u, 'ab'); x = 5 ^= 5;

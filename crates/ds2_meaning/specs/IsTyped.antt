@@ -6,6 +6,7 @@ use Rattle.ds2_value.specs.HashList.{HashItem, HashItems}
 use Rattle.ds2_value.specs.Row.{Row, Columns}
 use Rattle.ds2_value.specs.Schema.{has_column, is_schema}
 use Rattle.ds2_value.specs.Types.{in_bounds, fits, takes}
+use Rattle.ds2_value.specs.ValueFunctions.{function_type}
 use Rattle.ds2_value.specs.declared.ty.Ty.{Ty}
 use Rattle.ds2_value.specs.declared.ty.Ty.TheVariants.{BigInt, Decimal as DecimalOf, Char, Varchar}
 use Rattle.ds2_value.specs.declared.value.Value.TheVariants.{Int}
@@ -160,21 +161,11 @@ IsManyFrom least arguments = (least ≤ length arguments) × (length arguments �
 
 -- a function fits its arguments' types, and gives this type; a function of several values has them in one type
 abbrev pub IsApplication : Function → List Ty → Ty → Type 0
-IsApplication function.IsNull (a ∷ []) result = result ≡ BigInt
+IsApplication (function.Value f) arguments result = function_type f arguments ≡ Some result
 IsApplication function.Coalesce arguments result = IsManyFrom 1 arguments × AllOfType result arguments
 IsApplication function.Least arguments result = IsManyFrom 2 arguments × IsNumeric result × AllOfType result arguments
 IsApplication function.Greatest arguments result = IsManyFrom 2 arguments × IsNumeric result × AllOfType result arguments
-IsApplication function.IntegerAbsolute (a ∷ []) result = (a ≡ BigInt) × (result ≡ BigInt)
-IsApplication function.DecimalAbsolute (a ∷ []) result = (class_of a ≡ Decimals) × (result ≡ a)
-IsApplication function.IntegerModulo (a ∷ b ∷ []) result = AreIntegers a b result
-IsApplication function.DecimalModulo (a ∷ b ∷ []) result = AreDecimals (max (type_scale a) (type_scale b)) a b result
-IsApplication function.Floor (a ∷ []) result = (class_of a ≡ Decimals) × (result ≡ decimal_result 0)
-IsApplication function.Ceiling (a ∷ []) result = (class_of a ≡ Decimals) × (result ≡ decimal_result 0)
 IsApplication function.Unchanged (a ∷ []) result = (a ≡ BigInt) × (result ≡ BigInt)
-IsApplication function.Length (a ∷ []) result = (class_of a ≡ Texts) × (result ≡ BigInt)
-IsApplication function.Substring (a ∷ b ∷ []) result = (class_of a ≡ Texts) × (b ≡ BigInt) × (result ≡ Varchar (type_width a))
-IsApplication function.Substring (a ∷ b ∷ c ∷ []) result = (class_of a ≡ Texts) × (b ≡ BigInt) × (c ≡ BigInt) × (result ≡ Varchar (type_width a))
-IsApplication function.Trim (a ∷ []) result = (class_of a ≡ Texts) × (result ≡ Varchar (type_width a))
 IsApplication _ _ result = ⊥
 
 -- ---- expressions

@@ -1,10 +1,11 @@
 -- What operators and functions make of values, and which of them may fault.
 use Rattle.std.specs.Prelude.{List, [], ◌∷◌, fold, Result, Ok}
 use Rattle.ds2_decimal.specs.Arithmetic as decimal
-use Rattle.ds2_value.specs.Functions.{is_null_of, length_of, trim_of, concat_of, substr_of, first_of, lesser_of, greater_of}
-use Rattle.ds2_value.specs.Operations.{of_decimals, of_decimal, truth_value, or_null_at_fault, of_one, of_one_or_fault, of_two}
+use Rattle.ds2_value.specs.Functions.{concat_of, first_of, lesser_of, greater_of}
+use Rattle.ds2_value.specs.Operations.{of_decimals, of_decimal, truth_value, or_null_at_fault, of_one}
 use Rattle.ds2_value.specs.Types.{assign_of}
-use Rattle.ds2_value.specs.Value.{sum_of, difference_of, product_of, negative_of, absolute_of, remainder_of, truth_of, and_of, or_of, not_of}
+use Rattle.ds2_value.specs.Value.{sum_of, difference_of, product_of, negative_of, truth_of, and_of, or_of, not_of}
+use Rattle.ds2_value.specs.ValueFunctions.{function_value}
 use Rattle.ds2_value.specs.declared.fault.Fault.{Fault}
 use Rattle.ds2_value.specs.declared.ty.Ty.{Ty}
 use Rattle.ds2_value.specs.declared.ty.Ty.TheVariants.{BigInt, Decimal as DecimalOf, Char, Varchar}
@@ -45,19 +46,10 @@ converted (DecimalOf p s) a w = attempt (assign_of a (DecimalOf p s)) w
 converted (Char n) a w = Gives (or_null_at_fault (assign_of a (Char n))) w
 converted (Varchar n) a w = Gives (or_null_at_fault (assign_of a (Varchar n))) w
 
--- a function of its arguments
+-- a function of its arguments; one of values alone counts as what may fault
 abbrev pub applied : Function → List Value → RunState → ExpressionEnd
-applied function.IsNull vs w = Gives (is_null_of vs) w
+applied (function.Value f) vs w = attempt (function_value f vs) w
 applied function.Coalesce vs w = Gives (fold first_of Null vs) w
 applied function.Least vs w = Gives (fold lesser_of Null vs) w
 applied function.Greatest vs w = Gives (fold greater_of Null vs) w
-applied function.IntegerAbsolute vs w = attempt (of_one_or_fault absolute_of vs) w
-applied function.DecimalAbsolute vs w = Gives (of_one (of_decimal decimal.abs) vs) w
-applied function.IntegerModulo vs w = attempt (of_two remainder_of vs) w
-applied function.DecimalModulo vs w = attempt (of_two (of_decimals decimal.modulo) vs) w
-applied function.Floor vs w = Gives (of_one (of_decimal decimal.floor) vs) w
-applied function.Ceiling vs w = Gives (of_one (of_decimal decimal.ceil) vs) w
 applied function.Unchanged vs w = Gives (of_one (λ v. v) vs) w
-applied function.Length vs w = Gives (length_of vs) w
-applied function.Substring vs w = attempt (substr_of vs) w
-applied function.Trim vs w = Gives (trim_of vs) w

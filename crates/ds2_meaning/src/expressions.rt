@@ -5,7 +5,7 @@
 
 use crate::Reference;
 use ds2_base::{List, Name};
-use ds2_value::{Comparison, HashFunction, IteratorFunction, Ty, Value};
+use ds2_value::{Comparison, HashFunction, IteratorFunction, Ty, Value, ValueFunction};
 
 /// What stands between two operands of a chain. The operands are of the operation's types.
 #[derive(Clone, Copy, PartialEq, Eq)]
@@ -48,34 +48,16 @@ pub enum Prefix {
 /// A function of the language, by the types of its arguments.
 #[derive(Clone, Copy, PartialEq, Eq)]
 pub enum Function {
-    /// `null(x)`.
-    IsNull,
+    /// One that gives a value for its arguments alone.
+    Value(ValueFunction),
     /// `coalesce(a, ..)`, of arguments in one type.
     Coalesce,
     /// `min(a, b, ..)`, of numbers in one type.
     Least,
     /// `max(a, b, ..)`, of numbers in one type.
     Greatest,
-    /// `abs(x)` of a BIGINT.
-    IntegerAbsolute,
-    /// `abs(x)` of a DECIMAL.
-    DecimalAbsolute,
-    /// `mod(a, b)` of two BIGINT values.
-    IntegerModulo,
-    /// `mod(a, b)` of two DECIMAL values.
-    DecimalModulo,
-    /// `floor(x)` of a DECIMAL.
-    Floor,
-    /// `ceil(x)` of a DECIMAL.
-    Ceiling,
     /// `floor(x)` and `ceil(x)` of a BIGINT: its value.
     Unchanged,
-    /// `length(t)`.
-    Length,
-    /// `substr(t, i)` and `substr(t, i, k)`.
-    Substring,
-    /// `trim(t)`.
-    Trim,
 }
 
 /// An expression whose operands and types fit.

@@ -5,10 +5,6 @@ use Rattle.std.specs.List.{AllByRecursion}
 use Rattle.ds2_names.specs.Functions.{functions, under_name, function_named}
 use Rattle.ds2_names.specs.declared.functions.FunctionRow.{FunctionRow}
 
--- what holds of a row, and of those behind it
-pub and_others : {A B : Type 0} → A → B → A × B
-and_others row others = (row, others)
-
 module _ (P : Option FunctionRow → Type 0) (none : P None) where
   either : (b : Bool) (f : FunctionRow) (further : Option FunctionRow) → P (Some f) → P further → P (if b then Some f else further)
   either true f further h k = h

@@ -14,7 +14,7 @@ mod placed;
 mod schemas;
 
 pub use functions::{
-    Counts, FunctionOfMany, FunctionOfOne, FunctionRow, NamedFunction, function_named,
+    ByType, Counts, FunctionOfMany, FunctionRow, NamedFunction, function_named, null_test,
     takes_so_many,
 };
 pub use placed::{OutputName, PlacedName};

@@ -10,6 +10,9 @@ use Rattle.ds2_value.specs.declared.hash_function.HashFunction.TheVariants.{Find
 use Rattle.ds2_value.specs.declared.hash_function.IteratorFunction.{IteratorFunction}
 use Rattle.ds2_value.specs.declared.hash_function.IteratorFunction.TheVariants.{First, Next, Prev, Last}
 use Rattle.ds2_value.specs.declared.ty.Ty.{Ty}
+use Rattle.ds2_value.specs.ValueFunctions.{row_of}
+use Rattle.ds2_value.specs.declared.value_function.ValueFunction.{ValueFunction}
+use Rattle.ds2_value.specs.declared.value_function.ValueFunction.TheVariants as function
 use Rattle.ds2_code.specs.declared.instr.Instr.{Instr}
 use Rattle.ds2_code.specs.declared.instr.Instr.TheVariants as instr
 use Rattle.ds2_code.specs.OperationCode.{operation_code}
@@ -281,18 +284,18 @@ rows_keep =
     digits_keep 8 instr.Rescale (λ p s. refl) (λ p s. refl) & length_keeps 9 instr.Pad (λ n. refl) (λ n. refl) &
     length_keeps 10 instr.Cut (λ n. refl) (λ n. refl) & bare_keeps 11 instr.IAdd refl refl &
     bare_keeps 12 instr.ISub refl refl & bare_keeps 13 instr.IMul refl refl & bare_keeps 14 instr.INeg refl refl &
-    bare_keeps 15 instr.IAbs refl refl & bare_keeps 16 instr.IMod refl refl & bare_keeps 17 instr.DAdd refl refl &
+    bare_keeps 15 (instr.Apply function.IntegerAbsolute) refl refl & bare_keeps 16 (instr.Apply function.IntegerModulo) refl refl & bare_keeps 17 instr.DAdd refl refl &
     bare_keeps 18 instr.DSub refl refl & bare_keeps 19 instr.DMul refl refl & bare_keeps 20 instr.DDiv refl refl &
-    bare_keeps 21 instr.DNeg refl refl & bare_keeps 22 instr.DAbs refl refl & bare_keeps 23 instr.DMod refl refl &
-    bare_keeps 24 instr.DFloor refl refl & bare_keeps 25 instr.DCeil refl refl &
+    bare_keeps 21 instr.DNeg refl refl & bare_keeps 22 (instr.Apply function.DecimalAbsolute) refl refl & bare_keeps 23 (instr.Apply function.DecimalModulo) refl refl &
+    bare_keeps 24 (instr.Apply function.Floor) refl refl & bare_keeps 25 (instr.Apply function.Ceiling) refl refl &
     test_keeps 26 instr.ICmp (λ c. refl) (λ c. refl) & test_keeps 27 instr.DCmp (λ c. refl) (λ c. refl) &
     test_keeps 28 instr.TCmp (λ c. refl) (λ c. refl) & bare_keeps 29 instr.And refl refl &
     bare_keeps 30 instr.Or refl refl & bare_keeps 31 instr.Not refl refl & bare_keeps 32 instr.ITruth refl refl &
-    bare_keeps 33 instr.DTruth refl refl & bare_keeps 34 instr.IsNull refl refl &
+    bare_keeps 33 instr.DTruth refl refl & bare_keeps 34 (instr.Apply function.IsNull) refl refl &
     number_keeps 35 instr.Choose (λ n. refl) (λ n. refl) & number_keeps 36 instr.Least (λ n. refl) (λ n. refl) &
     number_keeps 37 instr.Greatest (λ n. refl) (λ n. refl) & bare_keeps 38 instr.Cat refl refl &
-    bare_keeps 39 instr.Len refl refl & bare_keeps 40 instr.Substr refl refl & bare_keeps 41 instr.SubFrom refl refl &
-    bare_keeps 42 instr.Trim refl refl & place_keeps 43 instr.Tick (λ p. refl) (λ p. refl) &
+    bare_keeps 39 (instr.Apply function.Length) refl refl & bare_keeps 40 (instr.Apply function.Substring) refl refl & bare_keeps 41 (instr.Apply function.SubstringFrom) refl refl &
+    bare_keeps 42 (instr.Apply function.Trim) refl refl & place_keeps 43 instr.Tick (λ p. refl) (λ p. refl) &
     number_keeps 44 instr.Jump (λ n. refl) (λ n. refl) & number_keeps 45 instr.JFalse (λ n. refl) (λ n. refl) &
     number_keeps 46 instr.JTrue (λ n. refl) (λ n. refl) & number_keeps 47 instr.Call (λ n. refl) (λ n. refl) &
     bare_keeps 48 instr.Ret refl refl & bare_keeps 49 instr.RetV refl refl & bare_keeps 50 instr.NoWhen refl refl &
@@ -306,6 +309,19 @@ rows_keep =
 abbrev MakesAgain : Instr → Option InstrRow → Type 0
 MakesAgain i None = ⊥
 MakesAgain i (Some row) = (row.shape ≡ shape_of_fields (fields_of i)) × (row.make (fields_of i) ≡ Some i)
+
+function_again : (f : ValueFunction) → MakesAgain (instr.Apply f) (row_of_code (row_of f).code)
+function_again function.IntegerAbsolute = (refl, refl)
+function_again function.IntegerModulo = (refl, refl)
+function_again function.DecimalAbsolute = (refl, refl)
+function_again function.DecimalModulo = (refl, refl)
+function_again function.Floor = (refl, refl)
+function_again function.Ceiling = (refl, refl)
+function_again function.IsNull = (refl, refl)
+function_again function.Length = (refl, refl)
+function_again function.Substring = (refl, refl)
+function_again function.SubstringFrom = (refl, refl)
+function_again function.Trim = (refl, refl)
 
 made_again : (i : Instr) → MakesAgain i (row_of_code (operation_code i))
 made_again (instr.Const n) = (refl, refl)
@@ -323,17 +339,11 @@ made_again instr.IAdd = (refl, refl)
 made_again instr.ISub = (refl, refl)
 made_again instr.IMul = (refl, refl)
 made_again instr.INeg = (refl, refl)
-made_again instr.IAbs = (refl, refl)
-made_again instr.IMod = (refl, refl)
 made_again instr.DAdd = (refl, refl)
 made_again instr.DSub = (refl, refl)
 made_again instr.DMul = (refl, refl)
 made_again instr.DDiv = (refl, refl)
 made_again instr.DNeg = (refl, refl)
-made_again instr.DAbs = (refl, refl)
-made_again instr.DMod = (refl, refl)
-made_again instr.DFloor = (refl, refl)
-made_again instr.DCeil = (refl, refl)
 made_again (instr.ICmp comparison) = (refl, rw (comparison_found comparison) refl)
 made_again (instr.DCmp comparison) = (refl, rw (comparison_found comparison) refl)
 made_again (instr.TCmp comparison) = (refl, rw (comparison_found comparison) refl)
@@ -342,15 +352,11 @@ made_again instr.Or = (refl, refl)
 made_again instr.Not = (refl, refl)
 made_again instr.ITruth = (refl, refl)
 made_again instr.DTruth = (refl, refl)
-made_again instr.IsNull = (refl, refl)
 made_again (instr.Choose n) = (refl, refl)
 made_again (instr.Least n) = (refl, refl)
 made_again (instr.Greatest n) = (refl, refl)
+made_again (instr.Apply f) = function_again f
 made_again instr.Cat = (refl, refl)
-made_again instr.Len = (refl, refl)
-made_again instr.Substr = (refl, refl)
-made_again instr.SubFrom = (refl, refl)
-made_again instr.Trim = (refl, refl)
 made_again (instr.Tick place) = (refl, refl)
 made_again (instr.Jump n) = (refl, refl)
 made_again (instr.JFalse n) = (refl, refl)

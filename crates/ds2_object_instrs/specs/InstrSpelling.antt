@@ -10,6 +10,7 @@ use Rattle.ds2_value.specs.declared.hash_function.HashFunction.TheVariants.{Find
 use Rattle.ds2_value.specs.declared.hash_function.IteratorFunction.{IteratorFunction}
 use Rattle.ds2_value.specs.declared.hash_function.IteratorFunction.TheVariants.{First, Next, Prev, Last}
 use Rattle.ds2_value.specs.declared.ty.Ty.{Ty}
+use Rattle.ds2_value.specs.declared.value_function.ValueFunction.TheVariants as function
 use Rattle.ds2_code.specs.declared.instr.Instr.{Instr}
 use Rattle.ds2_code.specs.declared.instr.Instr.TheVariants as instr
 use Rattle.ds2_code.specs.OperationCode.{operation_code}
@@ -186,13 +187,13 @@ instr_rows =
     number_row instr.Const ∷ type_row instr.Null ∷ number_row instr.GLoad ∷ number_row instr.GStore ∷
     number_row instr.LLoad ∷ number_row instr.LStore ∷ bare_row instr.DropTop ∷ bare_row instr.IToD ∷
     digits_row instr.Rescale ∷ length_row instr.Pad ∷ length_row instr.Cut ∷ bare_row instr.IAdd ∷ bare_row instr.ISub ∷
-    bare_row instr.IMul ∷ bare_row instr.INeg ∷ bare_row instr.IAbs ∷ bare_row instr.IMod ∷ bare_row instr.DAdd ∷
-    bare_row instr.DSub ∷ bare_row instr.DMul ∷ bare_row instr.DDiv ∷ bare_row instr.DNeg ∷ bare_row instr.DAbs ∷
-    bare_row instr.DMod ∷ bare_row instr.DFloor ∷ bare_row instr.DCeil ∷ test_row instr.ICmp ∷ test_row instr.DCmp ∷
+    bare_row instr.IMul ∷ bare_row instr.INeg ∷ bare_row (instr.Apply function.IntegerAbsolute) ∷ bare_row (instr.Apply function.IntegerModulo) ∷ bare_row instr.DAdd ∷
+    bare_row instr.DSub ∷ bare_row instr.DMul ∷ bare_row instr.DDiv ∷ bare_row instr.DNeg ∷ bare_row (instr.Apply function.DecimalAbsolute) ∷
+    bare_row (instr.Apply function.DecimalModulo) ∷ bare_row (instr.Apply function.Floor) ∷ bare_row (instr.Apply function.Ceiling) ∷ test_row instr.ICmp ∷ test_row instr.DCmp ∷
     test_row instr.TCmp ∷ bare_row instr.And ∷ bare_row instr.Or ∷ bare_row instr.Not ∷ bare_row instr.ITruth ∷
-    bare_row instr.DTruth ∷ bare_row instr.IsNull ∷ number_row instr.Choose ∷ number_row instr.Least ∷
-    number_row instr.Greatest ∷ bare_row instr.Cat ∷ bare_row instr.Len ∷ bare_row instr.Substr ∷ bare_row instr.SubFrom ∷
-    bare_row instr.Trim ∷ place_row instr.Tick ∷ number_row instr.Jump ∷ number_row instr.JFalse ∷ number_row instr.JTrue ∷
+    bare_row instr.DTruth ∷ bare_row (instr.Apply function.IsNull) ∷ number_row instr.Choose ∷ number_row instr.Least ∷
+    number_row instr.Greatest ∷ bare_row instr.Cat ∷ bare_row (instr.Apply function.Length) ∷ bare_row (instr.Apply function.Substring) ∷ bare_row (instr.Apply function.SubstringFrom) ∷
+    bare_row (instr.Apply function.Trim) ∷ place_row instr.Tick ∷ number_row instr.Jump ∷ number_row instr.JFalse ∷ number_row instr.JTrue ∷
     number_row instr.Call ∷ bare_row instr.Ret ∷ bare_row instr.RetV ∷ bare_row instr.NoWhen ∷ number_row instr.Output ∷
     bare_row instr.Show ∷ number_row instr.Put ∷ call_row hash_function_values instr.HCall ∷
     call_row iterator_function_values instr.ICall ∷ number_row instr.SetParm ∷ bare_row instr.End ∷ []

@@ -5,9 +5,9 @@ ghost use Rattle.ds2_object_words.specs.Parts.{ReadsPart, Writes, and_read};
 ghost use Rattle.ds2_object_instrs.specs.InstrSpelling.{comparison_values, comparison_number, hash_function_values, hash_function_number, iterator_function_values, iterator_function_number, field_number, field_type, field_digits, field_length, field_test, field_place, field_call, is_no_field, shape_part, shape_of_fields, fields_spelled, written_place, function_call, bare_row, row_of_code, instr_row_of, fields_of, written_instr_part, written_instr_of, instr_of};
 
 use ds2_base::{Bytes, OutOfMemory, Place, Stop};
-use ds2_code::{Instr, with_rows};
+use ds2_code::{Instr, of_row, with_rows};
 use ds2_object_words::{Flaw, Spelled, Unread, bad};
-use ds2_value::{Comparison, HashFunction, IteratorFunction, Ty};
+use ds2_value::{Comparison, HashFunction, IteratorFunction, Ty, ValueFunction};
 use std::alloc::Global;
 
 /// What stands behind an operation code.
@@ -57,6 +57,7 @@ const START: Place = Place { line: 1, column: 1 };
 // An instruction of a row, by its name and its fields.
 macro_rules! row_instr {
     (bare $name:ident) => { Instr::$name };
+    (function $name:ident $function:ident) => { Instr::$name(ValueFunction::$function) };
     (number $name:ident) => { Instr::$name(0) };
     (ty $name:ident) => { Instr::$name(Ty::BigInt) };
     (digits $name:ident) => { Instr::$name(0, 0) };
@@ -69,8 +70,8 @@ macro_rules! row_instr {
 
 // A list of an instruction of each row.
 macro_rules! row_instrs {
-    ([] $($name:ident($fields:ident) = $code:literal,)*) => {
-        [$(row_instr!($fields $name)),*]
+    ([] $($name:ident($fields:ident $($function:ident)?) = $code:literal,)*) => {
+        [$(row_instr!($fields $name $($function)?)),*]
     };
 }
 
@@ -144,6 +145,7 @@ fn iterator_function_number(function: IteratorFunction) -> u8
 // The shape of fields.
 macro_rules! shape {
     (bare) => { Shape::NoField };
+    (function) => { Shape::NoField };
     (number) => { Shape::NumberField };
     (ty) => { Shape::TypeField };
     (digits) => { Shape::DigitsFields };
@@ -156,9 +158,9 @@ macro_rules! shape {
 
 // The shape of the fields of an instruction's row.
 macro_rules! shape_of_row {
-    ([$row:expr] $($name:ident($fields:ident) = $code:literal,)*) => {
+    ([$row:expr] $($name:ident($fields:ident $($function:ident)?) = $code:literal,)*) => {
         match $row {
-            $(Instr::$name { .. } => shape!($fields),)*
+            $(of_row!($fields $name $($function)?) => shape!($fields),)*
         }
     };
 }
@@ -300,21 +302,22 @@ fn bare_instr(row: Instr, fields: Fields) -> Option<Instr>
 
 // The instruction of a name with these fields, where there is one.
 macro_rules! made {
-    (bare $name:ident $given:ident) => { bare_instr(Instr::$name, $given) };
-    (number $name:ident $given:ident) => { Some(Instr::$name($given.number()?)) };
-    (ty $name:ident $given:ident) => { Some(Instr::$name($given.ty()?)) };
-    (digits $name:ident $given:ident) => {{
+    (bare $given:ident $name:ident) => { bare_instr(Instr::$name, $given) };
+    (function $given:ident $name:ident $function:ident) => { bare_instr(Instr::$name(ValueFunction::$function), $given) };
+    (number $given:ident $name:ident) => { Some(Instr::$name($given.number()?)) };
+    (ty $given:ident $name:ident) => { Some(Instr::$name($given.ty()?)) };
+    (digits $given:ident $name:ident) => {{
         let (p, s) = $given.digits()?;
         Some(Instr::$name(p, s))
     }};
-    (length $name:ident $given:ident) => { Some(Instr::$name($given.length()?)) };
-    (test $name:ident $given:ident) => { Some(Instr::$name($given.comparison()?)) };
-    (place $name:ident $given:ident) => { Some(Instr::$name($given.place()?)) };
-    (hash_call $name:ident $given:ident) => {{
+    (length $given:ident $name:ident) => { Some(Instr::$name($given.length()?)) };
+    (test $given:ident $name:ident) => { Some(Instr::$name($given.comparison()?)) };
+    (place $given:ident $name:ident) => { Some(Instr::$name($given.place()?)) };
+    (hash_call $given:ident $name:ident) => {{
         let (hash, function) = $given.hash_call()?;
         Some(Instr::$name(hash, function))
     }};
-    (iterator_call $name:ident $given:ident) => {{
+    (iterator_call $given:ident $name:ident) => {{
         let (iterator, function) = $given.iterator_call()?;
         Some(Instr::$name(iterator, function))
     }};
@@ -322,9 +325,9 @@ macro_rules! made {
 
 // The instruction of an instruction's row with these fields, where there is one.
 macro_rules! made_in_row {
-    ([$row:ident $given:ident] $($name:ident($fields:ident) = $code:literal,)*) => {
+    ([$row:ident $given:ident] $($name:ident($fields:ident $($function:ident)?) = $code:literal,)*) => {
         match $row {
-            $(Instr::$name { .. } => made!($fields $name $given),)*
+            $(of_row!($fields $name $($function)?) => made!($fields $given $name $($function)?),)*
         }
     };
 }
@@ -338,20 +341,22 @@ fn instr_with(row: Instr, fields: Fields) -> Option<Instr>
 
 // The instruction of a name, as a pattern, with its fields, of which there are two at the most.
 macro_rules! taken_apart {
-    (bare $name:ident $a:ident $b:ident) => { Instr::$name };
-    (number $name:ident $a:ident $b:ident) => { Instr::$name($a) };
-    (ty $name:ident $a:ident $b:ident) => { Instr::$name($a) };
-    (digits $name:ident $a:ident $b:ident) => { Instr::$name($a, $b) };
-    (length $name:ident $a:ident $b:ident) => { Instr::$name($a) };
-    (test $name:ident $a:ident $b:ident) => { Instr::$name($a) };
-    (place $name:ident $a:ident $b:ident) => { Instr::$name($a) };
-    (hash_call $name:ident $a:ident $b:ident) => { Instr::$name($a, $b) };
-    (iterator_call $name:ident $a:ident $b:ident) => { Instr::$name($a, $b) };
+    (bare $a:ident $b:ident $name:ident) => { Instr::$name };
+    (function $a:ident $b:ident $name:ident $function:ident) => { Instr::$name(ValueFunction::$function) };
+    (number $a:ident $b:ident $name:ident) => { Instr::$name($a) };
+    (ty $a:ident $b:ident $name:ident) => { Instr::$name($a) };
+    (digits $a:ident $b:ident $name:ident) => { Instr::$name($a, $b) };
+    (length $a:ident $b:ident $name:ident) => { Instr::$name($a) };
+    (test $a:ident $b:ident $name:ident) => { Instr::$name($a) };
+    (place $a:ident $b:ident $name:ident) => { Instr::$name($a) };
+    (hash_call $a:ident $b:ident $name:ident) => { Instr::$name($a, $b) };
+    (iterator_call $a:ident $b:ident $name:ident) => { Instr::$name($a, $b) };
 }
 
 // These fields as they are written.
 macro_rules! written {
     (bare $a:ident $b:ident) => { Fields::NoField };
+    (function $a:ident $b:ident) => { Fields::NoField };
     (number $a:ident $b:ident) => { Fields::NumberField($a) };
     (ty $a:ident $b:ident) => { Fields::TypeField($a) };
     (digits $a:ident $b:ident) => { Fields::DigitsFields($a, $b) };
@@ -364,9 +369,9 @@ macro_rules! written {
 
 // The fields of an instruction as they are written.
 macro_rules! written_fields {
-    ([$instr:expr] $($name:ident($fields:ident) = $code:literal,)*) => {
+    ([$instr:expr] $($name:ident($fields:ident $($function:ident)?) = $code:literal,)*) => {
         match $instr {
-            $(taken_apart!($fields $name a b) => written!($fields a b),)*
+            $(taken_apart!($fields a b $name $($function)?) => written!($fields a b),)*
         }
     };
 }

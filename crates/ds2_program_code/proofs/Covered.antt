@@ -1,5 +1,5 @@
 -- Typed statements are covered.
-use Rattle.std.proofs.Common.{◌≡◌, ℕ, Bool, true, false, List, [], ◌∷◌, ◌++◌, map, Option, Some, None, is_some, inl, inr, refl, sym, ap, ◌∙◌, subst}
+use Rattle.std.proofs.Common.{◌≡◌, ℕ, Bool, true, false, List, [], ◌∷◌, ◌++◌, map, Option, Some, None, is_some, refl, sym, ap, ◌∙◌, subst}
 use Rattle.std.specs.Prelude.{slice_get}
 use Rattle.ds2_value.specs.declared.ty.Ty.{Ty}
 use Rattle.ds2_meaning.specs.declared.expressions.Function.{Function}
@@ -19,6 +19,7 @@ use Rattle.ds2_gen.specs.ExpressionCode.{CodeNumbers, expressions_count}
 use Rattle.ds2_gen.specs.MethodCode.{parameter_part}
 use Rattle.ds2_program_code.specs.TypedIsCovered.{NamesHavePlaces, ReturnsAs, TypedIsCovered}
 use Rattle.ds2_program_code.specs.UsedConstants.{UsedConstant, constants_used, constants_of_links, constants_of_all, constants_of_arguments, constants_of_items, constants_of_step, constants_of_parameters, constants_of_statement, constants_of_body, constants_of_whens, HaveConstants}
+use Rattle.ds2_program_code.proofs.FunctionTypes.{function_counts}
 
 -- ---- how many arguments functions take
 
@@ -27,32 +28,12 @@ one_of f NoExpression ty none more is = absurd (none is)
 one_of f (Then e NoExpression) ty none more is = refl
 one_of f (Then e (Then g rest)) ty none more is = absurd (more (expression_type e) (expression_type g) (expression_types rest) is)
 
-two_of : (f : Function) (arguments : TypedExpressions) (ty : Ty) → (IsApplication f [] ty → ⊥) → ((a : Ty) → IsApplication f (a ∷ []) ty → ⊥) → ((a b c : Ty) (rest : List Ty) → IsApplication f (a ∷ b ∷ c ∷ rest) ty → ⊥)
-    → IsApplication f (expression_types arguments) ty → expressions_count arguments ≡ 2
-two_of f NoExpression ty none one more is = absurd (none is)
-two_of f (Then e NoExpression) ty none one more is = absurd (one (expression_type e) is)
-two_of f (Then e (Then g NoExpression)) ty none one more is = refl
-two_of f (Then e (Then g (Then h rest))) ty none one more is = absurd (more (expression_type e) (expression_type g) (expression_type h) (expression_types rest) is)
-
 takes_count : (f : Function) (arguments : TypedExpressions) (ty : Ty) → IsApplication f (expression_types arguments) ty → TakesCount f (expressions_count arguments)
-takes_count function.IsNull arguments ty is = one_of function.IsNull arguments ty (λ h. h) (λ a b rest h. h) is
+takes_count (function.Value f) arguments ty is = function_counts f arguments ty is
 takes_count function.Coalesce arguments ty is = tt
 takes_count function.Least arguments ty is = tt
 takes_count function.Greatest arguments ty is = tt
-takes_count function.IntegerAbsolute arguments ty is = one_of function.IntegerAbsolute arguments ty (λ h. h) (λ a b rest h. h) is
-takes_count function.DecimalAbsolute arguments ty is = one_of function.DecimalAbsolute arguments ty (λ h. h) (λ a b rest h. h) is
-takes_count function.IntegerModulo arguments ty is = two_of function.IntegerModulo arguments ty (λ h. h) (λ a h. h) (λ a b c rest h. h) is
-takes_count function.DecimalModulo arguments ty is = two_of function.DecimalModulo arguments ty (λ h. h) (λ a h. h) (λ a b c rest h. h) is
-takes_count function.Floor arguments ty is = one_of function.Floor arguments ty (λ h. h) (λ a b rest h. h) is
-takes_count function.Ceiling arguments ty is = one_of function.Ceiling arguments ty (λ h. h) (λ a b rest h. h) is
 takes_count function.Unchanged arguments ty is = one_of function.Unchanged arguments ty (λ h. h) (λ a b rest h. h) is
-takes_count function.Length arguments ty is = one_of function.Length arguments ty (λ h. h) (λ a b rest h. h) is
-takes_count function.Substring NoExpression ty is = absurd is
-takes_count function.Substring (Then e NoExpression) ty is = absurd is
-takes_count function.Substring (Then e (Then g NoExpression)) ty is = inl refl
-takes_count function.Substring (Then e (Then g (Then h NoExpression))) ty is = inr refl
-takes_count function.Substring (Then e (Then g (Then h (Then i rest)))) ty is = absurd is
-takes_count function.Trim arguments ty is = one_of function.Trim arguments ty (λ h. h) (λ a b rest h. h) is
 
 -- ---- constants
 

@@ -27,6 +27,7 @@ pub mod Openings
 pub mod Placements
 pub mod Roles
 pub mod KeptTypes
+pub mod FunctionTypes
 pub mod Covered
 pub mod TypeBounds
 pub mod OperandLeads

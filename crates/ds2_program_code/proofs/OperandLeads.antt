@@ -1,9 +1,8 @@
 -- The code of a typed expression leaves an operand of its type.
-use Rattle.std.proofs.Common.{◌≡◌, ℕ, zero, suc, ◌+◌, ◌≤◌, min, max, nat_le, nat_eq, Bool, true, false, List, [], ◌∷◌, ◌++◌, length, map, reverse, replicate, slice_get, Option, Some, None, IsTrue, is_some, refl, sym, ap, ◌∙◌, subst, arith, le-leb, eq-eqb, if◌then◌else◌}
-use Rattle.std.specs.List.{AllByRecursion}
+use Rattle.std.proofs.Common.{◌≡◌, ℕ, zero, suc, ◌+◌, ◌≤◌, min, max, nat_le, nat_eq, Bool, true, false, List, [], ◌∷◌, ◌++◌, length, map, reverse, replicate, slice_get, Option, Some, None, IsTrue, is_some, refl, sym, ap, ◌∙◌, subst, arith, le-leb, eq-eqb, if◌then◌else◌, append_assoc, append-nil}
 use Rattle.std.specs.Option.{option_map}
 use Rattle.std.proofs.lemmas.Bool.{true≢false, and_from}
-use Rattle.std.proofs.lemmas.List.{reverse-append}
+use Rattle.std.proofs.lemmas.List.{reverse-append, reverse-reverse}
 use Rattle.ds2_value.specs.Types.{in_bounds, same_ty}
 use Rattle.ds2_value.specs.declared.comparison.Comparison.{Comparison}
 use Rattle.ds2_value.specs.declared.hash_function.HashFunction.{HashFunction}
@@ -32,12 +31,17 @@ use Rattle.ds2_code.specs.declared.parts.ParameterPart.{ParameterPart}
 use Rattle.ds2_code.specs.declared.parts.ProgramParts.{ProgramParts}
 use Rattle.ds2_code.specs.CodeBound.{jump_target, falls_through}
 use Rattle.ds2_code.specs.InstructionTable.{kind_of}
-use Rattle.ds2_code.specs.OperandTypes.{OperandTypes, CodeRole, OperandClass, OneType, is_of_class, TakenTypes, take_classes, with_type, one_for, none_for, always, decimal_of_scale, is_number_type, chosen_types, chosen_numbers, when_there, stored_type, with_in_out_types, with_result_type, after_call_types, call_types, types_behind}
+use Rattle.ds2_value.specs.ValueFunctions.{is_of_class, always, decimal_of_scale, type_by, row_of, function_type}
+use Rattle.ds2_value.specs.declared.value_function.OperandClass.{OperandClass}
+use Rattle.ds2_value.specs.declared.value_function.OperandClass.TheVariants.{OneType}
+use Rattle.ds2_value.specs.declared.value_function.ValueFunction.{ValueFunction}
+use Rattle.ds2_code.specs.OperandTypes.{OperandTypes, CodeRole, TakenTypes, take_classes, with_type, one_for, none_for, is_number_type, chosen_types, chosen_numbers, when_there, stored_type, with_in_out_types, with_result_type, after_call_types, call_types, types_behind}
 use Rattle.ds2_gen.specs.CodeCells.{CodeCell, SlotCell, LocalCell, HashCell, IteratorCell, ParameterCell}
 use Rattle.ds2_gen.specs.ExpressionCode.{Callee, CodeNumbers, constant_instr, load_instr, cell_of, store_instr, call_instr, object_cell, hash_instr, iterator_instr, conversion_code, truth_code, prefix_code, operation_instr, operand_code, left_operand_code, comparison_instr, function_code, expressions_count, back_code, expression_code, arguments_code, expressions_code, links_code}
 use Rattle.ds2_gen.specs.MethodCode.{parameter_part}
 use Rattle.ds2_program_code.specs.UsedConstants.{UsedConstant, constants_used, constants_of_links, constants_of_all, constants_of_arguments}
 use Rattle.ds2_program_code.specs.TypedOperands.{OperandsLead, HasCellOfType, HasConstantOfType, HaveConstantsOfTypes, NamesHaveTypes, ExpressionsLead}
+use Rattle.ds2_program_code.proofs.FunctionTypes.{function_taken, count_is, classes_taken}
 use Rattle.ds2_program_code.proofs.TypeBounds.{scale_bound, operation_bounds, expression_bounds}
 
 same_taken : (a b : TakenTypes) → Some a ≡ Some b → a ≡ b
@@ -63,10 +67,6 @@ abbrev IsNumberWhere : Operation → Ty → Type 0
 IsNumberWhere operation.And t = IsNumeric t
 IsNumberWhere operation.Or t = IsNumeric t
 IsNumberWhere _ t = Unit {0}
-
--- types in bounds
-abbrev BoundedTypes : List Ty → Type 0
-BoundedTypes types = AllByRecursion (λ (t : Ty). in_bounds t ≡ true) types
 
 -- so many operands of one type
 abbrev copies : ℕ → Ty → OperandTypes → OperandTypes
@@ -172,12 +172,6 @@ module _ (code : ProgramParts) (params : List (Option Ty)) (role : CodeRole) whe
   negate_leads (DecimalOf q r) below class = refl
   negate_leads (Char n) below class = absurd cc
   negate_leads (Varchar n) below class = absurd cc
-
-  absolute_leads : (t : Ty) (below : OperandTypes) → class_of t ≡ Decimals → types_behind code params role instr.DAbs (t ∷ below) ≡ Some (t ∷ below)
-  absolute_leads BigInt below class = absurd cc
-  absolute_leads (DecimalOf q r) below class = refl
-  absolute_leads (Char n) below class = absurd cc
-  absolute_leads (Varchar n) below class = absurd cc
 
   -- the result has the type that is there
   resulting : (i : Instr) (s below : OperandTypes) (r t : Ty) → r ≡ t → types_behind code params role i s ≡ Some (t ∷ below) → types_behind code params role i s ≡ Some (r ∷ below)
@@ -338,93 +332,33 @@ module _ (code : ProgramParts) (params : List (Option Ty)) (role : CodeRole) whe
 
   -- ---- functions
 
-  length_leads : (t : Ty) (below : OperandTypes) → class_of t ≡ Texts → types_behind code params role instr.Len (t ∷ below) ≡ Some (BigInt ∷ below)
-  length_leads BigInt below e = absurd cc
-  length_leads (DecimalOf p s) below e = absurd cc
-  length_leads (Char n) below e = refl
-  length_leads (Varchar n) below e = refl
+  pushed_is : (types : List Ty) (below : OperandTypes) → pushed_types types below ≡ reverse types ++ below
+  pushed_is [] below = refl
+  pushed_is (t ∷ types) below =
+      pushed_is types (t ∷ below) ∙ sym (append_assoc (reverse types) (t ∷ []) below) ∙ ap (λ (z : List Ty). z ++ below) (sym (reverse-append (t ∷ []) types))
 
-  trim_leads : (t : Ty) (below : OperandTypes) → class_of t ≡ Texts → types_behind code params role instr.Trim (t ∷ below) ≡ Some (Varchar (type_width t) ∷ below)
-  trim_leads BigInt below e = absurd cc
-  trim_leads (DecimalOf p s) below e = absurd cc
-  trim_leads (Char n) below e = refl
-  trim_leads (Varchar n) below e = refl
+  -- a function of values takes its arguments off
+  applied_leads : (f : ValueFunction) (types : List Ty) (result : Ty) (below : OperandTypes) → function_type f types ≡ Some result
+      → types_behind code params role (instr.Apply f) (pushed_types types below) ≡ Some (result ∷ below)
+  applied_leads f types result below is =
+      let k = function_taken f types result is in
+      let gives = type_by (row_of f).result in
+      ap (λ (s : OperandTypes). one_for gives (take_classes (row_of f).operands [] s)) (pushed_is types below)
+      ∙ ap (one_for gives) (classes_taken (row_of f).operands (reverse types) [] below k.0)
+      ∙ ap (λ (z : List Ty). with_type (gives z) below) (append-nil (reverse (reverse types)) ∙ reverse-reverse types)
+      ∙ ap (λ o. with_type o below) k.1
 
-  part_leads : (t : Ty) (below : OperandTypes) → class_of t ≡ Texts → types_behind code params role instr.SubFrom (BigInt ∷ t ∷ below) ≡ Some (Varchar (type_width t) ∷ below)
-  part_leads BigInt below e = absurd cc
-  part_leads (DecimalOf p s) below e = absurd cc
-  part_leads (Char n) below e = refl
-  part_leads (Varchar n) below e = refl
-
-  middle_leads : (t : Ty) (below : OperandTypes) → class_of t ≡ Texts → types_behind code params role instr.Substr (BigInt ∷ BigInt ∷ t ∷ below) ≡ Some (Varchar (type_width t) ∷ below)
-  middle_leads BigInt below e = absurd cc
-  middle_leads (DecimalOf p s) below e = absurd cc
-  middle_leads (Char n) below e = refl
-  middle_leads (Varchar n) below e = refl
-
-  floor_leads : (t : Ty) (below : OperandTypes) → class_of t ≡ Decimals → types_behind code params role instr.DFloor (t ∷ below) ≡ Some (DecimalOf 38 0 ∷ below)
-  floor_leads BigInt below e = absurd cc
-  floor_leads (DecimalOf p s) below e = refl
-  floor_leads (Char n) below e = absurd cc
-  floor_leads (Varchar n) below e = absurd cc
-
-  ceiling_leads : (t : Ty) (below : OperandTypes) → class_of t ≡ Decimals → types_behind code params role instr.DCeil (t ∷ below) ≡ Some (DecimalOf 38 0 ∷ below)
-  ceiling_leads BigInt below e = absurd cc
-  ceiling_leads (DecimalOf p s) below e = refl
-  ceiling_leads (Char n) below e = absurd cc
-  ceiling_leads (Varchar n) below e = absurd cc
-
-  function_leads : (f : Function) (types : List Ty) (result : Ty) (below : OperandTypes) → BoundedTypes types → IsApplication f types result → OperandsLead code params role (pushed_types types below) (function_code f (length types)) (result ∷ below)
-  function_leads function.IsNull [] result below bounds is = absurd is
-  function_leads function.IsNull (a ∷ []) result below bounds is = leads_one instr.IsNull (a ∷ below) (result ∷ below) (ap (λ x. Some (x ∷ below)) (sym is)) refl refl
-  function_leads function.IsNull (a ∷ b ∷ types) result below bounds is = absurd is
-  function_leads function.Coalesce types result below bounds is =
+  function_leads : (f : Function) (types : List Ty) (result : Ty) (below : OperandTypes) → IsApplication f types result → OperandsLead code params role (pushed_types types below) (function_code f (length types)) (result ∷ below)
+  function_leads (function.Value f) types result below is = leads_one (instr.Apply f) (pushed_types types below) (result ∷ below) (applied_leads f types result below is) refl refl
+  function_leads function.Coalesce types result below is =
       leads_one (instr.Choose (length types)) (pushed_types types below) (result ∷ below) (chosen_from (instr.Choose (length types)) result types below is.1 (chosen_lead 1 (length types) result below is.0.0 is.0.0 is.0.1)) refl refl
-  function_leads function.Least types result below bounds is =
+  function_leads function.Least types result below is =
       leads_one (instr.Least (length types)) (pushed_types types below) (result ∷ below) (chosen_from (instr.Least (length types)) result types below is.2 (numbers_lead (length types) result below is.0.0 is.0.1 is.1)) refl refl
-  function_leads function.Greatest types result below bounds is =
+  function_leads function.Greatest types result below is =
       leads_one (instr.Greatest (length types)) (pushed_types types below) (result ∷ below) (chosen_from (instr.Greatest (length types)) result types below is.2 (numbers_lead (length types) result below is.0.0 is.0.1 is.1)) refl refl
-  function_leads function.IntegerAbsolute [] result below bounds is = absurd is
-  function_leads function.IntegerAbsolute (a ∷ []) result below bounds is =
-      leads_one instr.IAbs (a ∷ below) (result ∷ below) (resulting instr.IAbs (a ∷ below) below result BigInt is.1 (ap (λ x. types_behind code params role instr.IAbs (x ∷ below)) is.0)) refl refl
-  function_leads function.IntegerAbsolute (a ∷ b ∷ types) result below bounds is = absurd is
-  function_leads function.DecimalAbsolute [] result below bounds is = absurd is
-  function_leads function.DecimalAbsolute (a ∷ []) result below bounds is = leads_one instr.DAbs (a ∷ below) (result ∷ below) (resulting instr.DAbs (a ∷ below) below result a is.1 (absolute_leads a below is.0)) refl refl
-  function_leads function.DecimalAbsolute (a ∷ b ∷ types) result below bounds is = absurd is
-  function_leads function.IntegerModulo [] result below bounds is = absurd is
-  function_leads function.IntegerModulo (a ∷ []) result below bounds is = absurd is
-  function_leads function.IntegerModulo (a ∷ b ∷ []) result below bounds is = leads_one instr.IMod (b ∷ a ∷ below) (result ∷ below) (integers_lead instr.IMod a b result below is.0 is.1 is.2 refl) refl refl
-  function_leads function.IntegerModulo (a ∷ b ∷ c ∷ types) result below bounds is = absurd is
-  function_leads function.DecimalModulo [] result below bounds is = absurd is
-  function_leads function.DecimalModulo (a ∷ []) result below bounds is = absurd is
-  function_leads function.DecimalModulo (a ∷ b ∷ []) result below bounds is =
-      leads_one instr.DMod (b ∷ a ∷ below) (result ∷ below) (decimals_lead instr.DMod max a b result below is.0 is.1 is.2 (bound_of (type_scale a) (type_scale b) (scale_bound a bounds.0) (scale_bound b bounds.1.0)) (λ p s q t. refl)) refl refl
-  function_leads function.DecimalModulo (a ∷ b ∷ c ∷ types) result below bounds is = absurd is
-  function_leads function.Floor [] result below bounds is = absurd is
-  function_leads function.Floor (a ∷ []) result below bounds is = leads_one instr.DFloor (a ∷ below) (result ∷ below) (resulting instr.DFloor (a ∷ below) below result (DecimalOf 38 0) is.1 (floor_leads a below is.0)) refl refl
-  function_leads function.Floor (a ∷ b ∷ types) result below bounds is = absurd is
-  function_leads function.Ceiling [] result below bounds is = absurd is
-  function_leads function.Ceiling (a ∷ []) result below bounds is = leads_one instr.DCeil (a ∷ below) (result ∷ below) (resulting instr.DCeil (a ∷ below) below result (DecimalOf 38 0) is.1 (ceiling_leads a below is.0)) refl refl
-  function_leads function.Ceiling (a ∷ b ∷ types) result below bounds is = absurd is
-  function_leads function.Unchanged [] result below bounds is = absurd is
-  function_leads function.Unchanged (a ∷ []) result below bounds is = ap (λ x. x ∷ below) (is.0 ∙ sym is.1)
-  function_leads function.Unchanged (a ∷ b ∷ types) result below bounds is = absurd is
-  function_leads function.Length [] result below bounds is = absurd is
-  function_leads function.Length (a ∷ []) result below bounds is = leads_one instr.Len (a ∷ below) (result ∷ below) (resulting instr.Len (a ∷ below) below result BigInt is.1 (length_leads a below is.0)) refl refl
-  function_leads function.Length (a ∷ b ∷ types) result below bounds is = absurd is
-  function_leads function.Substring [] result below bounds is = absurd is
-  function_leads function.Substring (a ∷ []) result below bounds is = absurd is
-  function_leads function.Substring (a ∷ b ∷ []) result below bounds is =
-      leads_one instr.SubFrom (b ∷ a ∷ below) (result ∷ below)
-      (resulting instr.SubFrom (b ∷ a ∷ below) below result (Varchar (type_width a)) is.2 (ap (λ x. types_behind code params role instr.SubFrom (x ∷ a ∷ below)) is.1 ∙ part_leads a below is.0)) refl refl
-  function_leads function.Substring (a ∷ b ∷ c ∷ []) result below bounds is =
-      leads_one instr.Substr (c ∷ b ∷ a ∷ below) (result ∷ below)
-      (resulting instr.Substr (c ∷ b ∷ a ∷ below) below result (Varchar (type_width a)) is.3
-      (ap (λ x. types_behind code params role instr.Substr (x ∷ b ∷ a ∷ below)) is.2 ∙ ap (λ x. types_behind code params role instr.Substr (BigInt ∷ x ∷ a ∷ below)) is.1 ∙ middle_leads a below is.0)) refl refl
-  function_leads function.Substring (a ∷ b ∷ c ∷ d ∷ types) result below bounds is = absurd is
-  function_leads function.Trim [] result below bounds is = absurd is
-  function_leads function.Trim (a ∷ []) result below bounds is = leads_one instr.Trim (a ∷ below) (result ∷ below) (resulting instr.Trim (a ∷ below) below result (Varchar (type_width a)) is.1 (trim_leads a below is.0)) refl refl
-  function_leads function.Trim (a ∷ b ∷ types) result below bounds is = absurd is
+  function_leads function.Unchanged [] result below is = absurd is
+  function_leads function.Unchanged (a ∷ []) result below is = ap (λ x. x ∷ below) (is.0 ∙ sym is.1)
+  function_leads function.Unchanged (a ∷ b ∷ types) result below is = absurd is
 
   -- ---- calls
 
@@ -471,10 +405,6 @@ types_of_parameters_are : (ps : List Parameter) → map (λ (p : ParameterPart).
 types_of_parameters_are [] = refl
 types_of_parameters_are (p ∷ ps) = ap (λ ts. p.ty ∷ ts) (types_of_parameters_are ps)
 
-count_is : (es : TypedExpressions) → expressions_count es ≡ length (expression_types es)
-count_is NoExpression = refl
-count_is (Then e rest) = ap (λ n. suc n) (count_is rest)
-
 module _ (code : ProgramParts) (params : List (Option Ty)) (role : CodeRole) (numbers : CodeNumbers) (names : NamesInScope) (have_types : NamesHaveTypes code role numbers names) where
   -- the last values of in_out parameters go into their variables
   pub back_leads : (ps : List Parameter) (arguments : TypedArguments) (below : OperandTypes) → AreTypedArguments names ps arguments → OperandsLead code params role (with_in_out_types (map parameter_part ps) below) (back_code numbers arguments) below
@@ -509,10 +439,6 @@ module _ (code : ProgramParts) (params : List (Option Ty)) (role : CodeRole) (nu
   bounds_of : (e : TypedExpression) → IsTypedExpression names e → in_bounds (expression_type e) ≡ true
   bounds_of e typed = expression_bounds names have_types.bounds have_types.results e typed
 
-  bounds_of_all : (es : TypedExpressions) → AreTypedExpressions names es → BoundedTypes (expression_types es)
-  bounds_of_all NoExpression typed = tt
-  bounds_of_all (Then e rest) typed = (bounds_of e typed.0, bounds_of_all rest typed.1)
-
   left_type_bounds : (widens : Bool) (ty left : Ty) → in_bounds ty ≡ true → IsLeftOperand widens ty left → in_bounds left ≡ true
   left_type_bounds true ty left h is = ap in_bounds is.1
   left_type_bounds false ty left h is = ap in_bounds is ∙ h
@@ -541,7 +467,7 @@ module _ (code : ProgramParts) (params : List (Option Ty)) (role : CodeRole) (nu
     expression_leads (Applied f arguments ty) s have typed =
         leads_append code params role (expressions_code numbers arguments) (function_code f (expressions_count arguments)) s (pushed_types (expression_types arguments) s) (ty ∷ s) (expressions_lead arguments s have typed.0)
         (subst (λ n. OperandsLead code params role (pushed_types (expression_types arguments) s) (function_code f n) (ty ∷ s)) (sym (count_is arguments))
-        (function_leads code params role f (expression_types arguments) ty s (bounds_of_all arguments typed.0) typed.1))
+        (function_leads code params role f (expression_types arguments) ty s typed.1))
     expression_leads (Called instance number arguments ty) s have typed =
         let method = typed.0 in
         let it = have_types.methods instance number method typed.1 in

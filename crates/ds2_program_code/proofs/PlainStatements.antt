@@ -18,7 +18,9 @@ use Rattle.ds2_meaning.specs.TypedStatement.{ParameterValue, Item, Text, Shown, 
 use Rattle.ds2_code.specs.declared.instr.Instr.TheVariants as instr
 use Rattle.ds2_code.specs.declared.parts.Constant.{Constant as ConstantPart}
 use Rattle.ds2_code.specs.declared.parts.ProgramParts.{ProgramParts}
-use Rattle.ds2_code.specs.OperandTypes.{OperandTypes, CodeRole, AnyText, is_text_type, take_classes, with_type, none_for, stored_type, with_in_out_types, with_result_type}
+use Rattle.ds2_value.specs.ValueFunctions.{is_text_type}
+use Rattle.ds2_value.specs.declared.value_function.OperandClass.TheVariants.{AnyText}
+use Rattle.ds2_code.specs.OperandTypes.{OperandTypes, CodeRole, take_classes, with_type, none_for, stored_type, with_in_out_types, with_result_type}
 use Rattle.ds2_gen.specs.CodeCells.{CodeCell, SlotCell, LocalCell, HashCell, IteratorCell, ParameterCell}
 use Rattle.ds2_gen.specs.ExpressionCode.{Callee, CodeNumbers, store_instr, call_instr, truth_code, back_code, expression_code, arguments_code, comparison_instr, condition_code}
 use Rattle.ds2_gen.specs.MethodCode.{parameter_part}

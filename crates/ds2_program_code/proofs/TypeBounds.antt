@@ -1,9 +1,12 @@
 -- The types of typed expressions are in bounds.
-use Rattle.std.proofs.Common.{◌≡◌, ℕ, ◌+◌, ◌≤◌, min, max, nat_le, Bool, true, false, List, [], ◌∷◌, length, slice_get, Option, Some, refl, sym, ap, ◌∙◌, arith, le-leb, leb-true}
+use Rattle.std.proofs.Common.{◌≡◌, ℕ, ◌+◌, ◌≤◌, min, max, nat_le, Bool, true, false, List, [], ◌∷◌, length, slice_get, Option, Some, None, refl, sym, ap, ◌∙◌, arith, le-leb, leb-true}
 use Rattle.std.proofs.lemmas.Bool.{and_from, and_parts}
 use Rattle.ds2_value.specs.Types.{is_from_one, in_bounds}
+use Rattle.ds2_value.specs.ValueFunctions.{type_by, row_of}
 use Rattle.ds2_value.specs.declared.ty.Ty.{Ty}
 use Rattle.ds2_value.specs.declared.ty.Ty.TheVariants.{BigInt, Decimal as DecimalOf, Char, Varchar}
+use Rattle.ds2_value.specs.declared.value_function.ResultType.{ResultType}
+use Rattle.ds2_value.specs.declared.value_function.ResultType.TheVariants.{Integer, WholeDecimal, AsOperand, GreaterScale, PartOfFirst}
 use Rattle.ds2_meaning.specs.declared.expressions.Function.{Function}
 use Rattle.ds2_meaning.specs.declared.expressions.Function.TheVariants as function
 use Rattle.ds2_meaning.specs.declared.expressions.Operation.{Operation}
@@ -14,6 +17,7 @@ use Rattle.ds2_meaning.specs.declared.location.Reference.{Reference}
 use Rattle.ds2_meaning.specs.IsTyped.{NamesInScope, reference_type, class_of, Texts, type_scale, type_width, IsOperation, IsPrefix, AllOfType, IsApplication, chain_type, expression_type, expression_types, IsLeftOperand, IsTypedExpression, AreTypedLinks, AreTypedExpressions}
 use Rattle.ds2_meaning.specs.Method.{MethodTree}
 use Rattle.ds2_meaning.specs.TypedExpression.{TypedExpression, Constant, Variable, Widen, Convert, Prefixed, Chain, Compared, Applied, Called, HashCalled, IteratorCalled, Links, NoLink, Link, TypedExpressions, NoExpression, Then}
+use Rattle.ds2_program_code.proofs.FunctionTypes.{function_taken}
 
 -- ---- one type
 
@@ -94,54 +98,41 @@ one_of_many : (least : ℕ) (types : List Ty) (result : Ty) → 1 ≤ least → 
 one_of_many least [] result some many bounds all = let no : least ≤ 0 = many in absurd (omega arith)
 one_of_many least (t ∷ types) result some many bounds all = is_this result t (sym all.0) bounds.0
 
+decimal_if : (b : Bool) (s : ℕ) (result : Ty) → nat_le s 38 ≡ b → (if b then Some (DecimalOf 38 s) else None) ≡ Some result → in_bounds result ≡ true
+decimal_if true s result h e = let same : result ≡ DecimalOf 38 s = cc in is_this result (DecimalOf 38 s) same h
+decimal_if false s result h e = absurd cc
+
+-- the type that a row gives
+row_bounds : (r : ResultType) (types : List Ty) (result : Ty) → AllInBounds types → type_by r types ≡ Some result → in_bounds result ≡ true
+row_bounds Integer types result bounds e = let same : result ≡ BigInt = cc in is_this result BigInt same refl
+row_bounds WholeDecimal types result bounds e = let same : result ≡ DecimalOf 38 0 = cc in is_this result (DecimalOf 38 0) same refl
+row_bounds AsOperand [] result bounds e = absurd cc
+row_bounds AsOperand (t ∷ []) result bounds e = let same : result ≡ t = cc in is_this result t same bounds.0
+row_bounds AsOperand (t ∷ u ∷ types) result bounds e = absurd cc
+row_bounds GreaterScale [] result bounds e = absurd cc
+row_bounds GreaterScale (BigInt ∷ types) result bounds e = absurd cc
+row_bounds GreaterScale (Char n ∷ types) result bounds e = absurd cc
+row_bounds GreaterScale (Varchar n ∷ types) result bounds e = absurd cc
+row_bounds GreaterScale (DecimalOf p s ∷ []) result bounds e = absurd cc
+row_bounds GreaterScale (DecimalOf p s ∷ BigInt ∷ types) result bounds e = absurd cc
+row_bounds GreaterScale (DecimalOf p s ∷ Char n ∷ types) result bounds e = absurd cc
+row_bounds GreaterScale (DecimalOf p s ∷ Varchar n ∷ types) result bounds e = absurd cc
+row_bounds GreaterScale (DecimalOf p s ∷ DecimalOf q t ∷ []) result bounds e = decimal_if (nat_le (max s t) 38) (max s t) result refl e
+row_bounds GreaterScale (DecimalOf p s ∷ DecimalOf q t ∷ u ∷ types) result bounds e = absurd cc
+row_bounds PartOfFirst [] result bounds e = absurd cc
+row_bounds PartOfFirst (BigInt ∷ types) result bounds e = absurd cc
+row_bounds PartOfFirst (DecimalOf p s ∷ types) result bounds e = absurd cc
+row_bounds PartOfFirst (Char n ∷ types) result bounds e = let same : result ≡ Varchar n = cc in is_this result (Varchar n) same bounds.0
+row_bounds PartOfFirst (Varchar n ∷ types) result bounds e = let same : result ≡ Varchar n = cc in is_this result (Varchar n) same bounds.0
+
 application_bounds : (f : Function) (types : List Ty) (result : Ty) → AllInBounds types → IsApplication f types result → in_bounds result ≡ true
-application_bounds function.IsNull [] result bounds is = absurd is
-application_bounds function.IsNull (a ∷ []) result bounds is = is_this result BigInt is refl
-application_bounds function.IsNull (a ∷ b ∷ types) result bounds is = absurd is
+application_bounds (function.Value f) types result bounds is = row_bounds (row_of f).result types result bounds (function_taken f types result is).1
 application_bounds function.Coalesce types result bounds is = one_of_many 1 types result (omega arith) is.0.0 bounds is.1
 application_bounds function.Least types result bounds is = one_of_many 2 types result (omega arith) is.0.0 bounds is.2
 application_bounds function.Greatest types result bounds is = one_of_many 2 types result (omega arith) is.0.0 bounds is.2
-application_bounds function.IntegerAbsolute [] result bounds is = absurd is
-application_bounds function.IntegerAbsolute (a ∷ []) result bounds is = is_this result BigInt is.1 refl
-application_bounds function.IntegerAbsolute (a ∷ b ∷ types) result bounds is = absurd is
-application_bounds function.DecimalAbsolute [] result bounds is = absurd is
-application_bounds function.DecimalAbsolute (a ∷ []) result bounds is = is_this result a is.1 bounds.0
-application_bounds function.DecimalAbsolute (a ∷ b ∷ types) result bounds is = absurd is
-application_bounds function.IntegerModulo [] result bounds is = absurd is
-application_bounds function.IntegerModulo (a ∷ []) result bounds is = absurd is
-application_bounds function.IntegerModulo (a ∷ b ∷ []) result bounds is = is_this result BigInt is.2 refl
-application_bounds function.IntegerModulo (a ∷ b ∷ c ∷ types) result bounds is = absurd is
-application_bounds function.DecimalModulo [] result bounds is = absurd is
-application_bounds function.DecimalModulo (a ∷ []) result bounds is = absurd is
-application_bounds function.DecimalModulo (a ∷ b ∷ []) result bounds is =
-    is_this result (DecimalOf 38 (max (type_scale a) (type_scale b))) is.2 (decimal_bounds (max (type_scale a) (type_scale b)) (larger_bound (type_scale a) (type_scale b) 38 (scale_bound a bounds.0) (scale_bound b bounds.1.0)))
-application_bounds function.DecimalModulo (a ∷ b ∷ c ∷ types) result bounds is = absurd is
-application_bounds function.Floor [] result bounds is = absurd is
-application_bounds function.Floor (a ∷ []) result bounds is = is_this result (DecimalOf 38 0) is.1 refl
-application_bounds function.Floor (a ∷ b ∷ types) result bounds is = absurd is
-application_bounds function.Ceiling [] result bounds is = absurd is
-application_bounds function.Ceiling (a ∷ []) result bounds is = is_this result (DecimalOf 38 0) is.1 refl
-application_bounds function.Ceiling (a ∷ b ∷ types) result bounds is = absurd is
 application_bounds function.Unchanged [] result bounds is = absurd is
 application_bounds function.Unchanged (a ∷ []) result bounds is = is_this result BigInt is.1 refl
 application_bounds function.Unchanged (a ∷ b ∷ types) result bounds is = absurd is
-application_bounds function.Length [] result bounds is = absurd is
-application_bounds function.Length (a ∷ []) result bounds is = is_this result BigInt is.1 refl
-application_bounds function.Length (a ∷ b ∷ types) result bounds is = absurd is
-application_bounds function.Substring [] result bounds is = absurd is
-application_bounds function.Substring (a ∷ []) result bounds is = absurd is
-application_bounds function.Substring (a ∷ b ∷ []) result bounds is =
-    let width = text_width a is.0 bounds.0 in
-    is_this result (Varchar (type_width a)) is.2 (text_bounds (type_width a) width.0 width.1)
-application_bounds function.Substring (a ∷ b ∷ c ∷ []) result bounds is =
-    let width = text_width a is.0 bounds.0 in
-    is_this result (Varchar (type_width a)) is.3 (text_bounds (type_width a) width.0 width.1)
-application_bounds function.Substring (a ∷ b ∷ c ∷ d ∷ types) result bounds is = absurd is
-application_bounds function.Trim [] result bounds is = absurd is
-application_bounds function.Trim (a ∷ []) result bounds is =
-    let width = text_width a is.0 bounds.0 in
-    is_this result (Varchar (type_width a)) is.1 (text_bounds (type_width a) width.0 width.1)
-application_bounds function.Trim (a ∷ b ∷ types) result bounds is = absurd is
 
 left_bounds : (widens : Bool) (ty left : Ty) → in_bounds ty ≡ true → IsLeftOperand widens ty left → in_bounds left ≡ true
 left_bounds true ty left h is = is_this left (DecimalOf 19 0) is.1 refl

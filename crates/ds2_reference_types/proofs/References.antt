@@ -20,14 +20,13 @@ use Rattle.ds2_tree.specs.declared.expressions.Callee.TheVariants as callee
 use Rattle.ds2_tree.specs.declared.expressions.ChainKind.TheVariants as chain
 use Rattle.ds2_meaning.specs.TypedExpression as tree
 use Rattle.ds2_meaning.specs.ProgramTree.{is_listed}
+use Rattle.ds2_value.specs.declared.value_function.ValueFunction.TheVariants as of_values
 use Rattle.ds2_meaning.specs.declared.expressions.Function.TheVariants as function
 use Rattle.ds2_meaning.specs.declared.location.Global.TheVariants.{First, Last}
 use Rattle.ds2_meaning.specs.declared.location.Reference.{Reference}
-use Rattle.ds2_names.specs.Functions.{function_named, takes_so_many}
+use Rattle.ds2_names.specs.Functions.{null_test, function_named, takes_so_many}
 use Rattle.ds2_names.specs.declared.functions.FunctionOfMany.{FunctionOfMany}
 use Rattle.ds2_names.specs.declared.functions.FunctionOfMany.TheVariants as many
-use Rattle.ds2_names.specs.declared.functions.FunctionOfOne.{FunctionOfOne}
-use Rattle.ds2_names.specs.declared.functions.FunctionOfOne.TheVariants as one
 use Rattle.ds2_names.specs.declared.functions.FunctionRow.{FunctionRow}
 use Rattle.ds2_names.specs.declared.functions.NamedFunction.{NamedFunction}
 use Rattle.ds2_names.specs.declared.functions.NamedFunction.TheVariants as named
@@ -35,7 +34,7 @@ use Rattle.ds2_names.specs.NameRules.{is_flag_word}
 use Rattle.ds2_names.specs.SourceUnit.{spelled_name}
 use Rattle.ds2_names.specs.Uses.{method_named}
 use Rattle.ds2_elaboration.specs.SourceTypes.{elaborated_parameters, returned_type}
-use Rattle.ds2_elaboration.specs.FunctionTypes.{ElaboratedArgument, nodes_in_order, of_one_node, elaborated_whole, remainder_node, form_of_one, form_of_many, form_of_function, form_of_row, elaborated_function}
+use Rattle.ds2_elaboration.specs.FunctionTypes.{ElaboratedArgument, nodes_in_order, remainder_node, form_of_many, form_of_function, form_of_row, elaborated_function}
 use Rattle.ds2_elaboration.specs.Typings.{ElaboratedExpression, elaborated_nameless, form_of_operands, form_of_type, is_integer_type, widened_node}
 use Rattle.ds2_elaboration.specs.ExpressionTypes.{TypeScope, KnownVariable, ElaboratedArguments, known_variable, value_of_variable, elaborated_variable, flag_node, elaborated_flag, is_settable_reference, reference_in, constant_node, integer_node, decimal_node, text_node, elaborated_call, method_or_function_call, result_of_method, elaborated, elaborated_arguments, arguments_for, number_of_method, text_within, ObjectCalls, InstanceCalls, HashCalls, IteratorCalls, ParameterCalls, object_in_scope, member_of_object, elaborated_member, hash_function_named, iterator_function_named, elaborated_hash_call, elaborated_iterator_call, elaborated_instance_call, elaborated_object_call}
 use Rattle.ds2_reference_types.specs.Scopes.{reference_of, known_in, IsKnownAs, IsScopeOf}
@@ -96,10 +95,6 @@ no_flag_variable types object member =
 
 -- ---- calls
 
-no_whole : (f : Function) (name : Place) (x : ElaboratedArgument) → IsNone (elaborated_whole f name x)
-no_whole f name x =
-    node_either (is_integer_type (expression_type x.value.node)) (of_one_node function.Unchanged x.value.node BigInt) (of_one_node f x.value.node (decimal_result 0)) refl refl
-
 no_remainder : (a b : tree.TypedExpression) → HasNone (remainder_node a b)
 no_remainder a b = by (is_integer_type left && is_integer_type right)
   where
@@ -110,18 +105,10 @@ no_remainder a b = by (is_integer_type left && is_integer_type right)
     right = expression_type b
 
     by : (c : Bool)
-        → HasNone (if c then tree.Applied function.IntegerModulo (nodes_in_order (a ∷ b ∷ [])) BigInt
-        else tree.Applied function.DecimalModulo (nodes_in_order (widened_node a ∷ widened_node b ∷ [])) (decimal_result (max (type_scale left) (type_scale right))))
+        → HasNone (if c then tree.Applied (function.Value of_values.IntegerModulo) (nodes_in_order (a ∷ b ∷ [])) BigInt
+        else tree.Applied (function.Value of_values.DecimalModulo) (nodes_in_order (widened_node a ∷ widened_node b ∷ [])) (decimal_result (max (type_scale left) (type_scale right))))
     by true = refl
     by false = refl
-
-no_one : (f : FunctionOfOne) (name : Place) (x : ElaboratedArgument) → IsNone (form_of_one f name x)
-no_one one.Absolute name x = refl
-no_one one.Ceiling name x = no_whole function.Ceiling name x
-no_one one.Floor name x = no_whole function.Floor name x
-no_one one.Length name x = refl
-no_one one.NullTest name x = refl
-no_one one.Trim name x = refl
 
 no_many : (f : FunctionOfMany) (name : Place) (xs : List ElaboratedArgument) → IsNone (form_of_many f name xs)
 no_many many.Coalesce name xs = refl
@@ -130,7 +117,7 @@ no_many many.Least name xs = refl
 
 no_form : (f : NamedFunction) (name : Place) (xs : List ElaboratedArgument) → IsNone (form_of_function f name xs)
 no_form (named.OfOne f) name [] = refl
-no_form (named.OfOne f) name (x ∷ []) = no_one f name x
+no_form (named.OfOne f) name (x ∷ []) = refl
 no_form (named.OfOne f) name (x ∷ y ∷ more) = refl
 no_form (named.OfMany f) name xs = no_many f name xs
 no_form named.Remainder name [] = refl
@@ -194,7 +181,7 @@ no_member types object member =
 
 no_call : (types : TypeScope) (f : Callee) (xs : List ElaboratedArgument) → IsNone (elaborated_call types f xs)
 no_call types (callee.Function name) xs = no_named types name xs (method_named types.methods (spelled_name name))
-no_call types (callee.Null keyword) xs = no_form (named.OfOne one.NullTest) keyword.place xs
+no_call types (callee.Null keyword) xs = no_form (named.OfOne null_test) keyword.place xs
 no_call types (callee.Method object dot method) xs = no_object_value object method xs (object_in_scope types (spelled_name object))
 
 -- ---- expressions

@@ -278,10 +278,6 @@ module _ (code : ProgramParts) (numbers : CodeNumbers) (outputs : List (List (Li
   operation_spared operation.And = (refl, tt)
   operation_spared operation.Or = (refl, tt)
 
-  part_spared : (b : Bool) → Spared (if b then instr.SubFrom else instr.Substr)
-  part_spared true = (refl, tt)
-  part_spared false = (refl, tt)
-
   call_spared : (home : Home) (method : ℕ) (o : Option Callee) → numbers.callee home method ≡ o → R (record { home = home; number = method }) → Spared (call_instr o)
   call_spared home method None found allowed = (refl, tt)
   call_spared home method (Some callee) found allowed = (refl, record { home = home; method = method; callee = callee; placed = found; is = refl; allowed = allowed })
@@ -340,20 +336,11 @@ module _ (code : ProgramParts) (numbers : CodeNumbers) (outputs : List (List (Li
   left_operand_spared b o ty = two (widening_code b) (operand_code o (widened_type b ty)) (widening_spared b) (operand_spared o (widened_type b ty))
 
   function_spared : (f : Function) (n : ℕ) → AllSpared (function_code f n)
-  function_spared function.IsNull n = ((refl, tt), tt)
+  function_spared (function.Value f) n = ((refl, tt), tt)
   function_spared function.Coalesce n = ((refl, tt), tt)
   function_spared function.Least n = ((refl, tt), tt)
   function_spared function.Greatest n = ((refl, tt), tt)
-  function_spared function.IntegerAbsolute n = ((refl, tt), tt)
-  function_spared function.DecimalAbsolute n = ((refl, tt), tt)
-  function_spared function.IntegerModulo n = ((refl, tt), tt)
-  function_spared function.DecimalModulo n = ((refl, tt), tt)
-  function_spared function.Floor n = ((refl, tt), tt)
-  function_spared function.Ceiling n = ((refl, tt), tt)
   function_spared function.Unchanged n = tt
-  function_spared function.Length n = ((refl, tt), tt)
-  function_spared function.Substring n = (part_spared (nat_eq n 2), tt)
-  function_spared function.Trim n = ((refl, tt), tt)
 
   -- ---- expressions
 

@@ -1,15 +1,19 @@
 -- Forms of one and of two operands, from what stands of the operands.
-use Rattle.std.proofs.Common.{◌≡◌, ◌++◌, Option, Result, Ok, Err, refl, sym, ap, ◌∙◌, subst}
+use Rattle.std.proofs.Common.{◌≡◌, [], ◌∷◌, ◌++◌, Option, Some, Result, Ok, Err, refl, sym, ap, ◌∙◌, subst}
 use Rattle.ds2_base.specs.declared.place.Refusal.{Refusal}
 use Rattle.ds2_value.specs.declared.ty.Ty.{Ty}
+use Rattle.ds2_meaning.specs.IsTyped.{expression_type}
 use Rattle.ds2_meaning.specs.TypedExpression.{TypedExpression}
 use Rattle.ds2_meaning.specs.declared.refusals.TypeKind.{TypeKind}
+use Rattle.ds2_names.specs.declared.functions.ByType.{ByType}
+use Rattle.ds2_elaboration.specs.FunctionTypes.{one_node, broken_typing, one_typing}
 use Rattle.ds2_elaboration.specs.OperatorTypes.{compared_node}
 use Rattle.ds2_elaboration.specs.Typings.{TypeRefusals, Typing, Known, NullAt, Unknown, ElaboratedExpression, form_of_type, form_of_operands, assigned_node}
 use Rattle.ds2_types.specs.Judgements.{first_type_refusal, typing_of, node_tree, IsOutcome, IsJudged, ruled, both_of, unbroken}
 use Rattle.ds2_types.specs.declared.judgement.Judgement.{Judgement}
 use Rattle.ds2_types.specs.declared.judgement.Node.{Node}
 use Rattle.ds2_types.specs.declared.judgement.Pair.{Pair}
+use Rattle.ds2_types.specs.declared.judgement.Typing as code_typing
 use Rattle.ds2_types.specs.declared.judgement.Typing.TheVariants as known
 use Rattle.ds2_types.proofs.Outcomes.{after_both, ruled_as, IsTree, after_one, operands_broken, operands_typed, type_broken, type_typed}
 
@@ -43,6 +47,31 @@ module _ (rule : Typing → TypeRefusals) (e : ElaboratedExpression) (x : Judgem
   typed_of_type h f g ty operand i form n k =
       let so = after_one rule e x clash result h f g (Ok operand) i in
       type_typed ty (e.refusals ++ rule e.typing) (form e.node) n so.0 (k ∙ ap form so.1)
+
+  -- a function of one value, where a rule is broken
+  pub broken_of_type_by : IsJudged e x → clash ≡ first_type_refusal (rule (typing_of x.typing)) → result ≡ ruled x.outcome clash
+      → (f : ByType) (node : TypedExpression) (t : code_typing.Typing) → typing_of t ≡ broken_typing f → (r : Refusal TypeKind) → result ≡ Err r
+      → IsJudged (record { typing = one_typing f (e.refusals ++ rule e.typing) node; refusals = e.refusals ++ rule e.typing; node = node }) (record { typing = t; outcome = Err r })
+  broken_of_type_by h g k f node t same r i = by (e.refusals ++ rule e.typing) (after_one rule e x clash result h g k (Err r) i)
+    where
+      by : (refusals : TypeRefusals) → first_type_refusal refusals ≡ Some r
+          → IsJudged (record { typing = one_typing f refusals node; refusals = refusals; node = node }) (record { typing = t; outcome = Err r })
+      by [] broken = cc
+      by (q ∷ refusals) broken = record { typing = same; outcome = broken }
+
+  -- the same, where none is
+  pub typed_of_type_by : IsJudged e x → clash ≡ first_type_refusal (rule (typing_of x.typing)) → result ≡ ruled x.outcome clash
+      → (f : ByType) (operand : Node) → result ≡ Ok operand → (n : Node) → node_tree n ≡ one_node f (node_tree operand)
+      → IsJudged (record { typing = one_typing f (e.refusals ++ rule e.typing) (one_node f e.node); refusals = e.refusals ++ rule e.typing; node = one_node f e.node })
+      (record { typing = known.Known n.ty; outcome = Ok n })
+  typed_of_type_by h g k f operand i n is =
+      let so = after_one rule e x clash result h g k (Ok operand) i in
+      by (e.refusals ++ rule e.typing) so.0 (is ∙ ap (one_node f) so.1)
+    where
+      by : (refusals : TypeRefusals) → refusals ≡ [] → node_tree n ≡ one_node f e.node
+          → IsJudged (record { typing = one_typing f refusals (one_node f e.node); refusals = refusals; node = one_node f e.node }) (record { typing = known.Known n.ty; outcome = Ok n })
+      by [] none same = record { typing = ap (λ (ty : Ty). Known ty) (n.own_type ∙ ap expression_type same); outcome = (refl, same) }
+      by (q ∷ refusals) none same = cc
 
 -- ---- two operands
 

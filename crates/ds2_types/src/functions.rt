@@ -1,19 +1,18 @@
 //! Functions: what arguments they take, and what they become.
-ghost use Rattle.std.specs.Prelude.{◌≡◌, IfOk, if◌then◌else◌};
-ghost use Rattle.ds2_elaboration.specs.FunctionTypes.{ElaboratedArgument, of_one_node, remainder_node, elaborated_absolute, elaborated_whole, elaborated_remainder, elaborated_length, elaborated_trim, elaborated_null_test};
-ghost use Rattle.ds2_elaboration.specs.Typings.{is_integer_type};
-ghost use Rattle.ds2_meaning.specs.IsTyped.{expression_type, type_scale, type_width, decimal_result};
-ghost use Rattle.ds2_meaning.specs.declared.expressions.Function.TheVariants as variant;
-ghost use Rattle.ds2_value.specs.declared.ty.Ty.TheVariants.{BigInt};
-ghost use Rattle.ds2_types.specs.Judgements.{node_tree, IsJudged, Judges};
+ghost use Rattle.std.specs.Prelude.{◌≡◌, IfOk, is_some};
+ghost use Rattle.ds2_elaboration.specs.FunctionTypes.{ElaboratedArgument, function_for, type_of_one, one_node, is_of_integers, broken_typing, elaborated_of_one, remainder_node, elaborated_remainder};
+ghost use Rattle.ds2_elaboration.specs.Typings.{operand_clash};
+ghost use Rattle.ds2_meaning.specs.IsTyped.{type_scale, type_width};
+ghost use Rattle.ds2_types.specs.Judgements.{first_type_refusal, typing_of, node_tree, IsJudged, Judges};
 
 use crate::judgement::{Judgement, Node, Pair, Typing};
 use crate::nodes::{applied_to_one, applied_to_two, widened};
 use crate::refusals::{both, ruled};
-use crate::rules::{OperandTest, is_integer, null_clash, operand_clash};
-use ds2_base::{OutOfMemory, Place};
-use ds2_meaning::Function;
-use ds2_value::Ty;
+use crate::rules::{OperandTest, clash_unless, is_integer, null_clash, operand_clash};
+use ds2_base::{OutOfMemory, Place, Refusal};
+use ds2_meaning::{Function, TypeKind};
+use ds2_names::ByType;
+use ds2_value::{ResultType, Ty, ValueFunction};
 use std::alloc::Global;
 
 /// How many digits a number has behind the point; none where it is a BIGINT.
@@ -40,72 +39,98 @@ pub fn width(ty: Ty) -> u16
     }
 }
 
-/// `abs(x)`: the type of x.
-pub fn absolute(alloc: Global, name: Place, x: Judgement) -> Result<Judgement, OutOfMemory>
-    ensures { (e : ElaboratedArgument) → IsJudged e.value x → Judges (elaborated_absolute name e) result }
+/// What a function is for a value of this type, where it takes one.
+pub fn function_for(by_type: ByType, ty: Ty) -> Option<Function>
+    ensures { result ≡ function_for by_type ty }
 {
-    let clash = operand_clash(OperandTest::Number, name, x.typing);
-    match ruled(x.outcome, clash) {
-        Err(refusal) => Ok(Judgement {
-            typing: Typing::Unknown,
-            outcome: Err(refusal),
-        }),
-        Ok(operand) => {
-            let ty = operand.ty;
-            let function = absolute_of(ty);
-            let node = applied_to_one(alloc, function, operand, ty)?;
-            Ok(Judgement {
-                typing: Typing::Known(node.ty),
-                outcome: Ok(node),
-            })
-        }
+    match ty {
+        Ty::BigInt => by_type.integer,
+        Ty::Decimal { .. } => by_type.decimal,
+        Ty::Char { .. } => by_type.text,
+        Ty::Varchar { .. } => by_type.text,
     }
 }
 
-/// The function that `abs` is of this type.
-fn absolute_of(ty: Ty) -> Function
-    ensures { result ≡ (if is_integer_type ty then variant.IntegerAbsolute else variant.DecimalAbsolute) }
+// The type of a function's value for a value of this type, which it takes.
+fn type_of_one(function: Function, ty: Ty) -> Ty
+    ensures { result ≡ type_of_one function ty }
 {
-    if is_integer(ty) {
-        Function::IntegerAbsolute
+    match function {
+        Function::Value(function) => function.result_type().of(&[ty]).unwrap_or(Ty::BigInt),
+        Function::Coalesce => ty,
+        Function::Least => ty,
+        Function::Greatest => ty,
+        Function::Unchanged => ty,
+    }
+}
+
+// A function of a typed value.
+fn one_node(alloc: Global, by_type: ByType, operand: Node) -> Result<Node, OutOfMemory>
+    ensures { IfOk result (λ n. node_tree n ≡ one_node by_type (node_tree operand)) }
+{
+    let ty = operand.ty;
+    let function = function_for(by_type, ty).unwrap_or(Function::Unchanged);
+    applied_to_one(alloc, function, operand, type_of_one(function, ty))
+}
+
+// Whether a function's value is a BIGINT, where the function is there.
+fn is_of_integers(function: Option<Function>) -> bool
+    ensures { result ≡ is_of_integers function }
+{
+    match function {
+        Some(Function::Value(function)) => { matches!(function.result_type(), ResultType::Integer) }
+        Some(_) => false,
+        None => true,
+    }
+}
+
+// What is known of the type of a function of one value where a rule is broken in it.
+fn broken_typing(by_type: ByType) -> Typing
+    ensures { typing_of result ≡ broken_typing by_type }
+{
+    if is_of_integers(by_type.integer)
+        && is_of_integers(by_type.decimal)
+        && is_of_integers(by_type.text)
+    {
+        Typing::Known(Ty::BigInt)
     } else {
-        Function::DecimalAbsolute
+        Typing::Unknown
     }
 }
 
-/// `floor(x)` and `ceil(x)`: a BIGINT as it is, of a DECIMAL a DECIMAL without digits behind the point.
-pub fn whole(
+// An operand of a type that a function takes, else TypeClash at its name; null may not stand there, which is TypeClash at its word.
+fn type_clash(by_type: ByType, name: Place, typing: Typing) -> Option<Refusal<TypeKind>>
+    ensures { result ≡ first_type_refusal (operand_clash (λ ty. is_some (function_for by_type ty)) name (typing_of typing)) }
+{
+    match typing {
+        Typing::Known(ty) => clash_unless(function_for(by_type, ty).is_some(), name),
+        Typing::NullAt(word) => null_clash(Typing::NullAt(word)),
+        Typing::Unknown => None,
+    }
+}
+
+/// A function of one value, of a type that it takes.
+pub fn of_one(
     alloc: Global,
-    function: Function,
+    by_type: ByType,
     name: Place,
     x: Judgement,
 ) -> Result<Judgement, OutOfMemory>
-    ensures { (e : ElaboratedArgument) → IsJudged e.value x → Judges (elaborated_whole function name e) result }
+    ensures { (e : ElaboratedArgument) → IsJudged e.value x → Judges (elaborated_of_one by_type name e) result }
 {
-    let clash = operand_clash(OperandTest::Number, name, x.typing);
+    let clash = type_clash(by_type, name, x.typing);
     match ruled(x.outcome, clash) {
         Err(refusal) => Ok(Judgement {
-            typing: Typing::Unknown,
+            typing: broken_typing(by_type),
             outcome: Err(refusal),
         }),
         Ok(operand) => {
-            let node = whole_node(alloc, function, operand)?;
+            let node = one_node(alloc, by_type, operand)?;
             Ok(Judgement {
                 typing: Typing::Known(node.ty),
                 outcome: Ok(node),
             })
         }
-    }
-}
-
-/// The whole number that `floor` or `ceil` gives.
-fn whole_node(alloc: Global, function: Function, operand: Node) -> Result<Node, OutOfMemory>
-    ensures { IfOk result (λ n. node_tree n ≡ (if is_integer_type (expression_type (node_tree operand)) then of_one_node variant.Unchanged (node_tree operand) BigInt else of_one_node function (node_tree operand) (decimal_result 0))) }
-{
-    if is_integer(operand.ty) {
-        applied_to_one(alloc, Function::Unchanged, operand, Ty::BigInt)
-    } else {
-        applied_to_one(alloc, function, operand, Ty::Decimal { p: 38, s: 0 })
     }
 }
 
@@ -115,14 +140,20 @@ fn remainder_node(alloc: Global, pair: Pair) -> Result<Node, OutOfMemory>
 {
     let Pair { left, right } = pair;
     if is_integer(left.ty) && is_integer(right.ty) {
-        return applied_to_two(alloc, Function::IntegerModulo, left, right, Ty::BigInt);
+        return applied_to_two(
+            alloc,
+            Function::Value(ValueFunction::IntegerModulo),
+            left,
+            right,
+            Ty::BigInt,
+        );
     }
     let s = scale(left.ty).max(scale(right.ty));
     let left = widened(alloc, left)?;
     let right = widened(alloc, right)?;
     applied_to_two(
         alloc,
-        Function::DecimalModulo,
+        Function::Value(ValueFunction::DecimalModulo),
         left,
         right,
         Ty::Decimal { p: 38, s },
@@ -155,67 +186,6 @@ pub fn remainder(
             let node = remainder_node(alloc, pair)?;
             Ok(Judgement {
                 typing: Typing::Known(node.ty),
-                outcome: Ok(node),
-            })
-        }
-    }
-}
-
-/// `length(t)`: a BIGINT always.
-pub fn length(alloc: Global, name: Place, x: Judgement) -> Result<Judgement, OutOfMemory>
-    ensures { (e : ElaboratedArgument) → IsJudged e.value x → Judges (elaborated_length name e) result }
-{
-    let clash = operand_clash(OperandTest::Characters, name, x.typing);
-    match ruled(x.outcome, clash) {
-        Err(refusal) => Ok(Judgement {
-            typing: Typing::Known(Ty::BigInt),
-            outcome: Err(refusal),
-        }),
-        Ok(operand) => {
-            let node = applied_to_one(alloc, Function::Length, operand, Ty::BigInt)?;
-            Ok(Judgement {
-                typing: Typing::Known(Ty::BigInt),
-                outcome: Ok(node),
-            })
-        }
-    }
-}
-
-/// `trim(t)`: a VARCHAR of as many characters.
-pub fn trim(alloc: Global, name: Place, x: Judgement) -> Result<Judgement, OutOfMemory>
-    ensures { (e : ElaboratedArgument) → IsJudged e.value x → Judges (elaborated_trim name e) result }
-{
-    let clash = operand_clash(OperandTest::Characters, name, x.typing);
-    match ruled(x.outcome, clash) {
-        Err(refusal) => Ok(Judgement {
-            typing: Typing::Unknown,
-            outcome: Err(refusal),
-        }),
-        Ok(operand) => {
-            let n = width(operand.ty);
-            let node = applied_to_one(alloc, Function::Trim, operand, Ty::Varchar { n })?;
-            Ok(Judgement {
-                typing: Typing::Known(node.ty),
-                outcome: Ok(node),
-            })
-        }
-    }
-}
-
-/// `null(x)`: 1 or 0; the constant null itself may not stand there.
-pub fn null_test(alloc: Global, word: Place, x: Judgement) -> Result<Judgement, OutOfMemory>
-    ensures { (e : ElaboratedArgument) → IsJudged e.value x → Judges (elaborated_null_test word e) result }
-{
-    let clash = null_clash(x.typing);
-    match ruled(x.outcome, clash) {
-        Err(refusal) => Ok(Judgement {
-            typing: Typing::Known(Ty::BigInt),
-            outcome: Err(refusal),
-        }),
-        Ok(operand) => {
-            let node = applied_to_one(alloc, Function::IsNull, operand, Ty::BigInt)?;
-            Ok(Judgement {
-                typing: Typing::Known(Ty::BigInt),
                 outcome: Ok(node),
             })
         }

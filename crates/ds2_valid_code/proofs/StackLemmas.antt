@@ -1,15 +1,19 @@
 -- What instructions leave, by what is left of the operands.
-use Rattle.std.proofs.Common.{◌≡◌, ℕ, suc, ◌+◌, Bool, true, false, ◌&&◌, List, [], ◌∷◌, ◌++◌, Option, Some, None, map, refl, ap, ◌∙◌}
+use Rattle.std.proofs.Common.{◌≡◌, ℕ, suc, ◌+◌, ◌-◌, Bool, true, false, ◌&&◌, List, [], ◌∷◌, ◌++◌, take, drop, length, Option, Some, None, map, refl, sym, ap, ◌∙◌, append-nil, append_assoc, arith}
 use Rattle.std.specs.Prelude.{min, reverse, replicate, if◌then◌else◌}
 use Rattle.std.specs.Option.{option_map}
+use Rattle.std.proofs.lemmas.Grind.{common_steps}
 use Rattle.std.proofs.lemmas.List.{reverse-append}
 use Rattle.ds2_value.specs.declared.ty.TheConstants.{TEXT_CHARACTERS}
 use Rattle.ds2_value.specs.declared.ty.Ty.{Ty}
 use Rattle.ds2_value.specs.declared.ty.Ty.TheVariants.{BigInt, Decimal as DecimalOf, Char, Varchar}
 use Rattle.ds2_code.specs.declared.parts.MethodPart.{MethodPart}
 use Rattle.ds2_code.specs.declared.parts.ParameterPart.{ParameterPart}
-use Rattle.ds2_code.specs.OperandTypes.{OperandTypes, OperandClass, OneType, AnyDecimal, AnyText, is_of_class, is_text_type, text_length, TakenTypes, take_classes, with_type, one_for, none_for, when_none, none_below, always, by_scales, part_of_first, both_texts, with_in_out_types, with_result_type, after_call_types, call_types}
-use Rattle.ds2_valid_code.specs.OperandStack.{below_classes, part_of_found}
+use Rattle.ds2_value.specs.ValueFunctions.{is_of_class, is_text_type, text_length, always, by_scales}
+use Rattle.ds2_value.specs.declared.value_function.OperandClass.{OperandClass}
+use Rattle.ds2_value.specs.declared.value_function.OperandClass.TheVariants.{OneType, AnyDecimal, AnyText}
+use Rattle.ds2_code.specs.OperandTypes.{OperandTypes, TakenTypes, take_classes, with_type, one_for, none_for, when_none, none_below, both_texts, with_in_out_types, with_result_type, after_call_types, call_types}
+use Rattle.ds2_valid_code.specs.OperandStack.{below_classes}
 
 below_if : (b : Bool) (x : Option TakenTypes) (y : Option OperandTypes) → none_for x ≡ y → none_for (if b then x else None) ≡ (if b then y else None)
 below_if true x y e = e
@@ -74,25 +78,35 @@ module _ (f : ℕ → ℕ → ℕ) where
   pub no_decimal : one_for (by_scales f) (take_classes (AnyDecimal ∷ AnyDecimal ∷ []) [] []) ≡ None
   no_decimal = refl
 
-part_if : (b : Bool) (x : Option TakenTypes) (y : Option OperandTypes) → one_for part_of_first x ≡ y → one_for part_of_first (if b then x else None) ≡ (if b then y else None)
-part_if true x y e = e
-part_if false x y e = refl
+-- the types that were taken off are those of the last operands
+taken_on_top : (cs : List OperandClass) (taken : List Ty) (types : OperandTypes) (r : TakenTypes) → take_classes cs taken types ≡ Some r → r.taken ≡ reverse (take (length cs) types) ++ taken
+taken_on_top [] taken types r e = let is : record { taken = taken; below = types } ≡ r = cc in ap (λ (z : TakenTypes). z.taken) (sym is)
+taken_on_top (c ∷ cs) taken [] r e = absurd cc
+taken_on_top (c ∷ cs) taken (t ∷ types) r e =
+    taken_on_top cs (t ∷ taken) types r (if_some (is_of_class c t) (take_classes cs (t ∷ taken) types) r e)
+    ∙ sym (append_assoc (reverse (take (length cs) types)) (t ∷ []) taken)
+    ∙ ap (λ (z : List Ty). z ++ taken) (sym (reverse-append (t ∷ []) (take (length cs) types)))
+  where
+    if_some : (b : Bool) (x : Option TakenTypes) (r : TakenTypes) → (if b then x else None) ≡ Some r → x ≡ Some r
+    if_some true x r e = e
+    if_some false x r e = absurd cc
 
-found_if : (b : Bool) (o : Option OperandTypes) → (if b then part_of_found o else None) ≡ part_of_found (if b then o else None)
-found_if true o = refl
-found_if false o = refl
+-- one operand for those that were taken off, where its type goes by theirs
+abbrev pub with_type_behind : Option Ty → Option OperandTypes → Option OperandTypes
+with_type_behind t None = None
+with_type_behind t (Some types) = with_type t types
 
-part_taken : (cs : List OperandClass) (taken : List Ty) (types : OperandTypes) → one_for part_of_first (take_classes (cs ++ AnyText ∷ []) taken types) ≡ part_of_found (below_classes cs types)
-part_taken [] taken [] = refl
-part_taken [] taken (t ∷ types) = part_if (is_text_type t) (Some (record { taken = t ∷ taken; below = types })) (Some (Varchar (text_length t) ∷ types)) refl
-part_taken (c ∷ cs) taken [] = refl
-part_taken (c ∷ cs) taken (t ∷ types) =
-    part_if (is_of_class c t) (take_classes (cs ++ AnyText ∷ []) (t ∷ taken) types) (part_of_found (below_classes cs types)) (part_taken cs (t ∷ taken) types)
-    ∙ found_if (is_of_class c t) (below_classes cs types)
+pub one_for_taken : (result : List Ty → Option Ty) (cs : List OperandClass) (types : OperandTypes)
+    → one_for result (take_classes cs [] types) ≡ with_type_behind (result (reverse (take (length cs) types))) (below_classes cs types)
+one_for_taken result cs types = of (take_classes cs [] types) refl ∙ ap (with_type_behind (result (reverse (take (length cs) types)))) (below_taken cs [] types)
+  where
+    of : (o : Option TakenTypes) → take_classes cs [] types ≡ o → one_for result o ≡ with_type_behind (result (reverse (take (length cs) types))) (none_for o)
+    of None e = refl
+    of (Some r) e = ap (λ z. with_type (result z) r.below) (taken_on_top cs [] types r e ∙ append-nil (reverse (take (length cs) types)))
 
--- a part of a text that stands below operands
-pub part_behind : (cs : List OperandClass) (types : OperandTypes) → one_for part_of_first (take_classes (cs ++ AnyText ∷ []) [] types) ≡ part_of_found (below_classes cs types)
-part_behind cs types = part_taken cs [] types
+-- the last items of a list are those at the front of it turned round
+pub last_items : (n : ℕ) (xs : List Ty) → drop (length xs - n) xs ≡ reverse (take n (reverse xs))
+last_items n xs = grind (arith, common_steps)
 
 two_if : (b c : Bool) (x : Option TakenTypes) (y : Option OperandTypes) → one_for both_texts x ≡ y → one_for both_texts (if b then (if c then x else None) else None) ≡ (if b && c then y else None)
 two_if true true x y e = e

@@ -1,13 +1,15 @@
 //! What instructions leave for the operands that they take.
 ghost use Rattle.std.specs.Prelude.{◌≡◌, ◌+◌, List as Items, min, nat_le, replicate, [], ◌∷◌, ◌++◌, Some, None, IfOk, OnOk, map, reverse, if◌then◌else◌, slice_get};
 ghost use Rattle.ds2_code.specs.declared.parts.ParameterPart.{ParameterPart as ParameterPartModel};
-ghost use Rattle.ds2_code.specs.OperandTypes.{OneType, AnyDecimal, AnyText, AnyType, take_classes, with_type, one_for, none_for, when_none, none_below, always, as_operand, decimal_of_scale, by_scales, text_length, part_of_first, both_texts, is_number_type, chosen_types, chosen_numbers, when_in_bounds, stored_type, with_in_out_types, with_result_type, call_types, with_only_result};
-ghost use Rattle.ds2_valid_code.specs.OperandStack.{operand_class, below_classes, part_of_top, scale_by};
+ghost use Rattle.ds2_value.specs.ValueFunctions.{always, as_operand, decimal_of_scale, by_scales, text_length, type_by, row_of};
+ghost use Rattle.ds2_value.specs.declared.value_function.OperandClass.TheVariants.{OneType, AnyDecimal, AnyText};
+ghost use Rattle.ds2_code.specs.OperandTypes.{take_classes, with_type, one_for, none_for, when_none, none_below, both_texts, is_number_type, chosen_types, chosen_numbers, when_in_bounds, stored_type, with_in_out_types, with_result_type, call_types, with_only_result};
+ghost use Rattle.ds2_valid_code.specs.OperandStack.{below_classes, scale_by};
 
-use crate::stack::{Class, TypeStack, is_text, take, take_many, take_one};
+use crate::stack::{TypeStack, take, take_many, take_one};
 use ds2_base::OutOfMemory;
 use ds2_code::{MethodPart, ParameterPart};
-use ds2_value::{TEXT_CHARACTERS, Ty};
+use ds2_value::{OperandClass, TEXT_CHARACTERS, Ty, ValueFunction};
 
 /// The scale that an operation on two decimals leaves.
 #[derive(Clone, Copy, PartialEq, Eq)]
@@ -21,10 +23,10 @@ pub(crate) enum ScaleRule {
 #[tactic(auto, using(crate::proofs::StackLemmas::one_for_always))]
 pub(crate) fn operation(
     types: &mut TypeStack,
-    classes: &[Class],
+    classes: &[OperandClass],
     result_type: Ty,
 ) -> Result<bool, OutOfMemory>
-    ensures { IfOk result (λ ok. one_for (always result_type) (take_classes (map operand_class classes.now) [] types.old) ≡ (if ok then Some types.new else None)) }
+    ensures { IfOk result (λ ok. one_for (always result_type) (take_classes classes.now [] types.old) ≡ (if ok then Some types.new else None)) }
 {
     if !take(types, classes) {
         return Ok(false);
@@ -33,13 +35,26 @@ pub(crate) fn operation(
     Ok(true)
 }
 
+// One operand for those that a function takes.
+#[tactic(auto, using(crate::proofs::StackLemmas::one_for_taken))]
+pub(crate) fn applied(types: &mut TypeStack, function: ValueFunction) -> Result<bool, OutOfMemory>
+    ensures { IfOk result (λ ok. one_for (type_by (row_of function).result) (take_classes (row_of function).operands [] types.old) ≡ (if ok then Some types.new else None)) }
+{
+    let classes = function.operands();
+    let result_type = function.result_type().of(types.last(classes.len()));
+    if !take(types, classes) {
+        return Ok(false);
+    }
+    load(types, result_type)
+}
+
 // One operand of a type in bounds for one of a class.
 pub(crate) fn conversion(
     types: &mut TypeStack,
-    class: Class,
+    class: OperandClass,
     result_type: Ty,
 ) -> Result<bool, OutOfMemory>
-    ensures { IfOk result (λ ok. when_in_bounds result_type (one_for (always result_type) (take_classes (operand_class class ∷ []) [] types.old)) ≡ (if ok then Some types.new else None)) }
+    ensures { IfOk result (λ ok. when_in_bounds result_type (one_for (always result_type) (take_classes (class ∷ []) [] types.old)) ≡ (if ok then Some types.new else None)) }
 {
     if !result_type.is_in_bounds() {
         return Ok(false);
@@ -75,13 +90,13 @@ pub(crate) fn store(types: &mut TypeStack, ty: Option<Ty>) -> bool
 {
     match ty {
         None => false,
-        Some(t) => drop_one(types, Class::One(t)),
+        Some(t) => drop_one(types, OperandClass::OneType(t)),
     }
 }
 
 #[tactic(auto, using(crate::proofs::StackLemmas::none_for_below))]
-pub(crate) fn drop_one(types: &mut TypeStack, class: Class) -> bool
-    ensures { none_for (take_classes (operand_class class ∷ []) [] types.old) ≡ (if result then Some types.new else None) }
+pub(crate) fn drop_one(types: &mut TypeStack, class: OperandClass) -> bool
+    ensures { none_for (take_classes (class ∷ []) [] types.old) ≡ (if result then Some types.new else None) }
 {
     take_one(types, class)
 }
@@ -145,43 +160,10 @@ pub(crate) fn same_decimal(types: &mut TypeStack) -> Result<bool, OutOfMemory>
     }
 }
 
-fn text_length(ty: Ty) -> u16
-    ensures { result ≡ text_length ty }
-{
-    match ty {
-        Ty::Char { n } | Ty::Varchar { n } => n,
-        Ty::BigInt | Ty::Decimal { .. } => 0,
-    }
-}
-
-// The type of a part of a text, which stands below operands of these classes.
-#[tactic(auto, using(crate::proofs::StackLemmas::part_behind))]
-pub(crate) fn part_of_text(types: &mut TypeStack, before: &[Class]) -> Result<bool, OutOfMemory>
-    ensures { IfOk result (λ ok. one_for part_of_first (take_classes (map operand_class before.now ++ AnyText ∷ []) [] types.old) ≡ (if ok then Some types.new else None)) }
-{
-    if !take(types, before) {
-        return Ok(false);
-    }
-    part_of_top(types)
-}
-
-fn part_of_top(types: &mut TypeStack) -> Result<bool, OutOfMemory>
-    ensures { IfOk result (λ ok. part_of_top types.old ≡ (if ok then Some types.new else None)) }
-{
-    let Some(ty) = types.pop() else {
-        return Ok(false);
-    };
-    if !is_text(ty) {
-        return Ok(false);
-    }
-    types.push(Ty::Varchar { n: text_length(ty) })?;
-    Ok(true)
-}
-
 fn length_of_both(first: Ty, second: Ty) -> u16
     ensures { result ≡ min TEXT_CHARACTERS (text_length first + text_length second) }
 {
-    let length = text_length(first) as u32 + text_length(second) as u32;
+    let length = first.text_length() as u32 + second.text_length() as u32;
     length.min(TEXT_CHARACTERS as u32) as u16
 }
 
@@ -196,7 +178,7 @@ pub(crate) fn both_texts(types: &mut TypeStack) -> Result<bool, OutOfMemory>
     let Some(first) = types.pop() else {
         return Ok(false);
     };
-    if !(is_text(second) && is_text(first)) {
+    if !(OperandClass::AnyText.takes(second) && OperandClass::AnyText.takes(first)) {
         return Ok(false);
     }
     types.push(Ty::Varchar {
@@ -217,7 +199,7 @@ pub(crate) fn choice(types: &mut TypeStack, least: u32, n: u32) -> Result<bool, 
         return Ok(false);
     }
     types.push(ty)?;
-    if !take_many(types, Class::One(ty), n) {
+    if !take_many(types, OperandClass::OneType(ty), n) {
         return Ok(false);
     }
     types.push(ty)?;
@@ -251,7 +233,7 @@ pub(crate) fn choice_of_numbers(types: &mut TypeStack, n: u32) -> Result<bool, O
 pub(crate) fn line(types: &mut TypeStack, n: u32) -> bool
     ensures { (if nat_le n 1000000 then none_for (take_classes (replicate n AnyText) [] types.old) else None) ≡ (if result then Some types.new else None) }
 {
-    n <= 1_000_000 && take_many(types, Class::Text, n)
+    n <= 1_000_000 && take_many(types, OperandClass::AnyText, n)
 }
 
 pub(crate) fn nothing(types: &TypeStack) -> bool
@@ -265,14 +247,14 @@ pub(crate) fn nothing(types: &TypeStack) -> bool
 pub(crate) fn only(types: &mut TypeStack, ty: Ty) -> bool
     ensures { none_below (take_classes (OneType ty ∷ []) [] types.old) ≡ (if result then Some types.new else None) }
 {
-    take_one(types, Class::One(ty)) && nothing(types)
+    take_one(types, OperandClass::OneType(ty)) && nothing(types)
 }
 
 // Takes the last argument off, where it has its parameter's type.
 fn take_last(types: &mut TypeStack, last: &ParameterPart) -> bool
     ensures { (before : Items ParameterPartModel) → below_classes (map (λ (p : ParameterPartModel). OneType p.ty) (reverse (before ++ last.now ∷ []))) types.old ≡ (if result then below_classes (map (λ (p : ParameterPartModel). OneType p.ty) (reverse before)) types.new else None) }
 {
-    take_one(types, Class::One(last.ty))
+    take_one(types, OperandClass::OneType(last.ty))
 }
 
 // The arguments of a call, the last one on top.

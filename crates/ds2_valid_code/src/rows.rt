@@ -10,13 +10,13 @@ ghost use Rattle.ds2_valid_code.specs.CodeScan.{owner_role};
 use crate::layout::slot_type;
 use crate::owner::CodeOwner;
 use crate::results::{
-    ScaleRule, both_texts, call, choice, choice_of_numbers, conversion, decimals, drop_one, line,
-    load, nothing, null, only, operation, part_of_text, same_decimal, store,
+    ScaleRule, applied, both_texts, call, choice, choice_of_numbers, conversion, decimals,
+    drop_one, line, load, nothing, null, only, operation, same_decimal, store,
 };
-use crate::stack::{Class, TypeStack};
+use crate::stack::TypeStack;
 use ds2_base::OutOfMemory;
 use ds2_code::{Constant, HashPart, Instr, MethodPart, OutputPart, ProgramParts};
-use ds2_value::{TEXT_CHARACTERS, Ty};
+use ds2_value::{OperandClass, TEXT_CHARACTERS, Ty};
 
 fn constant_type(constants: &[Constant], k: u32) -> Option<Ty>
     ensures { result ≡ option_map (λ (c : ConstantModel). c.ty) (slice_get constants.now k) }
@@ -151,7 +151,7 @@ fn unit_end(types: &TypeStack, methods: &[MethodPart], owner: CodeOwner) -> bool
 }
 
 // A whole number.
-const WHOLE: Class = Class::One(Ty::BigInt);
+const WHOLE: OperandClass = OperandClass::OneType(Ty::BigInt);
 
 /// Whether the operands suffice for an instruction; the types are then those behind it.
 pub(crate) fn types_behind(
@@ -170,43 +170,33 @@ pub(crate) fn types_behind(
         Instr::GStore(n) => Ok(store(types, slot_type(code.slots.as_slice(), n))),
         Instr::LLoad(n) => load(types, local_type(code.methods.as_slice(), owner, n)),
         Instr::LStore(n) => Ok(store(types, local_type(code.methods.as_slice(), owner, n))),
-        Instr::DropTop => Ok(drop_one(types, Class::Any)),
+        Instr::DropTop => Ok(drop_one(types, OperandClass::AnyType)),
         Instr::IToD => operation(types, &[WHOLE], Ty::Decimal { p: 19, s: 0 }),
-        Instr::Rescale(p, s) => conversion(types, Class::Decimal, Ty::Decimal { p, s }),
-        Instr::Pad(n) => conversion(types, Class::Text, Ty::Char { n }),
-        Instr::Cut(n) => conversion(types, Class::Text, Ty::Varchar { n }),
-        Instr::IAdd
-        | Instr::ISub
-        | Instr::IMul
-        | Instr::IMod
-        | Instr::ICmp(_)
-        | Instr::And
-        | Instr::Or => operation(types, &[WHOLE, WHOLE], Ty::BigInt),
-        Instr::INeg | Instr::IAbs | Instr::Not | Instr::ITruth => operation(
-            types,
-            &[WHOLE],
-            Ty::BigInt,
-        ),
-        Instr::DAdd | Instr::DSub | Instr::DMod => decimals(types, ScaleRule::Greater),
+        Instr::Rescale(p, s) => conversion(types, OperandClass::AnyDecimal, Ty::Decimal { p, s }),
+        Instr::Pad(n) => conversion(types, OperandClass::AnyText, Ty::Char { n }),
+        Instr::Cut(n) => conversion(types, OperandClass::AnyText, Ty::Varchar { n }),
+        Instr::IAdd | Instr::ISub | Instr::IMul | Instr::ICmp(_) | Instr::And | Instr::Or =>
+            operation(types, &[WHOLE, WHOLE], Ty::BigInt),
+        Instr::INeg | Instr::Not | Instr::ITruth => operation(types, &[WHOLE], Ty::BigInt),
+        Instr::DAdd | Instr::DSub => decimals(types, ScaleRule::Greater),
         Instr::DMul => decimals(types, ScaleRule::Sum),
         Instr::DDiv => decimals(types, ScaleRule::Quotient),
-        Instr::DNeg | Instr::DAbs => same_decimal(types),
-        Instr::DFloor | Instr::DCeil => operation(
+        Instr::DNeg => same_decimal(types),
+        Instr::DCmp(_) => operation(
             types,
-            &[Class::Decimal],
-            Ty::Decimal { p: 38, s: 0 },
+            &[OperandClass::AnyDecimal, OperandClass::AnyDecimal],
+            Ty::BigInt,
         ),
-        Instr::DCmp(_) => operation(types, &[Class::Decimal, Class::Decimal], Ty::BigInt),
-        Instr::TCmp(_) => operation(types, &[Class::Text, Class::Text], Ty::BigInt),
-        Instr::DTruth => operation(types, &[Class::Decimal], Ty::BigInt),
-        Instr::IsNull => operation(types, &[Class::Any], Ty::BigInt),
+        Instr::TCmp(_) => operation(
+            types,
+            &[OperandClass::AnyText, OperandClass::AnyText],
+            Ty::BigInt,
+        ),
+        Instr::DTruth => operation(types, &[OperandClass::AnyDecimal], Ty::BigInt),
+        Instr::Apply(function) => applied(types, function),
         Instr::Choose(n) => choice(types, 1, n),
         Instr::Least(n) | Instr::Greatest(n) => choice_of_numbers(types, n),
         Instr::Cat => both_texts(types),
-        Instr::Len => operation(types, &[Class::Text], Ty::BigInt),
-        Instr::Substr => part_of_text(types, &[WHOLE, WHOLE]),
-        Instr::SubFrom => part_of_text(types, &[WHOLE]),
-        Instr::Trim => part_of_text(types, &[]),
         Instr::Tick(_) | Instr::NoWhen => Ok(true),
         Instr::Jump(_) => Ok(nothing(types)),
         Instr::JFalse(_) | Instr::JTrue(_) => Ok(only(types, Ty::BigInt)),
@@ -214,7 +204,11 @@ pub(crate) fn types_behind(
         Instr::Ret => Ok(return_alone(types, code.methods.as_slice(), owner)),
         Instr::RetV => Ok(return_result(types, code.methods.as_slice(), owner)),
         Instr::Output(o) => Ok(names_output(types, code.outputs.as_slice(), o)),
-        Instr::Show => operation(types, &[Class::Any], Ty::Varchar { n: TEXT_CHARACTERS }),
+        Instr::Show => operation(
+            types,
+            &[OperandClass::AnyType],
+            Ty::Varchar { n: TEXT_CHARACTERS },
+        ),
         Instr::Put(n) => Ok(line(types, n)),
         Instr::HCall(h, _) => hash_call(types, code.hashes.as_slice(), h),
         Instr::ICall(i, _) => iterator_call(types, code.iterators.as_slice(), i),

@@ -1,11 +1,9 @@
 //! The types of the operands of a frame.
-ghost use Rattle.std.specs.Prelude.{◌≡◌, [], ◌∷◌, Some, None, MatchOption, OnOk, map, replicate, if◌then◌else◌};
-ghost use Rattle.ds2_code.specs.OperandTypes.{is_of_class, is_decimal_type, is_text_type};
-ghost use Rattle.ds2_valid_code.specs.OperandStack.{stands_empty, operand_class, below_classes};
+ghost use Rattle.std.specs.Prelude.{◌≡◌, [], ◌∷◌, Some, None, MatchOption, OnOk, replicate, reverse, take, if◌then◌else◌};
+ghost use Rattle.ds2_valid_code.specs.OperandStack.{stands_empty, below_classes};
 
-use crate::layout::same_ty;
 use ds2_base::OutOfMemory;
-use ds2_value::Ty;
+use ds2_value::{OperandClass, Ty};
 use std::alloc::Global;
 use std::marker::Model;
 
@@ -22,15 +20,6 @@ impl Model for TypeStack {
     ghost Value = { List Item };
 
     ghost view = { λ s. reverse s.items.items };
-}
-
-/// What an instruction needs of an operand.
-#[derive(Clone, Copy, PartialEq, Eq)]
-pub(crate) enum Class {
-    One(Ty),
-    Decimal,
-    Text,
-    Any,
 }
 
 impl TypeStack {
@@ -55,6 +44,14 @@ impl TypeStack {
         self.items.pop()
     }
 
+    /// The types of the last operands, so many where there are, the topmost one last.
+    pub(crate) fn last(&self, n: usize) -> &[Ty]
+        ensures { result.now ≡ reverse (take n self.now) }
+    {
+        let first = self.items.len().saturating_sub(n);
+        self.items.as_slice().split_at(first).1
+    }
+
     pub(crate) fn is_empty(&self) -> bool
         ensures { result ≡ stands_empty self.now }
     {
@@ -68,48 +65,19 @@ impl TypeStack {
     }
 }
 
-pub(crate) fn is_of_class(class: Class, ty: Ty) -> bool
-    ensures { result ≡ is_of_class (operand_class class) ty }
-{
-    match class {
-        Class::One(needed) => same_ty(needed, ty),
-        Class::Decimal => is_decimal(ty),
-        Class::Text => is_text(ty),
-        Class::Any => true,
-    }
-}
-
-fn is_decimal(ty: Ty) -> bool
-    ensures { result ≡ is_decimal_type ty }
-{
-    match ty {
-        Ty::Decimal { .. } => true,
-        Ty::BigInt | Ty::Char { .. } | Ty::Varchar { .. } => false,
-    }
-}
-
-pub(crate) fn is_text(ty: Ty) -> bool
-    ensures { result ≡ is_text_type ty }
-{
-    match ty {
-        Ty::Char { .. } | Ty::Varchar { .. } => true,
-        Ty::BigInt | Ty::Decimal { .. } => false,
-    }
-}
-
 // Takes an operand of a class off, where there is one on top.
-pub(crate) fn take_one(types: &mut TypeStack, class: Class) -> bool
-    ensures { below_classes (operand_class class ∷ []) types.old ≡ (if result then Some types.new else None) }
+pub(crate) fn take_one(types: &mut TypeStack, class: OperandClass) -> bool
+    ensures { below_classes (class ∷ []) types.old ≡ (if result then Some types.new else None) }
 {
     match types.pop() {
         None => false,
-        Some(ty) => is_of_class(class, ty),
+        Some(ty) => class.takes(ty),
     }
 }
 
 // Takes operands off, the topmost one as the first class says.
-pub(crate) fn take(types: &mut TypeStack, classes: &[Class]) -> bool
-    ensures { below_classes (map operand_class classes.now) types.old ≡ (if result then Some types.new else None) }
+pub(crate) fn take(types: &mut TypeStack, classes: &[OperandClass]) -> bool
+    ensures { below_classes classes.now types.old ≡ (if result then Some types.new else None) }
 {
     let mut rest = classes;
     'classes: while let [class, after @ ..] = rest {
@@ -122,8 +90,8 @@ pub(crate) fn take(types: &mut TypeStack, classes: &[Class]) -> bool
 }
 
 // Takes n operands of a class off.
-pub(crate) fn take_many(types: &mut TypeStack, class: Class, n: u32) -> bool
-    ensures { below_classes (replicate n (operand_class class)) types.old ≡ (if result then Some types.new else None) }
+pub(crate) fn take_many(types: &mut TypeStack, class: OperandClass, n: u32) -> bool
+    ensures { below_classes (replicate n class) types.old ≡ (if result then Some types.new else None) }
 {
     let mut left = n;
     'operands: while left > 0 {

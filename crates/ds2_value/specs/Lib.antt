@@ -14,4 +14,5 @@ pub mod TextLaws
 pub mod Texts
 pub mod Types
 pub mod Value
+pub mod ValueFunctions
 pub mod ValueLaws

@@ -28,6 +28,7 @@ mod texts;
 mod truth;
 mod ty;
 mod value;
+mod value_function;
 
 pub use arithmetic::{absolute, difference, negative, product, remainder, sum};
 pub use assignment::{assign, assign_owned};
@@ -44,3 +45,4 @@ pub use schema::{Column, Schema, copy_columns};
 pub use truth::{Truth, and, not, or};
 pub use ty::{TEXT_CHARACTERS, Ty, join_types};
 pub use value::{Row, Value, copy_row};
+pub use value_function::{OperandClass, ResultType, ValueFunction};

@@ -1,6 +1,7 @@
 //! Instructions without a field.
 use ds2_base::Place;
 use ds2_code::Instr;
+use ds2_value::ValueFunction;
 
 fn of_whole_numbers(word: &str) -> Option<Instr> {
     match word {
@@ -9,8 +10,6 @@ fn of_whole_numbers(word: &str) -> Option<Instr> {
         "ISUB" => Some(Instr::ISub),
         "IMUL" => Some(Instr::IMul),
         "INEG" => Some(Instr::INeg),
-        "IABS" => Some(Instr::IAbs),
-        "IMOD" => Some(Instr::IMod),
         _ => None,
     }
 }
@@ -22,10 +21,6 @@ fn of_decimals(word: &str) -> Option<Instr> {
         "DMUL" => Some(Instr::DMul),
         "DDIV" => Some(Instr::DDiv),
         "DNEG" => Some(Instr::DNeg),
-        "DABS" => Some(Instr::DAbs),
-        "DMOD" => Some(Instr::DMod),
-        "DFLOOR" => Some(Instr::DFloor),
-        "DCEIL" => Some(Instr::DCeil),
         _ => None,
     }
 }
@@ -37,7 +32,6 @@ fn of_truth(word: &str) -> Option<Instr> {
         "NOT" => Some(Instr::Not),
         "ITRUTH" => Some(Instr::ITruth),
         "DTRUTH" => Some(Instr::DTruth),
-        "ISNULL" => Some(Instr::IsNull),
         _ => None,
     }
 }
@@ -45,11 +39,24 @@ fn of_truth(word: &str) -> Option<Instr> {
 fn of_texts(word: &str) -> Option<Instr> {
     match word {
         "CAT" => Some(Instr::Cat),
-        "LEN" => Some(Instr::Len),
-        "SUBSTR" => Some(Instr::Substr),
-        "SUBFROM" => Some(Instr::SubFrom),
-        "TRIM" => Some(Instr::Trim),
         "SHOW" => Some(Instr::Show),
+        _ => None,
+    }
+}
+
+fn function(word: &str) -> Option<ValueFunction> {
+    match word {
+        "IABS" => Some(ValueFunction::IntegerAbsolute),
+        "IMOD" => Some(ValueFunction::IntegerModulo),
+        "DABS" => Some(ValueFunction::DecimalAbsolute),
+        "DMOD" => Some(ValueFunction::DecimalModulo),
+        "DFLOOR" => Some(ValueFunction::Floor),
+        "DCEIL" => Some(ValueFunction::Ceiling),
+        "ISNULL" => Some(ValueFunction::IsNull),
+        "LEN" => Some(ValueFunction::Length),
+        "SUBSTR" => Some(ValueFunction::Substring),
+        "SUBFROM" => Some(ValueFunction::SubstringFrom),
+        "TRIM" => Some(ValueFunction::Trim),
         _ => None,
     }
 }
@@ -84,6 +91,9 @@ fn of_numbers(word: &str) -> Option<Instr> {
 pub fn operation(word: &str) -> Option<Instr> {
     if let Some(instr) = of_ways(word) {
         return Some(instr);
+    }
+    if let Some(function) = function(word) {
+        return Some(Instr::Apply(function));
     }
     match of_numbers(word) {
         Some(instr) => Some(instr),

@@ -1,7 +1,7 @@
 use Rattle.std.proofs.Common.{◌≡◌, length}
 use Rattle.std.specs.Prelude.{map, reverse}
 use Rattle.ds2_code.specs.declared.parts.ParameterPart.{ParameterPart}
-use Rattle.ds2_code.specs.OperandTypes.{OneType}
+use Rattle.ds2_value.specs.declared.value_function.OperandClass.TheVariants.{OneType}
 use Rattle.ds2_valid_code.specs.OperandStack.{below_classes}
 use Rattle.ds2_valid_code.proofs.results.take_arguments.Given as goal
 

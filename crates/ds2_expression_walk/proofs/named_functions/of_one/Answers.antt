@@ -1,9 +1,0 @@
-use Rattle.std.proofs.Common.{sym, ◌∙◌}
-use Rattle.ds2_expression_walk.proofs.ArgumentForms.{not_single, of_single}
-use Rattle.ds2_expression_walk.proofs.named_functions.of_one.Goals as goal
-
-pub returns-in-None : goal.returns-in-None
-returns-in-None c = λ xs h. not_single c.args.function c.args.name xs c.args.arguments c.nameless.result (sym c.single.ensures ∙ c.in-None.is) h c.nameless.ensures
-
-pub returns-in-Some : goal.returns-in-Some
-returns-in-Some c = λ xs h. of_single c.args.function c.args.name xs c.args.arguments c.in-Some.x c.of_value.result (sym c.single.ensures ∙ c.in-Some.is) h c.of_value.ensures
