@@ -15,7 +15,7 @@ use Rattle.ds2_code.specs.declared.parts.OutputPart.{OutputPart}
 use Rattle.ds2_code.specs.declared.parts.ParameterPart.{ParameterPart}
 use Rattle.ds2_code.specs.declared.parts.ProgramParts.{ProgramParts}
 use Rattle.ds2_code.specs.InstructionTable.{Kind, Pure, Partial, Loads, Stores, Drops, CallsHash, CallsIterator, Writes, Puts, Ticks, Jumps, Tests, Enters, GoesBack, Raises, Finishes, kind_of}
-use Rattle.ds2_value.specs.ValueFunctions.{row_of, type_by, is_of_class, always, as_operand, by_scales}
+use Rattle.ds2_value.specs.ValueFunctions.{function_row, type_by, is_of_class, always, as_operand, by_scales}
 use Rattle.ds2_value.specs.declared.value_function.OperandClass.{OperandClass}
 use Rattle.ds2_value.specs.declared.value_function.OperandClass.TheVariants.{OneType, AnyDecimal, AnyText, AnyType}
 use Rattle.ds2_code.specs.OperandTypes.{OperandTypes, Signature, CodeRole, OfUnit, OfMethod, TakenTypes, take_classes, with_type, one_for, none_for, when_none, none_below, both_texts, is_number_type, chosen_types, chosen_numbers, when_there, stored_type, with_in_out_types, with_result_type, after_call_types, call_types, without_result, with_only_result, return_types, result_types, types_behind}
@@ -224,7 +224,7 @@ module _ (code : ProgramParts) (parameters : List (Option Ty)) (role : CodeRole)
   counts (instr.Choose n) types after h = chosen_counts 1 n types after h
   counts (instr.Least n) types after h = number_counts n types after h
   counts (instr.Greatest n) types after h = number_counts n types after h
-  counts (instr.Apply f) types after h = one_counts (type_by (row_of f).result) (row_of f).operands types after h
+  counts (instr.Apply f) types after h = one_counts (type_by (function_row f).result) (function_row f).operands types after h
   counts instr.Cat types after h = one_counts both_texts (AnyText ∷ AnyText ∷ []) types after h
   counts (instr.Tick p) types after h = same_counts types after h
   counts (instr.Jump t) types after h = (none_is types after h).0

@@ -28,7 +28,7 @@ use Rattle.ds2_code.specs.declared.parts.ProgramParts.{ProgramParts}
 use Rattle.ds2_code.specs.CodeRun.{method_result}
 use Rattle.ds2_code.specs.Desk.{Desk, Taken, take_off, constant_value, loaded_value, with_stored}
 use Rattle.ds2_code.specs.InstructionTable.{Kind, Pure, Partial, Loads, Stores, Drops, CallsHash, CallsIterator, Writes, Puts, Ticks, Jumps, Tests, Enters, GoesBack, Raises, Finishes, kind_of}
-use Rattle.ds2_value.specs.ValueFunctions.{row_of, type_by, function_value, always, as_operand, by_scales, part_of_first}
+use Rattle.ds2_value.specs.ValueFunctions.{function_row, type_by, function_value, always, as_operand, by_scales, part_of_first}
 use Rattle.ds2_value.specs.declared.value_function.OperandClass.{OperandClass}
 use Rattle.ds2_value.specs.declared.value_function.OperandClass.TheVariants.{OneType, AnyDecimal, AnyText, AnyType}
 use Rattle.ds2_code.specs.OperandTypes.{OperandTypes, Signature, CodeRole, OfUnit, OfMethod, TakenTypes, take_classes, with_type, one_for, none_for, both_texts, when_there, stored_type, types_of_parameters, types_of_locals, with_in_out_types, with_result_type, after_call_types, call_types, without_result, with_only_result, return_types, result_types, slot_type, types_behind}
@@ -176,8 +176,8 @@ module _ (code : ProgramParts) (constants : list_all constant_allowed code.const
   sure f n types after made stack t v s g e = let is : f t.values ≡ v = cc in subst (λ z. AreScaled (z ∷ t.below) after) is (made stack t s g)
 
   -- functions of values, row by row
-  function_scales : (f : ValueFunction) (types after : OperandTypes) → one_for (type_by (row_of f).result) (take_classes (row_of f).operands [] types) ≡ Some after
-      → (stack : Row) (t : Taken) (v : Value) → AreScaled stack types → take_off (length (row_of f).operands) [] stack ≡ Some t → function_value f t.values ≡ Ok v → AreScaled (v ∷ t.below) after
+  function_scales : (f : ValueFunction) (types after : OperandTypes) → one_for (type_by (function_row f).result) (take_classes (function_row f).operands [] types) ≡ Some after
+      → (stack : Row) (t : Taken) (v : Value) → AreScaled stack types → take_off (length (function_row f).operands) [] stack ≡ Some t → function_value f t.values ≡ Ok v → AreScaled (v ∷ t.below) after
   function_scales function.IntegerAbsolute types after h = plain_outcome _ absolute_plain (always BigInt) (OneType BigInt ∷ []) types after h
   function_scales function.IntegerModulo types after h = plain_outcome _ remainder_plain (always BigInt) (OneType BigInt ∷ OneType BigInt ∷ []) types after h
   function_scales function.DecimalAbsolute types after h = sure (of_one (of_decimal decimal.abs)) 1 types after (same_sign decimal.abs (λ d. refl) types after h)

@@ -1,5 +1,5 @@
 -- The machine's table: what each instruction is, by kinds.
-use Rattle.std.specs.Prelude.{ℕ, Bool, true, false, [], ◌∷◌, length, fold, Result, Ok}
+use Rattle.std.specs.Prelude.{ℕ, Bool, true, false, [], ◌∷◌, length, fold, Result}
 use Rattle.ds2_base.specs.declared.place.Place.{Place}
 use Rattle.ds2_decimal.specs.Arithmetic as decimal
 use Rattle.ds2_value.specs.Functions.{concat_of, first_of, lesser_of, greater_of}
@@ -7,7 +7,7 @@ use Rattle.ds2_value.specs.Operations.{of_decimals, of_decimal, truth_value, wid
 use Rattle.ds2_value.specs.Row.{Row}
 use Rattle.ds2_value.specs.Types.{assign_of}
 use Rattle.ds2_value.specs.Value.{sum_of, difference_of, product_of, negative_of, compared_of, truth_of, and_of, or_of, not_of}
-use Rattle.ds2_value.specs.ValueFunctions.{row_of, function_value}
+use Rattle.ds2_value.specs.ValueFunctions.{function_row, function_value}
 use Rattle.ds2_value.specs.declared.fault.Fault.{Fault}
 use Rattle.ds2_value.specs.declared.fault.Fault.TheVariants.{NoWhen as NoWhenFault}
 use Rattle.ds2_value.specs.declared.hash_function.HashFunction.{HashFunction}
@@ -92,7 +92,7 @@ kind_of instr.DTruth = Pure 1 (of_one (λ a. truth_value (truth_of a)))
 kind_of (instr.Choose n) = Pure n (fold first_of Null)
 kind_of (instr.Least n) = Pure n (fold lesser_of Null)
 kind_of (instr.Greatest n) = Pure n (fold greater_of Null)
-kind_of (instr.Apply f) = Partial (length (row_of f).operands) (function_value f)
+kind_of (instr.Apply f) = Partial (length (function_row f).operands) (function_value f)
 kind_of instr.Cat = Pure 2 concat_of
 kind_of (instr.Tick place) = Ticks place
 kind_of (instr.Jump target) = Jumps target

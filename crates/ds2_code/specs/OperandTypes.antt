@@ -1,9 +1,9 @@
 -- The types of operands: what each instruction needs on the operand list, and what it leaves there.
-use Rattle.std.specs.Prelude.{ℕ, ◌+◌, ◌==◌, max, min, nat_le, Bool, true, false, ◌&&◌, if◌then◌else◌, List, [], ◌∷◌, ◌++◌, map, reverse, replicate, slice_get, Option, Some, None, unwrap_or}
+use Rattle.std.specs.Prelude.{ℕ, ◌+◌, max, min, nat_le, Bool, true, false, ◌&&◌, if◌then◌else◌, List, [], ◌∷◌, ◌++◌, map, reverse, replicate, slice_get, Option, Some, None, unwrap_or}
 use Rattle.std.specs.List.{cons_option}
 use Rattle.std.specs.Option.{option_and, option_map}
 use Rattle.ds2_value.specs.Types.{in_bounds}
-use Rattle.ds2_value.specs.ValueFunctions.{is_of_class, always, as_operand, by_scales, text_length, type_by, row_of}
+use Rattle.ds2_value.specs.ValueFunctions.{is_of_class, always, as_operand, by_scales, text_length, type_by, function_row}
 use Rattle.ds2_value.specs.declared.ty.TheConstants.{TEXT_CHARACTERS}
 use Rattle.ds2_value.specs.declared.ty.Ty.{Ty}
 use Rattle.ds2_value.specs.declared.ty.Ty.TheVariants.{BigInt, Decimal as DecimalOf, Char, Varchar}
@@ -216,7 +216,7 @@ types_behind code parameters role instr.DTruth types = one_for (always BigInt) (
 types_behind code parameters role (instr.Choose n) types = chosen_types 1 n types
 types_behind code parameters role (instr.Least n) types = chosen_numbers n types
 types_behind code parameters role (instr.Greatest n) types = chosen_numbers n types
-types_behind code parameters role (instr.Apply f) types = one_for (type_by (row_of f).result) (take_classes (row_of f).operands [] types)
+types_behind code parameters role (instr.Apply f) types = one_for (type_by (function_row f).result) (take_classes (function_row f).operands [] types)
 types_behind code parameters role instr.Cat types = one_for both_texts (take_classes (AnyText ∷ AnyText ∷ []) [] types)
 types_behind code parameters role (instr.Tick place) types = Some types
 types_behind code parameters role (instr.Jump target) types = when_none types

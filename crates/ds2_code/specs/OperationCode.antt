@@ -1,10 +1,10 @@
 -- The numbers of the instructions' rows, which are their operation codes in an object file.
 use Rattle.std.specs.Prelude.{◌≡◌, ℕ, zero, suc, ◌+◌, List, [], ◌∷◌}
 use Rattle.std.specs.List.{range_with_len}
-use Rattle.ds2_value.specs.ValueFunctions.{row_of}
+use Rattle.ds2_value.specs.ValueFunctions.{function_row}
 use Rattle.ds2_code.specs.declared.instr.Instr.{Instr}
 use Rattle.ds2_code.specs.declared.instr.Instr.TheVariants as instr
-use Rattle.ds2_code.specs.declared.rows.TheConstants.{ROWS}
+use Rattle.ds2_code.specs.declared.rows.TheConstants.{ROWS, ROW_COUNT}
 
 -- the number of an instruction's row in the machine's table
 abbrev pub operation_code : Instr → ℕ
@@ -39,7 +39,7 @@ operation_code instr.DTruth = 33
 operation_code (instr.Choose a) = 35
 operation_code (instr.Least a) = 36
 operation_code (instr.Greatest a) = 37
-operation_code (instr.Apply f) = (row_of f).code
+operation_code (instr.Apply f) = (function_row f).code
 operation_code instr.Cat = 38
 operation_code (instr.Tick a) = 43
 operation_code (instr.Jump a) = 44
@@ -61,6 +61,6 @@ operation_code instr.End = 57
 abbrev pub codes_from : ℕ → ℕ → List ℕ
 codes_from n k = range_with_len n k
 
--- the rows of the machine's table have the numbers 0 to 57, in order
+-- the rows of the machine's table have the numbers from 0 on, in order
 abbrev pub RowsInOrder : Type 0
-RowsInOrder = ROWS.codes ≡ codes_from 0 58
+RowsInOrder = ROWS.codes ≡ codes_from 0 ROW_COUNT

@@ -30,4 +30,4 @@ pub use parts::{
     ByPart, Constant, HashPart, HashTable, MethodPart, OutputPart, ParameterPart, ProgramParts,
     ReadPart, ReadingPart, Slot, SlotRole, StagedParts, TableReference,
 };
-pub use rows::{ROWS, Rows, rows_in_order};
+pub use rows::{ROW_COUNT, ROWS, Rows, rows_in_order};

@@ -5,6 +5,9 @@ ghost use Rattle.ds2_code.specs.OperationCode.{operation_code, RowsInOrder};
 use crate::Instr;
 use ds2_value::ValueFunction;
 
+/// How many rows the machine's table has.
+pub const ROW_COUNT: usize = 58;
+
 /// A table with an item for each row of the machine's table.
 #[derive(Clone, Copy)]
 pub struct Rows<const N: usize> {
@@ -105,11 +108,11 @@ macro_rules! code_of {
 }
 
 /// The rows of the machine's table.
-pub const ROWS: Rows<58> = Rows {
+pub const ROWS: Rows<ROW_COUNT> = Rows {
     codes: with_rows!(codes),
 };
 
-const _: () = prove!(ROWS.codes.len() == 58);
+const _: () = prove!(ROWS.codes.len() == ROW_COUNT);
 
 impl Instr {
     /// The number of the instruction's row.

@@ -4,7 +4,7 @@ use Rattle.std.specs.Prelude.{unwrap_or}
 use Rattle.std.proofs.lemmas.Bool.{and_parts}
 use Rattle.ds2_base.specs.declared.place.Place.{Place}
 use Rattle.ds2_value.specs.Types.{in_bounds}
-use Rattle.ds2_value.specs.ValueFunctions.{is_text_type, are_of_classes, type_by, row_of, function_type}
+use Rattle.ds2_value.specs.ValueFunctions.{is_text_type, are_of_classes, type_by, function_row, function_type}
 use Rattle.ds2_value.specs.declared.ty.Ty.{Ty}
 use Rattle.ds2_value.specs.declared.ty.Ty.TheVariants.{BigInt, Decimal as DecimalOf, Char, Varchar}
 use Rattle.ds2_value.specs.declared.value_function.OperandClass.{OperandClass}
@@ -53,18 +53,18 @@ goes_by_text _ = true
 
 abbrev right_integer : Option Function → Bool
 right_integer None = true
-right_integer (Some (function.Value f)) = are_of_classes (row_of f).operands (BigInt ∷ []) && goes_by_number (row_of f).result
+right_integer (Some (function.Value f)) = are_of_classes (function_row f).operands (BigInt ∷ []) && goes_by_number (function_row f).result
 right_integer (Some function.Unchanged) = true
 right_integer (Some _) = false
 
 abbrev right_decimal : Option Function → Bool
 right_decimal None = true
-right_decimal (Some (function.Value f)) = takes_decimals (row_of f).operands && goes_by_number (row_of f).result
+right_decimal (Some (function.Value f)) = takes_decimals (function_row f).operands && goes_by_number (function_row f).result
 right_decimal (Some _) = false
 
 abbrev right_text : Option Function → Bool
 right_text None = true
-right_text (Some (function.Value f)) = takes_texts (row_of f).operands && goes_by_text (row_of f).result
+right_text (Some (function.Value f)) = takes_texts (function_row f).operands && goes_by_text (function_row f).result
 right_text (Some _) = false
 
 -- what a function is for each type takes a value of that type
@@ -118,13 +118,13 @@ text_gives PartOfFirst (Varchar n) h e b = (refl, b)
 abbrev pub Takes : Function → Ty → Type 0
 Takes f ty = IsApplication f (ty ∷ []) (type_of_one f ty) × (in_bounds (type_of_one f ty) ≡ true)
 
-row_takes : (f : ValueFunction) (ty : Ty) → are_of_classes (row_of f).operands (ty ∷ []) ≡ true → GivesType (row_of f).result ty → Takes (function.Value f) ty
-row_takes f ty h g = (ap (λ b. if b then type_by (row_of f).result (ty ∷ []) else None) h ∙ g.0, g.1)
+row_takes : (f : ValueFunction) (ty : Ty) → are_of_classes (function_row f).operands (ty ∷ []) ≡ true → GivesType (function_row f).result ty → Takes (function.Value f) ty
+row_takes f ty h g = (ap (λ b. if b then type_by (function_row f).result (ty ∷ []) else None) h ∙ g.0, g.1)
 
 integer_takes : (o : Option Function) → right_integer o ≡ true → is_some o ≡ true → Takes (unwrap_or o function.Unchanged) BigInt
 integer_takes None r h = cc
 integer_takes (Some (function.Value f)) r h =
-    let p = and_parts (are_of_classes (row_of f).operands (BigInt ∷ [])) (goes_by_number (row_of f).result) r in row_takes f BigInt p.0 (number_gives (row_of f).result BigInt p.1 refl)
+    let p = and_parts (are_of_classes (function_row f).operands (BigInt ∷ [])) (goes_by_number (function_row f).result) r in row_takes f BigInt p.0 (number_gives (function_row f).result BigInt p.1 refl)
 integer_takes (Some function.Unchanged) r h = ((refl, refl), refl)
 integer_takes (Some function.Coalesce) r h = cc
 integer_takes (Some function.Least) r h = cc
@@ -133,8 +133,8 @@ integer_takes (Some function.Greatest) r h = cc
 decimal_takes : (o : Option Function) (p s : ℕ) → right_decimal o ≡ true → is_some o ≡ true → in_bounds (DecimalOf p s) ≡ true → Takes (unwrap_or o function.Unchanged) (DecimalOf p s)
 decimal_takes None p s r h b = cc
 decimal_takes (Some (function.Value f)) p s r h b =
-    let q = and_parts (takes_decimals (row_of f).operands) (goes_by_number (row_of f).result) r in
-    row_takes f (DecimalOf p s) (decimal_taken (row_of f).operands p s q.0) (number_gives (row_of f).result (DecimalOf p s) q.1 b)
+    let q = and_parts (takes_decimals (function_row f).operands) (goes_by_number (function_row f).result) r in
+    row_takes f (DecimalOf p s) (decimal_taken (function_row f).operands p s q.0) (number_gives (function_row f).result (DecimalOf p s) q.1 b)
 decimal_takes (Some function.Unchanged) p s r h b = cc
 decimal_takes (Some function.Coalesce) p s r h b = cc
 decimal_takes (Some function.Least) p s r h b = cc
@@ -143,8 +143,8 @@ decimal_takes (Some function.Greatest) p s r h b = cc
 text_takes : (o : Option Function) (ty : Ty) → is_text_type ty ≡ true → right_text o ≡ true → is_some o ≡ true → in_bounds ty ≡ true → Takes (unwrap_or o function.Unchanged) ty
 text_takes None ty e r h b = cc
 text_takes (Some (function.Value f)) ty e r h b =
-    let q = and_parts (takes_texts (row_of f).operands) (goes_by_text (row_of f).result) r in
-    row_takes f ty (text_taken (row_of f).operands ty q.0 e) (text_gives (row_of f).result ty q.1 e b)
+    let q = and_parts (takes_texts (function_row f).operands) (goes_by_text (function_row f).result) r in
+    row_takes f ty (text_taken (function_row f).operands ty q.0 e) (text_gives (function_row f).result ty q.1 e b)
 text_takes (Some function.Unchanged) ty e r h b = cc
 text_takes (Some function.Coalesce) ty e r h b = cc
 text_takes (Some function.Least) ty e r h b = cc

@@ -3,7 +3,7 @@ use Rattle.std.specs.Prelude.{ℕ, nat_eq, max, length, Bool, true, false, ◌&&
 use Rattle.std.specs.List.{list_all}
 use Rattle.ds2_base.specs.declared.place.Place.{Place}
 use Rattle.ds2_token.specs.declared.token.Token.{Token}
-use Rattle.ds2_value.specs.ValueFunctions.{type_by, row_of}
+use Rattle.ds2_value.specs.ValueFunctions.{type_by, function_row}
 use Rattle.ds2_value.specs.declared.ty.Ty.{Ty}
 use Rattle.ds2_value.specs.declared.ty.Ty.TheVariants.{BigInt, Decimal as DecimalOf, Char, Varchar}
 use Rattle.ds2_value.specs.declared.value_function.ResultType.{ResultType}
@@ -60,7 +60,7 @@ function_for f (Varchar n) = f.text
 
 -- the type of a function's value for a value of this type, which it takes
 abbrev pub type_of_one : Function → Ty → Ty
-type_of_one (function.Value f) ty = unwrap_or (type_by (row_of f).result (ty ∷ [])) BigInt
+type_of_one (function.Value f) ty = unwrap_or (type_by (function_row f).result (ty ∷ [])) BigInt
 type_of_one _ ty = ty
 
 -- a function of a typed value
@@ -78,7 +78,7 @@ is_integer_result _ = false
 -- its value is a BIGINT, where it is there
 abbrev pub is_of_integers : Option Function → Bool
 is_of_integers None = true
-is_of_integers (Some (function.Value f)) = is_integer_result (row_of f).result
+is_of_integers (Some (function.Value f)) = is_integer_result (function_row f).result
 is_of_integers (Some _) = false
 
 -- what is known of a function's type where a rule is broken in it: BIGINT where its value is one of whatever type

@@ -1,21 +1,23 @@
 -- Functions of several values in one type, from what stands of their arguments.
-use Rattle.std.proofs.Common.{◌≡◌, Bool, ◌||◌, not, map, List, [], ◌∷◌, ◌++◌, Option, Some, None, Result, Ok, Err, refl, sym, ap, ◌∙◌, subst}
+use Rattle.std.proofs.Common.{◌≡◌, suc, Bool, ◌||◌, not, map, length, List, [], ◌∷◌, ◌++◌, Option, Some, None, Result, Ok, Err, refl, sym, ap, ◌∙◌, subst}
 use Rattle.std.specs.Prelude.{ℕ}
 use Rattle.std.specs.List.{list_all}
 use Rattle.ds2_base.specs.declared.place.Place.{Place}
 use Rattle.ds2_base.specs.declared.place.Refusal.{Refusal}
 use Rattle.ds2_base.specs.declared.stop.OutOfMemory.{OutOfMemory}
 use Rattle.ds2_value.specs.declared.ty.Ty.{Ty}
+use Rattle.ds2_value.specs.declared.ty.Ty.TheVariants.{Varchar}
+use Rattle.ds2_value.specs.declared.value_function.ValueFunction.{ValueFunction}
 use Rattle.ds2_meaning.specs.IsTyped.{expression_type, type_width}
 use Rattle.ds2_meaning.specs.TypedExpression.{TypedExpression, Applied}
 use Rattle.ds2_meaning.specs.View.{typed_expression}
 use Rattle.ds2_meaning.specs.declared.expressions.Expression.{Expression}
 use Rattle.ds2_meaning.specs.declared.expressions.Function.{Function}
-use Rattle.ds2_meaning.specs.declared.expressions.Function.TheVariants.{Coalesce}
+use Rattle.ds2_meaning.specs.declared.expressions.Function.TheVariants.{Coalesce, Value}
 use Rattle.ds2_meaning.specs.declared.refusals.TypeKind.{TypeKind}
 use Rattle.ds2_names.specs.NameRules.{from_each}
-use Rattle.ds2_elaboration.specs.FunctionTypes.{ElaboratedArgument, nodes_in_order, refusals_in, argument_refusals, known_types, is_null_argument, common_type, elaborated_coalesce, elaborated_extreme}
-use Rattle.ds2_elaboration.specs.Typings.{TypeRefusals, clash_unless, form_of_operands, is_numeric_type, is_characters}
+use Rattle.ds2_elaboration.specs.FunctionTypes.{ElaboratedArgument, nodes_in_order, refusals_in, argument_refusals, known_types, is_null_argument, common_type, elaborated_coalesce, elaborated_extreme, substring_of, elaborated_substring}
+use Rattle.ds2_elaboration.specs.Typings.{TypeRefusals, ElaboratedExpression, clash_unless, form_of_operands, is_numeric_type, is_characters, is_integer_type}
 use Rattle.ds2_expression_types.specs.Arguments.{types_known, is_null_judgement, AreJudged, AreValues}
 use Rattle.ds2_types.specs.Judgements.{first_type_refusal, IsOutcome, Judges, ruled}
 use Rattle.ds2_types.specs.declared.judgement.Judgement.{Judgement}
@@ -73,3 +75,21 @@ pub width_known : (outcome : Result Node (Refusal TypeKind)) (refusals : TypeRef
     → refusals ≡ [] → ((m : Node) → outcome ≡ Ok m → n ≡ type_width m.ty) → n ≡ type_width (expression_type node)
 width_known (Ok m) refusals node n h e k = k m refl ∙ ap type_width (m.own_type ∙ ap expression_type h.1)
 width_known (Err r) refusals node n h e k = let none = sym (ap first_type_refusal e) ∙ h in cc
+
+as_many_judged : (xs : List ElaboratedArgument) (js : List Judgement) → AreJudged xs js → length js ≡ length xs
+as_many_judged [] [] h = refl
+as_many_judged [] (j ∷ js) h = absurd h
+as_many_judged (x ∷ xs) [] h = absurd h
+as_many_judged (x ∷ xs) (j ∷ js) h = ap suc (as_many_judged xs js h.1)
+
+-- a function of a text and numbers
+abbrev pub part_form : ValueFunction → Place → ElaboratedArgument → List ElaboratedArgument → ElaboratedExpression
+part_form f name x numbers =
+    form_of_operands (argument_refusals is_characters name x ++ from_each (argument_refusals is_integer_type name) numbers)
+    (Applied (Value f) (nodes_in_order (x.value.node ∷ map (λ (n : ElaboratedArgument). n.value.node) numbers)) (Varchar (type_width (expression_type x.value.node))))
+
+-- substr(t, i) and substr(t, i, k), by how many numbers there are
+pub is_substring : (name : Place) (x : ElaboratedArgument) (numbers : List ElaboratedArgument) (js : List Judgement) (f : ValueFunction) (count : ℕ) (result : Result Judgement OutOfMemory)
+    → AreJudged numbers js → f ≡ substring_of count → count ≡ length js → Judges (part_form f name x numbers) result → Judges (elaborated_substring name x numbers) result
+is_substring name x numbers js f count result h is n judged =
+    subst (λ (g : ValueFunction). Judges (part_form g name x numbers) result) (is ∙ ap substring_of (n ∙ as_many_judged numbers js h)) judged

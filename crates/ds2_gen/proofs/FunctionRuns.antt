@@ -4,7 +4,7 @@ use Rattle.std.specs.Prelude.{fold, slice_get}
 use Rattle.ds2_value.specs.Functions.{first_of, lesser_of, greater_of}
 use Rattle.ds2_value.specs.Operations.{of_one}
 use Rattle.ds2_value.specs.Row.{Row}
-use Rattle.ds2_value.specs.ValueFunctions.{row_of, function_value}
+use Rattle.ds2_value.specs.ValueFunctions.{function_row, function_value}
 use Rattle.ds2_value.specs.declared.fault.Fault.{Fault}
 use Rattle.ds2_value.specs.declared.value.Value.{Value}
 use Rattle.ds2_value.specs.declared.value.Value.TheVariants.{Null}
@@ -87,7 +87,7 @@ module _ (code : ProgramParts) (p : Placement) (kept : ℕ) where
     pub function_runs : (f : Function) (n at to : ℕ) (vs : List Value) (below : Row) (cells : Cells) (w : RunState) → length vs ≡ n → TakesCount f n → at + length (function_code f n) ≡ to
         → StandsAt code.instrs at (function_code f n) → HoldState p w cells → EvaluatesTo code p kept (from frames at (stacked vs below) cells w) to below (applied f vs w)
     function_runs (function.Value f) n at to vs below cells w count takes e has holds =
-        partial_many (instr.Apply f) (length (row_of f).operands) (function_value f) refl at to vs below cells w (count ∙ takes) e has.0 holds
+        partial_many (instr.Apply f) (length (function_row f).operands) (function_value f) refl at to vs below cells w (count ∙ takes) e has.0 holds
     function_runs function.Coalesce n at to vs below cells w count takes e has holds = pure_many (instr.Choose n) n (fold first_of Null) refl at to vs below cells w count e has.0 holds
     function_runs function.Least n at to vs below cells w count takes e has holds = pure_many (instr.Least n) n (fold lesser_of Null) refl at to vs below cells w count e has.0 holds
     function_runs function.Greatest n at to vs below cells w count takes e has holds = pure_many (instr.Greatest n) n (fold greater_of Null) refl at to vs below cells w count e has.0 holds

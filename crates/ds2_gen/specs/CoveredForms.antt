@@ -1,6 +1,6 @@
 -- The expressions and statements whose variables, constants, methods and objects have their places in the code.
 use Rattle.std.specs.Prelude.{◌≡◌, ℕ, true, false, List, [], ◌∷◌, length, slice_get, Option, Some, None, pos}
-use Rattle.ds2_value.specs.ValueFunctions.{row_of}
+use Rattle.ds2_value.specs.ValueFunctions.{function_row}
 use Rattle.ds2_value.specs.declared.ty.Ty.{Ty}
 use Rattle.ds2_value.specs.declared.ty.Ty.TheVariants.{BigInt}
 use Rattle.ds2_value.specs.declared.value.Value.{Value}
@@ -43,7 +43,7 @@ ReturnsNothing (HandsBack false) = Unit {0}
 
 -- a function takes so many arguments
 abbrev pub TakesCount : Function → ℕ → Type 0
-TakesCount (function.Value f) n = n ≡ length (row_of f).operands
+TakesCount (function.Value f) n = n ≡ length (function_row f).operands
 TakesCount function.Coalesce n = Unit {0}
 TakesCount function.Least n = Unit {0}
 TakesCount function.Greatest n = Unit {0}

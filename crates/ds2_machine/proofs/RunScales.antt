@@ -1,25 +1,23 @@
 -- Decimals keep the scales of their types along a run.
-use Rattle.std.proofs.Common.{◌≡◌, ℕ, ◌+◌, List, [], ◌∷◌, ◌++◌, Option, Some, None, length, replicate, true, false, Bool, refl, sym, ap, ◌∙◌, subst, IsTrue, Result, Ok, Err, IfOk}
+use Rattle.std.proofs.Common.{◌≡◌, ℕ, ◌+◌, List, [], ◌∷◌, ◌++◌, Option, Some, None, length, replicate, true, false, refl, sym, ap, ◌∙◌, subst, Result, Ok, Err, IfOk}
 use Rattle.std.specs.Prelude.{slice_get}
 use Rattle.std.specs.List.{zip}
 use Rattle.ds2_base.specs.declared.place.Place.{Place}
 use Rattle.ds2_value.specs.Row.{Row}
 use Rattle.ds2_value.specs.Run.{Written}
 use Rattle.ds2_value.specs.declared.fault.Ending.{Ending}
-use Rattle.ds2_value.specs.declared.value.Value.{Value}
 use Rattle.ds2_value.specs.declared.value.Value.TheVariants.{Null}
 use Rattle.ds2_code.specs.declared.instr.Instr.{Instr}
 use Rattle.ds2_code.specs.declared.instr.Instr.TheVariants as instr
 use Rattle.ds2_code.specs.declared.parts.ProgramParts.{ProgramParts}
 use Rattle.ds2_code.specs.declared.parts.Slot.{Slot}
 use Rattle.ds2_code.specs.declared.parts.StagedParts.{StagedParts}
-use Rattle.ds2_code.specs.CodeRun.{MachineState, EndReached, NextState, GoesOn, Stops, perform, after_instruction}
+use Rattle.ds2_code.specs.CodeRun.{MachineState, perform, after_instruction}
 use Rattle.ds2_code.specs.CodeUnit.{unit_begun, opening_data, without_cleared}
-use Rattle.ds2_code.specs.Desk.{ProgramData, with_slots, Taken, take_off, SlotSettings, with_slot_settings}
+use Rattle.ds2_code.specs.Desk.{ProgramData, with_slots, take_off, SlotSettings, with_slot_settings}
 use Rattle.ds2_code.specs.InstructionTable.{kind_of}
 use Rattle.ds2_code.specs.ValidCode.{unit_entries}
 use Rattle.ds2_code.specs.Scales.{AreScaled, AreGivenScaled, AreSettingsScaled, types_of_slots, IsDataScaled, IsScaled, UnitsBeginScaled, InstructionsKeepScales, ProductsHaveScales, UnitsEndScaled, SettingsKeepScales, ClearingKeepsScales, LoadedHashesAreScaled}
-use Rattle.ds2_frames.specs.OperationKinds.{operation_operands, has_scales_for}
 use Rattle.ds2_machine.specs.AtRest.{MachineAtRest, staged_program, IsProgramOfValid, IsEndingAt, is_early}
 use Rattle.ds2_machine.specs.MachineView.{UnitTold, nothing_told, machine_of_state, data_of_state, progress_of_state, next_of_state, way_of_next, IsStateScaled, IsSunkStep}
 use Rattle.ds2_machine.specs.Executable.{HasScalesFor}

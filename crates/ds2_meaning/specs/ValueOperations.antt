@@ -1,12 +1,11 @@
 -- What operators and functions make of values, and which of them may fault.
-use Rattle.std.specs.Prelude.{List, [], ◌∷◌, fold, Result, Ok}
+use Rattle.std.specs.Prelude.{List, [], ◌∷◌, fold}
 use Rattle.ds2_decimal.specs.Arithmetic as decimal
 use Rattle.ds2_value.specs.Functions.{concat_of, first_of, lesser_of, greater_of}
 use Rattle.ds2_value.specs.Operations.{of_decimals, of_decimal, truth_value, or_null_at_fault, of_one}
 use Rattle.ds2_value.specs.Types.{assign_of}
 use Rattle.ds2_value.specs.Value.{sum_of, difference_of, product_of, negative_of, truth_of, and_of, or_of, not_of}
 use Rattle.ds2_value.specs.ValueFunctions.{function_value}
-use Rattle.ds2_value.specs.declared.fault.Fault.{Fault}
 use Rattle.ds2_value.specs.declared.ty.Ty.{Ty}
 use Rattle.ds2_value.specs.declared.ty.Ty.TheVariants.{BigInt, Decimal as DecimalOf, Char, Varchar}
 use Rattle.ds2_value.specs.declared.value.Value.{Value}

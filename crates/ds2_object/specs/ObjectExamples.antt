@@ -1,5 +1,6 @@
 -- Object files, byte by byte, with what is read of them.
 use Rattle.std.specs.Prelude.{◌≡◌, [], ◌∷◌, Ok, Err, None}
+use Rattle.ds2_code.specs.declared.rows.TheConstants.{ROW_COUNT}
 use Rattle.ds2_object.specs.ObjectSpelling.{object_spelled, object_read, then_parts}
 use Rattle.ds2_object.specs.declared.refusal.ObjectRefusal.TheVariants.{BadMagic, BadVersion, Truncated, TrailingBytes, BadField}
 
@@ -19,7 +20,7 @@ pub record ObjectExamples : Type 0 where
   -- a data program has no name: its flag is at byte 10
   pub named_data_program : object_read (68 ∷ 83 ∷ 50 ∷ 79 ∷ 1 ∷ 0 ∷ 1 ∷ 0 ∷ 0 ∷ 0 ∷ 1 ∷ []) ≡ Err (BadField 10)
   -- an operation code that is none
-  pub code_of_58 : object_read (68 ∷ 83 ∷ 50 ∷ 79 ∷ 1 ∷ 0 ∷ 1 ∷ 0 ∷ 0 ∷ 0 ∷ 0 ∷ 0 ∷ 0 ∷ 0 ∷ 0 ∷ 0 ∷ 0 ∷ 0 ∷ 0 ∷ 0 ∷ 0 ∷ 0 ∷ 0 ∷ 0 ∷ 0 ∷ 0 ∷ 0 ∷ 0 ∷ 0 ∷ 0 ∷ 0 ∷ 0 ∷ 0 ∷ 0 ∷ 0 ∷ 0 ∷ 0 ∷ 0 ∷ 0 ∷ 0 ∷ 0 ∷ 0 ∷ 0 ∷ 0 ∷ 0 ∷ 0 ∷ 0 ∷ 0 ∷ 0 ∷ 0 ∷ 0 ∷ 0 ∷ 1 ∷ 0 ∷ 0 ∷ 0 ∷ 58 ∷ []) ≡ Err (BadField 56)
+  pub code_past_the_last : object_read (68 ∷ 83 ∷ 50 ∷ 79 ∷ 1 ∷ 0 ∷ 1 ∷ 0 ∷ 0 ∷ 0 ∷ 0 ∷ 0 ∷ 0 ∷ 0 ∷ 0 ∷ 0 ∷ 0 ∷ 0 ∷ 0 ∷ 0 ∷ 0 ∷ 0 ∷ 0 ∷ 0 ∷ 0 ∷ 0 ∷ 0 ∷ 0 ∷ 0 ∷ 0 ∷ 0 ∷ 0 ∷ 0 ∷ 0 ∷ 0 ∷ 0 ∷ 0 ∷ 0 ∷ 0 ∷ 0 ∷ 0 ∷ 0 ∷ 0 ∷ 0 ∷ 0 ∷ 0 ∷ 0 ∷ 0 ∷ 0 ∷ 0 ∷ 0 ∷ 0 ∷ 1 ∷ 0 ∷ 0 ∷ 0 ∷ ROW_COUNT ∷ []) ≡ Err (BadField 56)
   -- a count asks for nothing: what is missing is the first program
   pub count_alone : object_read (68 ∷ 83 ∷ 50 ∷ 79 ∷ 1 ∷ 0 ∷ 255 ∷ 255 ∷ 255 ∷ 255 ∷ []) ≡ Err Truncated
   -- a thread program in a thread program, at the tag of the inner reading

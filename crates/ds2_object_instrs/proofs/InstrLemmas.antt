@@ -10,7 +10,7 @@ use Rattle.ds2_value.specs.declared.hash_function.HashFunction.TheVariants.{Find
 use Rattle.ds2_value.specs.declared.hash_function.IteratorFunction.{IteratorFunction}
 use Rattle.ds2_value.specs.declared.hash_function.IteratorFunction.TheVariants.{First, Next, Prev, Last}
 use Rattle.ds2_value.specs.declared.ty.Ty.{Ty}
-use Rattle.ds2_value.specs.ValueFunctions.{row_of}
+use Rattle.ds2_value.specs.ValueFunctions.{function_row}
 use Rattle.ds2_value.specs.declared.value_function.ValueFunction.{ValueFunction}
 use Rattle.ds2_value.specs.declared.value_function.ValueFunction.TheVariants as function
 use Rattle.ds2_code.specs.declared.instr.Instr.{Instr}
@@ -310,7 +310,7 @@ abbrev MakesAgain : Instr → Option InstrRow → Type 0
 MakesAgain i None = ⊥
 MakesAgain i (Some row) = (row.shape ≡ shape_of_fields (fields_of i)) × (row.make (fields_of i) ≡ Some i)
 
-function_again : (f : ValueFunction) → MakesAgain (instr.Apply f) (row_of_code (row_of f).code)
+function_again : (f : ValueFunction) → MakesAgain (instr.Apply f) (row_of_code (function_row f).code)
 function_again function.IntegerAbsolute = (refl, refl)
 function_again function.IntegerModulo = (refl, refl)
 function_again function.DecimalAbsolute = (refl, refl)

@@ -5,7 +5,7 @@ ghost use Rattle.ds2_object_words.specs.Parts.{ReadsPart, Writes, and_read};
 ghost use Rattle.ds2_object_instrs.specs.InstrSpelling.{comparison_values, comparison_number, hash_function_values, hash_function_number, iterator_function_values, iterator_function_number, field_number, field_type, field_digits, field_length, field_test, field_place, field_call, is_no_field, shape_part, shape_of_fields, fields_spelled, written_place, function_call, bare_row, row_of_code, instr_row_of, fields_of, written_instr_part, written_instr_of, instr_of};
 
 use ds2_base::{Bytes, OutOfMemory, Place, Stop};
-use ds2_code::{Instr, of_row, with_rows};
+use ds2_code::{Instr, ROW_COUNT, of_row, with_rows};
 use ds2_object_words::{Flaw, Spelled, Unread, bad};
 use ds2_value::{Comparison, HashFunction, IteratorFunction, Ty, ValueFunction};
 use std::alloc::Global;
@@ -76,7 +76,7 @@ macro_rules! row_instrs {
 }
 
 // An instruction of each row, in the order of the operation codes.
-const ROW_INSTRS: [Instr; 58] = with_rows!(row_instrs);
+const ROW_INSTRS: [Instr; ROW_COUNT] = with_rows!(row_instrs);
 
 const COMPARISONS: [Comparison; 6] = [
     Comparison::Equal,
@@ -304,7 +304,12 @@ fn bare_instr(row: Instr, fields: Fields) -> Option<Instr>
 macro_rules! made {
     (bare $given:ident $name:ident) => { bare_instr(Instr::$name, $given) };
     (function $given:ident $name:ident $function:ident) => { bare_instr(Instr::$name(ValueFunction::$function), $given) };
-    (number $given:ident $name:ident) => { Some(Instr::$name($given.number()?)) };
+    (number $given:ident $name:ident) => {
+        match $given.number() {
+            Some(number) => Some(Instr::$name(number)),
+            None => None,
+        }
+    };
     (ty $given:ident $name:ident) => { Some(Instr::$name($given.ty()?)) };
     (digits $given:ident $name:ident) => {{
         let (p, s) = $given.digits()?;

@@ -1,8 +1,8 @@
 -- What functions of values take and leave, by their rows.
-use Rattle.std.proofs.Common.{◌≡◌, suc, Bool, true, false, List, [], ◌∷◌, ◌++◌, length, reverse, Option, Some, None, refl, sym, ap, ◌∙◌, append_assoc}
+use Rattle.std.proofs.Common.{◌≡◌, suc, Bool, true, false, List, [], ◌∷◌, ◌++◌, length, reverse, Option, Some, None, if◌then◌else◌, refl, sym, ap, ◌∙◌, append_assoc}
 use Rattle.std.proofs.lemmas.Bool.{and_parts}
 use Rattle.std.proofs.lemmas.List.{reverse-append, length-reverse}
-use Rattle.ds2_value.specs.ValueFunctions.{is_of_class, are_of_classes, type_by, row_of, function_type}
+use Rattle.ds2_value.specs.ValueFunctions.{is_of_class, are_of_classes, type_by, function_row, function_type}
 use Rattle.ds2_value.specs.declared.ty.Ty.{Ty}
 use Rattle.ds2_value.specs.declared.value_function.OperandClass.{OperandClass}
 use Rattle.ds2_value.specs.declared.value_function.ValueFunction.{ValueFunction}
@@ -17,8 +17,8 @@ taken_if false t result e = absurd cc
 
 -- arguments that a function takes are of its classes, and its result has the type that its row gives
 pub function_taken : (f : ValueFunction) (types : List Ty) (result : Ty) → function_type f types ≡ Some result
-    → (are_of_classes (row_of f).operands (reverse types) ≡ true) × (type_by (row_of f).result types ≡ Some result)
-function_taken f types result e = taken_if (are_of_classes (row_of f).operands (reverse types)) (type_by (row_of f).result types) result e
+    → (are_of_classes (function_row f).operands (reverse types) ≡ true) × (type_by (function_row f).result types ≡ Some result)
+function_taken f types result e = taken_if (are_of_classes (function_row f).operands (reverse types)) (type_by (function_row f).result types) result e
 
 classes_count : (cs : List OperandClass) (types : List Ty) → are_of_classes cs types ≡ true → length types ≡ length cs
 classes_count [] [] h = refl
@@ -32,10 +32,10 @@ count_is NoExpression = refl
 count_is (Then e rest) = ap (λ n. suc n) (count_is rest)
 
 -- as many arguments as operands
-pub function_counts : (f : ValueFunction) (arguments : TypedExpressions) (result : Ty) → function_type f (expression_types arguments) ≡ Some result → expressions_count arguments ≡ length (row_of f).operands
+pub function_counts : (f : ValueFunction) (arguments : TypedExpressions) (result : Ty) → function_type f (expression_types arguments) ≡ Some result → expressions_count arguments ≡ length (function_row f).operands
 function_counts f arguments result e =
     let types = expression_types arguments in
-    count_is arguments ∙ sym (length-reverse types) ∙ classes_count (row_of f).operands (reverse types) (function_taken f types result e).0
+    count_is arguments ∙ sym (length-reverse types) ∙ classes_count (function_row f).operands (reverse types) (function_taken f types result e).0
 
 -- operands of these classes are taken off
 pub classes_taken : (cs : List OperandClass) (types taken : List Ty) (below : OperandTypes) → are_of_classes cs types ≡ true

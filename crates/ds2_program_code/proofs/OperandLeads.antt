@@ -31,7 +31,7 @@ use Rattle.ds2_code.specs.declared.parts.ParameterPart.{ParameterPart}
 use Rattle.ds2_code.specs.declared.parts.ProgramParts.{ProgramParts}
 use Rattle.ds2_code.specs.CodeBound.{jump_target, falls_through}
 use Rattle.ds2_code.specs.InstructionTable.{kind_of}
-use Rattle.ds2_value.specs.ValueFunctions.{is_of_class, always, decimal_of_scale, type_by, row_of, function_type}
+use Rattle.ds2_value.specs.ValueFunctions.{is_of_class, always, decimal_of_scale, type_by, function_row, function_type}
 use Rattle.ds2_value.specs.declared.value_function.OperandClass.{OperandClass}
 use Rattle.ds2_value.specs.declared.value_function.OperandClass.TheVariants.{OneType}
 use Rattle.ds2_value.specs.declared.value_function.ValueFunction.{ValueFunction}
@@ -342,9 +342,9 @@ module _ (code : ProgramParts) (params : List (Option Ty)) (role : CodeRole) whe
       → types_behind code params role (instr.Apply f) (pushed_types types below) ≡ Some (result ∷ below)
   applied_leads f types result below is =
       let k = function_taken f types result is in
-      let gives = type_by (row_of f).result in
-      ap (λ (s : OperandTypes). one_for gives (take_classes (row_of f).operands [] s)) (pushed_is types below)
-      ∙ ap (one_for gives) (classes_taken (row_of f).operands (reverse types) [] below k.0)
+      let gives = type_by (function_row f).result in
+      ap (λ (s : OperandTypes). one_for gives (take_classes (function_row f).operands [] s)) (pushed_is types below)
+      ∙ ap (one_for gives) (classes_taken (function_row f).operands (reverse types) [] below k.0)
       ∙ ap (λ (z : List Ty). with_type (gives z) below) (append-nil (reverse (reverse types)) ∙ reverse-reverse types)
       ∙ ap (λ o. with_type o below) k.1
 

@@ -1,8 +1,8 @@
 -- The types of typed expressions are in bounds.
-use Rattle.std.proofs.Common.{◌≡◌, ℕ, ◌+◌, ◌≤◌, min, max, nat_le, Bool, true, false, List, [], ◌∷◌, length, slice_get, Option, Some, None, refl, sym, ap, ◌∙◌, arith, le-leb, leb-true}
+use Rattle.std.proofs.Common.{◌≡◌, ℕ, ◌+◌, ◌≤◌, min, max, nat_le, Bool, true, false, List, [], ◌∷◌, length, slice_get, Option, Some, None, if◌then◌else◌, refl, sym, ap, ◌∙◌, arith, le-leb, leb-true}
 use Rattle.std.proofs.lemmas.Bool.{and_from, and_parts}
 use Rattle.ds2_value.specs.Types.{is_from_one, in_bounds}
-use Rattle.ds2_value.specs.ValueFunctions.{type_by, row_of}
+use Rattle.ds2_value.specs.ValueFunctions.{type_by, function_row}
 use Rattle.ds2_value.specs.declared.ty.Ty.{Ty}
 use Rattle.ds2_value.specs.declared.ty.Ty.TheVariants.{BigInt, Decimal as DecimalOf, Char, Varchar}
 use Rattle.ds2_value.specs.declared.value_function.ResultType.{ResultType}
@@ -126,7 +126,7 @@ row_bounds PartOfFirst (Char n ∷ types) result bounds e = let same : result �
 row_bounds PartOfFirst (Varchar n ∷ types) result bounds e = let same : result ≡ Varchar n = cc in is_this result (Varchar n) same bounds.0
 
 application_bounds : (f : Function) (types : List Ty) (result : Ty) → AllInBounds types → IsApplication f types result → in_bounds result ≡ true
-application_bounds (function.Value f) types result bounds is = row_bounds (row_of f).result types result bounds (function_taken f types result is).1
+application_bounds (function.Value f) types result bounds is = row_bounds (function_row f).result types result bounds (function_taken f types result is).1
 application_bounds function.Coalesce types result bounds is = one_of_many 1 types result (omega arith) is.0.0 bounds is.1
 application_bounds function.Least types result bounds is = one_of_many 2 types result (omega arith) is.0.0 bounds is.2
 application_bounds function.Greatest types result bounds is = one_of_many 2 types result (omega arith) is.0.0 bounds is.2

@@ -6,7 +6,7 @@ use Rattle.ds2_meaning.specs.IsTyped.{expression_type}
 use Rattle.ds2_meaning.specs.TypedExpression.{TypedExpression}
 use Rattle.ds2_meaning.specs.declared.refusals.TypeKind.{TypeKind}
 use Rattle.ds2_names.specs.Refusals.{type_rank, first_of_both}
-use Rattle.ds2_elaboration.specs.Typings.{TypeRefusals, Typing, Known, Unknown, ElaboratedExpression, form_of_type, form_of_operands}
+use Rattle.ds2_elaboration.specs.Typings.{TypeRefusals, Typing, Known, ElaboratedExpression, form_of_type, form_of_operands}
 use Rattle.ds2_types.specs.Judgements.{first_type_refusal, lesser_refusal, typing_of, node_tree, IsOutcome, IsJudged, ruled, both_of}
 use Rattle.ds2_types.specs.declared.judgement.Judgement.{Judgement}
 use Rattle.ds2_types.specs.declared.judgement.Node.{Node}

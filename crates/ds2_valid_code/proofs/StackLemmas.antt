@@ -1,8 +1,7 @@
 -- What instructions leave, by what is left of the operands.
-use Rattle.std.proofs.Common.{◌≡◌, ℕ, suc, ◌+◌, ◌-◌, Bool, true, false, ◌&&◌, List, [], ◌∷◌, ◌++◌, take, drop, length, Option, Some, None, map, refl, sym, ap, ◌∙◌, append-nil, append_assoc, arith}
+use Rattle.std.proofs.Common.{◌≡◌, ℕ, suc, ◌+◌, Bool, true, false, ◌&&◌, List, [], ◌∷◌, ◌++◌, take, length, Option, Some, None, map, refl, sym, ap, ◌∙◌, append-nil, append_assoc}
 use Rattle.std.specs.Prelude.{min, reverse, replicate, if◌then◌else◌}
 use Rattle.std.specs.Option.{option_map}
-use Rattle.std.proofs.lemmas.Grind.{common_steps}
 use Rattle.std.proofs.lemmas.List.{reverse-append}
 use Rattle.ds2_value.specs.declared.ty.TheConstants.{TEXT_CHARACTERS}
 use Rattle.ds2_value.specs.declared.ty.Ty.{Ty}
@@ -103,10 +102,6 @@ one_for_taken result cs types = of (take_classes cs [] types) refl ∙ ap (with_
     of : (o : Option TakenTypes) → take_classes cs [] types ≡ o → one_for result o ≡ with_type_behind (result (reverse (take (length cs) types))) (none_for o)
     of None e = refl
     of (Some r) e = ap (λ z. with_type (result z) r.below) (taken_on_top cs [] types r e ∙ append-nil (reverse (take (length cs) types)))
-
--- the last items of a list are those at the front of it turned round
-pub last_items : (n : ℕ) (xs : List Ty) → drop (length xs - n) xs ≡ reverse (take n (reverse xs))
-last_items n xs = grind (arith, common_steps)
 
 two_if : (b c : Bool) (x : Option TakenTypes) (y : Option OperandTypes) → one_for both_texts x ≡ y → one_for both_texts (if b then (if c then x else None) else None) ≡ (if b && c then y else None)
 two_if true true x y e = e

@@ -1,7 +1,7 @@
 //! What instructions leave for the operands that they take.
 ghost use Rattle.std.specs.Prelude.{◌≡◌, ◌+◌, List as Items, min, nat_le, replicate, [], ◌∷◌, ◌++◌, Some, None, IfOk, OnOk, map, reverse, if◌then◌else◌, slice_get};
 ghost use Rattle.ds2_code.specs.declared.parts.ParameterPart.{ParameterPart as ParameterPartModel};
-ghost use Rattle.ds2_value.specs.ValueFunctions.{always, as_operand, decimal_of_scale, by_scales, text_length, type_by, row_of};
+ghost use Rattle.ds2_value.specs.ValueFunctions.{always, as_operand, decimal_of_scale, by_scales, text_length, type_by, function_row};
 ghost use Rattle.ds2_value.specs.declared.value_function.OperandClass.TheVariants.{OneType, AnyDecimal, AnyText};
 ghost use Rattle.ds2_code.specs.OperandTypes.{take_classes, with_type, one_for, none_for, when_none, none_below, both_texts, is_number_type, chosen_types, chosen_numbers, when_in_bounds, stored_type, with_in_out_types, with_result_type, call_types, with_only_result};
 ghost use Rattle.ds2_valid_code.specs.OperandStack.{below_classes, scale_by};
@@ -38,7 +38,7 @@ pub(crate) fn operation(
 // One operand for those that a function takes.
 #[tactic(auto, using(crate::proofs::StackLemmas::one_for_taken))]
 pub(crate) fn applied(types: &mut TypeStack, function: ValueFunction) -> Result<bool, OutOfMemory>
-    ensures { IfOk result (λ ok. one_for (type_by (row_of function).result) (take_classes (row_of function).operands [] types.old) ≡ (if ok then Some types.new else None)) }
+    ensures { IfOk result (λ ok. one_for (type_by (function_row function).result) (take_classes (function_row function).operands [] types.old) ≡ (if ok then Some types.new else None)) }
 {
     let classes = function.operands();
     let result_type = function.result_type().of(types.last(classes.len()));

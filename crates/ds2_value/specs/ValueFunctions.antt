@@ -93,23 +93,23 @@ pub record FunctionRow : Type 0 where
   pub code : ℕ
 
 -- all functions
-abbrev pub row_of : ValueFunction → FunctionRow
-row_of IntegerAbsolute = record { operands = OneType BigInt ∷ []; result = Integer; gives = of_one_or_fault absolute_of; code = 15 }
-row_of IntegerModulo = record { operands = OneType BigInt ∷ OneType BigInt ∷ []; result = Integer; gives = of_two remainder_of; code = 16 }
-row_of DecimalAbsolute = record { operands = AnyDecimal ∷ []; result = AsOperand; gives = λ vs. Ok (of_one (of_decimal decimal.abs) vs); code = 22 }
-row_of DecimalModulo = record { operands = AnyDecimal ∷ AnyDecimal ∷ []; result = GreaterScale; gives = of_two (of_decimals decimal.modulo); code = 23 }
-row_of Floor = record { operands = AnyDecimal ∷ []; result = WholeDecimal; gives = λ vs. Ok (of_one (of_decimal decimal.floor) vs); code = 24 }
-row_of Ceiling = record { operands = AnyDecimal ∷ []; result = WholeDecimal; gives = λ vs. Ok (of_one (of_decimal decimal.ceil) vs); code = 25 }
-row_of IsNull = record { operands = AnyType ∷ []; result = Integer; gives = λ vs. Ok (is_null_of vs); code = 34 }
-row_of Length = record { operands = AnyText ∷ []; result = Integer; gives = λ vs. Ok (length_of vs); code = 39 }
-row_of Substring = record { operands = OneType BigInt ∷ OneType BigInt ∷ AnyText ∷ []; result = PartOfFirst; gives = substr_of; code = 40 }
-row_of SubstringFrom = record { operands = OneType BigInt ∷ AnyText ∷ []; result = PartOfFirst; gives = substr_of; code = 41 }
-row_of Trim = record { operands = AnyText ∷ []; result = PartOfFirst; gives = λ vs. Ok (trim_of vs); code = 42 }
+abbrev pub function_row : ValueFunction → FunctionRow
+function_row IntegerAbsolute = record { operands = OneType BigInt ∷ []; result = Integer; gives = of_one_or_fault absolute_of; code = 15 }
+function_row IntegerModulo = record { operands = OneType BigInt ∷ OneType BigInt ∷ []; result = Integer; gives = of_two remainder_of; code = 16 }
+function_row DecimalAbsolute = record { operands = AnyDecimal ∷ []; result = AsOperand; gives = λ vs. Ok (of_one (of_decimal decimal.abs) vs); code = 22 }
+function_row DecimalModulo = record { operands = AnyDecimal ∷ AnyDecimal ∷ []; result = GreaterScale; gives = of_two (of_decimals decimal.modulo); code = 23 }
+function_row Floor = record { operands = AnyDecimal ∷ []; result = WholeDecimal; gives = λ vs. Ok (of_one (of_decimal decimal.floor) vs); code = 24 }
+function_row Ceiling = record { operands = AnyDecimal ∷ []; result = WholeDecimal; gives = λ vs. Ok (of_one (of_decimal decimal.ceil) vs); code = 25 }
+function_row IsNull = record { operands = AnyType ∷ []; result = Integer; gives = λ vs. Ok (is_null_of vs); code = 34 }
+function_row Length = record { operands = AnyText ∷ []; result = Integer; gives = λ vs. Ok (length_of vs); code = 39 }
+function_row Substring = record { operands = OneType BigInt ∷ OneType BigInt ∷ AnyText ∷ []; result = PartOfFirst; gives = substr_of; code = 40 }
+function_row SubstringFrom = record { operands = OneType BigInt ∷ AnyText ∷ []; result = PartOfFirst; gives = substr_of; code = 41 }
+function_row Trim = record { operands = AnyText ∷ []; result = PartOfFirst; gives = λ vs. Ok (trim_of vs); code = 42 }
 
 -- the type of a function's result for arguments of these types, in order, where it takes them
 abbrev pub function_type : ValueFunction → List Ty → Option Ty
-function_type f types = if are_of_classes (row_of f).operands (reverse types) then type_by (row_of f).result types else None
+function_type f types = if are_of_classes (function_row f).operands (reverse types) then type_by (function_row f).result types else None
 
 -- what a function gives for its arguments
 abbrev pub function_value : ValueFunction → List Value → Result Value Fault
-function_value f vs = (row_of f).gives vs
+function_value f vs = (function_row f).gives vs

@@ -5,7 +5,7 @@ ghost use Rattle.ds2_decimal.specs.Arithmetic as decimal;
 ghost use Rattle.ds2_value.specs.Operations.{of_decimals, of_decimal, of_one, of_one_or_fault, of_two};
 ghost use Rattle.ds2_value.specs.Value.{absolute_of, remainder_of};
 ghost use Rattle.ds2_value.specs.declared.value_function.ResultType.TheVariants as variant;
-ghost use Rattle.ds2_value.specs.ValueFunctions.{is_of_class, text_length, decimal_of_scale, type_by, row_of, function_value};
+ghost use Rattle.ds2_value.specs.ValueFunctions.{is_of_class, text_length, decimal_of_scale, type_by, function_row, function_value};
 
 use crate::{Fault, Ty, Value, absolute, decimal_value, is_null, length, remainder, substr, trim};
 use ds2_base::{Stop, refusing};
@@ -71,7 +71,7 @@ const INTEGER: OperandClass = OperandClass::OneType(Ty::BigInt);
 impl ValueFunction {
     /// What the function needs of its operands, the last one first.
     pub fn operands(self) -> &'static [OperandClass]
-        ensures { result.now ≡ (row_of self).operands }
+        ensures { result.now ≡ (function_row self).operands }
     {
         match self {
             ValueFunction::IntegerAbsolute => &[INTEGER],
@@ -89,7 +89,7 @@ impl ValueFunction {
 
     /// The type of its result.
     pub fn result_type(self) -> ResultType
-        ensures { result ≡ (row_of self).result }
+        ensures { result ≡ (function_row self).result }
     {
         match self {
             ValueFunction::IntegerAbsolute => ResultType::Integer,
