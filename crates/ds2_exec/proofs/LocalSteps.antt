@@ -14,7 +14,7 @@ use Rattle.ds2_answer.specs.ObjectPlans.{stage_in_code, stages_of_code}
 use Rattle.ds2_answer.specs.StagesLeft.{VerdictsTold, grain_of_stages, grain_told}
 use Rattle.ds2_verdicts.specs.ThreadVerdicts.{verdict_named}
 use Rattle.ds2_exec.specs.LocalCodes.{IsIndependentOver, IsIndependentWhereLocal, IsLocalVerdict, IsToldLocal}
-use Rattle.ds2_exec.specs.StageEnds.{verdict_told}
+use Rattle.ds2_exec.specs.StageEnds.{judged_stages, last_verdict}
 
 -- the one thread program of a list
 pub only_one : (stages : List ProgramParts) (stage : ProgramParts) → length stages ≡ 1 → stage ≡ get_or stages 0 stage → stages ≡ stage ∷ []
@@ -33,21 +33,19 @@ pub independent_asked : (told : VerdictsTold) (code : StagedParts) (tables : Lis
 independent_asked told code tables budget grain asked is asked_is independent =
     subst (λ (g : ℕ). AreIndependentStages code.program code.stages tables budget g) (sym (asked_is ∙ local_asked told code.stages grain is)) (independent grain is)
 
--- a verdict that is told on at most one thread program, and says that it is local
-told_local : (told : VerdictsTold) (stages : List ProgramParts) (verdict : Option Verdict) (grain : ℕ) → length stages ≤ 1 → verdict ≡ verdict_told told stages → verdict ≡ Some (Local grain) → IsToldLocal told stages grain
+-- a verdict that is told on the last of at most one thread program, and says that it is local
+told_local : (told : VerdictsTold) (stages : List ProgramParts) (verdict : Option Verdict) (grain : ℕ) → length stages ≤ 1 → verdict ≡ last_verdict None (judged_stages told stages) → verdict ≡ Some (Local grain) → IsToldLocal told stages grain
 told_local told [] verdict grain few verdict_is local = absurd (cc (sym verdict_is ∙ local))
 told_local told (stage ∷ []) verdict grain few verdict_is local = sym verdict_is ∙ local
 told_local told (stage ∷ next ∷ stages) verdict grain few verdict_is local = absurd (omega (arith, few))
 
 -- where its groups may run on workers, since its verdict says that it is local
-pub independent_given : (told : VerdictsTold) (code : StagedParts) (tables : List Contents) (budget asked : ℕ) (stages : List ProgramParts) (verdict : Option Verdict) → stages ≡ code.stages → length code.stages ≤ 1 → verdict ≡ verdict_told told stages
-    → asked ≡ grain_of_stages told (map stage_in_code stages) → IsIndependentOver told code tables budget → (workers : Option ℕ) → IfSome workers (λ _. IsLocalVerdict verdict)
+pub independent_given : (told : VerdictsTold) (code : StagedParts) (tables : List Contents) (budget asked : ℕ) (verdict : Option Verdict) → length code.stages ≤ 1 → verdict ≡ last_verdict None (judged_stages told code.stages)
+    → asked ≡ grain_of_stages told (stages_of_code code) → IsIndependentOver told code tables budget → (workers : Option ℕ) → IfSome workers (λ _. IsLocalVerdict verdict)
     → IfSome workers (λ _. AreIndependentStages code.program code.stages tables budget asked)
-independent_given told code tables budget asked stages verdict stages_are few verdict_is asked_is independent None local = local
-independent_given told code tables budget asked stages verdict stages_are few verdict_is asked_is independent (Some n) local =
-    independent_asked told code tables budget local.0 asked
-    (told_local told code.stages verdict local.0 few (verdict_is ∙ ap (verdict_told told) stages_are) local.1)
-    (asked_is ∙ ap (λ (ss : List ProgramParts). grain_of_stages told (map stage_in_code ss)) stages_are) independent
+independent_given told code tables budget asked verdict few verdict_is asked_is independent None local = local
+independent_given told code tables budget asked verdict few verdict_is asked_is independent (Some n) local =
+    independent_asked told code tables budget local.0 asked (told_local told code.stages verdict local.0 few verdict_is local.1) asked_is independent
 
 -- where no verdict is told, no thread program is told to be local
 none_told : (stages : List ProgramParts) (grain : ℕ) → IsToldLocal (verdict_named []) stages grain → ⊥

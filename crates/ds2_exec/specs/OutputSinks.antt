@@ -6,10 +6,8 @@ use Rattle.ds2_table.specs.Table.{Contents, with_row}
 use Rattle.ds2_value.specs.declared.fault.Ending.{Ending}
 use Rattle.ds2_value.specs.declared.fault.Ending.TheVariants.{Normal, Faulted}
 use Rattle.ds2_code.specs.declared.parts.OutputPart.{OutputPart}
-use Rattle.ds2_code.specs.declared.parts.ProgramParts.{ProgramParts}
 use Rattle.ds2_code.specs.declared.parts.Slot.{Slot}
 use Rattle.ds2_code.specs.declared.parts.StagedParts.{StagedParts}
-use Rattle.ds2_locality.specs.declared.locality.Verdict.{Verdict}
 use Rattle.ds2_same_meaning.specs.ProgramMeaning.{MadeTable}
 use Rattle.ds2_same_meaning.specs.SameMeaning.{code_tables_made}
 use Rattle.ds2_unit.specs.Outputs.{columns_of_output}
@@ -28,7 +26,7 @@ use Rattle.ds2_answer.specs.declared.status.Status.TheVariants as ended
 use Rattle.ds2_exec.specs.declared.output_sink.OutputSink.{OutputSink}
 use Rattle.ds2_exec.specs.declared.programs.CodeEnd.{CodeEnd}
 use Rattle.ds2_exec.specs.declared.stages.StageEnd.{StageEnd}
-use Rattle.ds2_exec.specs.StageEnds.{count_end_then, stage_told, stages_noted}
+use Rattle.ds2_exec.specs.StageEnds.{JudgedStage, count_end_then, stage_told, stages_noted}
 
 -- ---- rows that are taken
 
@@ -61,10 +59,10 @@ sink_ended keeps made = record { written = made_as_text made; kept = if keeps ma
 
 -- ---- what a program leaves
 
--- what a program's code leaves whose run has ended so, with what its sink has taken and the verdict on its thread program, where one is told
-abbrev pub left_by_run : Option Verdict → List ProgramParts → OutputSinks OutputSink → RunEnd → CodeEnd
-left_by_run verdict stages sink end =
-    record { tables = sink.outputs.items; lines = sink.lines; ending = end.ending; executed = end.executed; stages = stages_noted verdict stages end.stages }
+-- what a program's code leaves whose run has ended so, with what its sink has taken and the verdicts on its thread programs
+abbrev pub left_by_run : List JudgedStage → OutputSinks OutputSink → RunEnd → CodeEnd
+left_by_run stages sink end =
+    record { tables = sink.outputs.items; lines = sink.lines; ending = end.ending; executed = end.executed; stages = stages_noted stages end.stages }
 
 -- a program's code has ended as its answer says
 pub record IsCodeEnd (keeps : List ℕ → Bool) (told : VerdictsTold) (code : StagedParts) (answer : Answer) (end : CodeEnd) : Type 0 where

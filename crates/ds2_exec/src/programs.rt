@@ -3,7 +3,6 @@ ghost use Rattle.std.specs.Prelude.{◌≡◌, ◌≤◌, ◌∷◌, ◌++◌, [
 ghost use Rattle.std.specs.Cmp.Lexicographic.{pointwise};
 ghost use Rattle.std.specs.HashSet.{contains};
 ghost use Rattle.std.specs.List.{AllByRecursion};
-ghost use Rattle.std.specs.Option.{option_copied};
 ghost use Rattle.ds2_value.specs.declared.fault.Ending.TheVariants.{Normal};
 ghost use Rattle.ds2_table.specs.Table.{IsTable};
 ghost use Rattle.ds2_code_answer.specs.CodeTables.{AreTablesOfCode};
@@ -25,11 +24,12 @@ use crate::key::key_of_run;
 use crate::output_rows::sinks_of;
 use crate::output_sink::OutputSink;
 use crate::run_input::{RunInput, Running};
-use crate::stages::{StageEnd, count_stages, grains_of, stage_ends, verdict_told};
+use crate::stages::{
+    StageEnd, StageVerdict, count_stages, grains_of, last_verdict, stage_ends, stages_judged,
+};
 use crate::workers::workers_of;
 use ds2_answer::lines::{say_count, say_lines, say_table};
 use ds2_base::{Bytes, List, OutOfMemory, Text};
-use ds2_code::ProgramParts;
 use ds2_group_job::{ProgramRun, StageRun, ThreadEnd, run_into};
 use ds2_outside::Store;
 use ds2_reading::{HashKey, Tables};
@@ -41,11 +41,10 @@ use ds2_store_steps::{
 use ds2_unit::{OutputSinks, RunEnd};
 use ds2_valid_code::ProgramCode;
 use ds2_value::{Ending, Value};
-use ds2_verdicts::Verdict;
 use std::alloc::Global;
 
 /// What a program's code leaves: the tables of its outputs, the lines that it put, its ending, how many instructions its units executed, and
-/// what is told of the thread program that it has read from.
+/// what is told of the thread programs that it has begun.
 #[derive(Drop)]
 pub(crate) struct CodeEnd {
     pub(crate) tables: List<OutputSink>,
@@ -72,17 +71,16 @@ fn tables_of_code(
     tables_referred(alloc, references.as_slice(), stored, made, key)
 }
 
-// What a program's code leaves whose run has ended so, with what its sink has taken and the verdict on its thread program, where one is told.
+// What a program's code leaves whose run has ended so, with what its sink has taken and the verdicts on its thread programs.
 fn code_end(
     alloc: Global,
-    stages: &[ProgramParts],
-    verdict: Option<&Verdict>,
+    stages: &List<StageVerdict>,
     sink: OutputSinks<OutputSink>,
     end: RunEnd,
 ) -> Result<CodeEnd, OutOfMemory>
-    ensures { IfOk result (λ left. left ≡ left_by_run (option_copied verdict.entry) stages.now sink end) }
+    ensures { IfOk result (λ left. left ≡ left_by_run stages.now sink end) }
 {
-    let stages = stage_ends(alloc, stages, verdict, end.stages.as_slice())?;
+    let stages = stage_ends(alloc, stages, end.stages.as_slice())?;
     Ok(CodeEnd {
         tables: List::of(sink.outputs),
         lines: sink.lines,
@@ -110,9 +108,10 @@ fn run_code<F: Fn(Global, &StageRun, &[Value]) -> Result<ThreadEnd, OutOfMemory>
 {
     let tables = tables_of_code(alloc, code, running.stored, made, running.key)?;
     let parts = code.parts();
-    let stages = parts.stages.as_slice();
-    let verdict = verdict_told(stages, running.verdicts);
-    let grains = grains_of(alloc, stages, verdict)?;
+    let stages = stages_judged(alloc, parts.stages.as_slice(), running.verdicts)?;
+    let judged = stages.as_slice();
+    let verdict = last_verdict(judged);
+    let grains = grains_of(alloc, judged)?;
     let program = ProgramRun {
         code,
         tables: &tables,
@@ -122,7 +121,7 @@ fn run_code<F: Fn(Global, &StageRun, &[Value]) -> Result<ThreadEnd, OutOfMemory>
     };
     let mut sink = sinks_of(alloc, code, running.kept)?;
     let end = run_into(alloc, &program, running.run, &mut sink)?;
-    code_end(alloc, stages, verdict, sink, end)
+    code_end(alloc, &stages, sink, end)
 }
 
 // Writes a table.

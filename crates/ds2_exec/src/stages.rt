@@ -1,11 +1,11 @@
-//! The thread program that a program reads from: the grain of its groups, and what the log tells of it behind its end.
-ghost use Rattle.std.specs.Prelude.{◌≡◌, ◌++◌, ◌∷◌, None, [], option_map, IfOk, OnOk};
+//! The thread programs of a program: the verdicts on them, the grains of their groups, and what the log tells of them behind their end.
+ghost use Rattle.std.specs.Prelude.{◌≡◌, ◌++◌, ◌∷◌, None, [], option_map, slice_get, IfOk, OnOk};
 ghost use Rattle.std.specs.Option.{option_copied};
 ghost use Rattle.ds2_answer.specs.Lines.{count_line, thread_line, verdict_text};
 ghost use Rattle.ds2_answer.specs.StagesLeft.{grain_told, name_of_stage};
 ghost use Rattle.ds2_same_meaning.specs.SameMeaning.{number_of_bys};
 ghost use Rattle.ds2_verdicts.specs.ThreadVerdicts.{verdict_named};
-ghost use Rattle.ds2_exec.specs.StageEnds.{grains_told, stage_noted, stages_counted, stages_noted, verdict_told};
+ghost use Rattle.ds2_exec.specs.StageEnds.{grain_of, grains_told, judged_stage, judged_stages, last_verdict, noted, stage_noted, stages_counted, stages_noted};
 
 use ds2_answer::lines::{say_count, say_thread, verdict_text};
 use ds2_base::{Bytes, List, OutOfMemory, Text};
@@ -13,6 +13,23 @@ use ds2_code::{ProgramParts, ReadingPart};
 use ds2_unit::StageNote;
 use ds2_verdicts::{ThreadVerdict, Verdict};
 use std::alloc::Global;
+use std::marker::Model;
+
+/// A thread program, and the verdict that is told on it, where one is.
+#[derive(Drop)]
+pub(crate) struct StageVerdict<'a> {
+    stage: &'a ProgramParts,
+    verdict: Option<&'a Verdict>,
+}
+
+impl<'a> Model for StageVerdict<'a> {
+    ghost use Rattle.std.specs.Option.{option_copied};
+    ghost use Rattle.ds2_exec.specs.StageEnds.{JudgedStage};
+
+    ghost Value = { JudgedStage };
+
+    ghost view = { λ s. record { stage = s.stage.now; verdict = option_copied s.verdict } };
+}
 
 /// What is told of a thread program behind its end.
 #[derive(Drop)]
@@ -37,6 +54,8 @@ fn name_of(stage: &ProgramParts) -> &str
     }
 }
 
+// ---- verdicts
+
 // The verdict on the thread program of a name, where one is told.
 fn verdict_named<'v>(verdicts: &'v [ThreadVerdict], name: &str) -> Option<&'v Verdict>
     ensures { option_copied result ≡ verdict_named verdicts.now name.now }
@@ -49,17 +68,38 @@ fn verdict_named<'v>(verdicts: &'v [ThreadVerdict], name: &str) -> Option<&'v Ve
     None
 }
 
-/// The verdict on the thread program that a program reads from, where it reads from one and a verdict is told.
-pub(crate) fn verdict_told<'v>(
-    stages: &[ProgramParts],
-    verdicts: &'v [ThreadVerdict],
-) -> Option<&'v Verdict>
-    ensures { option_copied result ≡ verdict_told (verdict_named verdicts.now) stages.now }
+// A thread program with the verdict of these on it.
+fn stage_judged<'a>(stage: &'a ProgramParts, verdicts: &'a [ThreadVerdict]) -> StageVerdict<'a>
+    ensures { result ≡ judged_stage (verdict_named verdicts.now) stage.now }
 {
-    match stages {
-        [] => None,
-        [stage, ..] => verdict_named(verdicts, name_of(stage)),
+    let verdict = verdict_named(verdicts, name_of(stage));
+    StageVerdict { stage, verdict }
+}
+
+/// Thread programs, each with the verdict of these on it.
+pub(crate) fn stages_judged<'a>(
+    alloc: Global,
+    stages: &'a [ProgramParts],
+    verdicts: &'a [ThreadVerdict],
+) -> Result<List<StageVerdict<'a>>, OutOfMemory>
+    ensures { IfOk result (λ judged. judged ≡ judged_stages (verdict_named verdicts.now) stages.now) }
+{
+    let mut judged = List::new(alloc);
+    'stages: for stage in stages {
+        judged.push(stage_judged(stage, verdicts))?;
     }
+    Ok(judged)
+}
+
+/// The verdict on the thread program of these that reads tables, which is the last one, where there is one and a verdict is told.
+pub(crate) fn last_verdict<'v>(stages: &[StageVerdict<'v>]) -> Option<&'v Verdict>
+    ensures { option_copied result ≡ last_verdict None stages.now }
+{
+    let mut verdict = None;
+    'stages: for stage in stages {
+        verdict = stage.verdict();
+    }
+    verdict
 }
 
 // ---- grains
@@ -95,27 +135,28 @@ fn grain_told(verdict: Option<&Verdict>, bys: usize) -> u32
     }
 }
 
-// One number, as a list.
-fn one_grain(alloc: Global, grain: u32) -> Result<List<u32>, OutOfMemory>
-    ensures { IfOk result (λ grains. grains ≡ grain ∷ []) }
-{
-    let mut grains = List::new(alloc);
-    grains.push(grain)?;
-    Ok(grains)
-}
-
-/// The grain of the thread program that a program reads from, where it reads from one, on which this verdict is told, or none.
-pub(crate) fn grains_of(
-    alloc: Global,
-    stages: &[ProgramParts],
-    verdict: Option<&Verdict>,
-) -> Result<List<u32>, OutOfMemory>
-    ensures { IfOk result (λ grains. grains ≡ grains_told (option_copied verdict.entry) stages.now) }
+// Adds the grains of thread programs, the innermost first.
+#[tactic(auto, using(crate::proofs::StageSteps::grain_behind))]
+fn add_grains(stages: &[StageVerdict], grains: &mut List<u32>) -> Result<(), OutOfMemory>
+    ensures { OnOk result (grains.new ≡ grains.old ++ grains_told stages.now) }
 {
     match stages {
-        [] => Ok(List::new(alloc)),
-        [stage, ..] => one_grain(alloc, grain_told(verdict, number_of_bys(&stage.reading))),
+        [] => Ok(()),
+        [stage, after @ ..] => {
+            add_grains(after, grains)?;
+            grains.push(stage.grain())?;
+            Ok(())
+        }
     }
+}
+
+/// The grains of thread programs, the innermost first.
+pub(crate) fn grains_of(alloc: Global, stages: &[StageVerdict]) -> Result<List<u32>, OutOfMemory>
+    ensures { IfOk result (λ grains. grains ≡ grains_told stages.now) }
+{
+    let mut grains = List::new(alloc);
+    add_grains(stages, &mut grains)?;
+    Ok(grains)
 }
 
 // ---- the end of a thread program
@@ -130,55 +171,66 @@ fn text_told(alloc: Global, verdict: Option<&Verdict>) -> Result<Option<Text>, O
     }
 }
 
-// What is told of a thread program with this note, on which this verdict is told, or none.
-fn stage_end(
+impl<'a> StageVerdict<'a> {
+    // The verdict, where one is told.
+    fn verdict(&self) -> Option<&'a Verdict>
+        ensures { option_copied result ≡ self.now.verdict }
+    {
+        self.verdict
+    }
+
+    // The grain of the thread program.
+    fn grain(&self) -> u32
+        ensures { result ≡ grain_of self.now }
+    {
+        grain_told(self.verdict, number_of_bys(&self.stage.reading))
+    }
+
+    // What is told of the thread program with this note.
+    fn end(&self, alloc: Global, note: &StageNote) -> Result<StageEnd, OutOfMemory>
+        ensures { IfOk result (λ end. end ≡ stage_noted self.now note.now) }
+    {
+        let text = text_told(alloc, self.verdict)?;
+        Ok(StageEnd {
+            name: Text::of(alloc, name_of(self.stage))?,
+            verdict: text,
+            groups: note.groups,
+            executed: note.executed,
+        })
+    }
+}
+
+// Adds what is told of the thread program of this number with this note, where there is one.
+fn add_noted(
     alloc: Global,
-    stage: &ProgramParts,
-    verdict: Option<&Verdict>,
+    stages: &List<StageVerdict>,
+    number: usize,
     note: &StageNote,
-) -> Result<StageEnd, OutOfMemory>
-    ensures { IfOk result (λ end. end ≡ stage_noted (option_copied verdict.entry) stage.now note.now) }
+    ends: &mut List<StageEnd>,
+) -> Result<(), OutOfMemory>
+    ensures { OnOk result (ends.new ≡ ends.old ++ noted (slice_get stages.now number) note.now) }
 {
-    let text = text_told(alloc, verdict)?;
-    Ok(StageEnd {
-        name: Text::of(alloc, name_of(stage))?,
-        verdict: text,
-        groups: note.groups,
-        executed: note.executed,
-    })
+    match stages.get(number) {
+        None => Ok(()),
+        Some(stage) => ends.push(stage.end(alloc, note)?),
+    }
 }
 
-// What is told of a thread program with the first of these notes, where there is one.
-#[tactic(auto, using(crate::proofs::StageSteps::noted_with, crate::proofs::StageSteps::noted_without))]
-fn noted_end(
-    alloc: Global,
-    stage: &ProgramParts,
-    verdict: Option<&Verdict>,
-    notes: &[StageNote],
-) -> Result<List<StageEnd>, OutOfMemory>
-    ensures { IfOk result (λ ends. ends ≡ stages_noted (option_copied verdict.entry) (stage.now ∷ []) notes.now) }
-{
-    let mut ends = List::new(alloc);
-    let [note, ..] = notes else {
-        return Ok(ends);
-    };
-    ends.push(stage_end(alloc, stage, verdict, note)?)?;
-    Ok(ends)
-}
-
-/// What is told of the thread program that a program has read from, where it has read from one, on which this verdict is told, or none.
+/// What is told of the thread programs that were begun, of which there are notes: the innermost first, each with the verdict that is told on it.
 pub(crate) fn stage_ends(
     alloc: Global,
-    stages: &[ProgramParts],
-    verdict: Option<&Verdict>,
+    stages: &List<StageVerdict>,
     notes: &[StageNote],
 ) -> Result<List<StageEnd>, OutOfMemory>
-    ensures { IfOk result (λ ends. ends ≡ stages_noted (option_copied verdict.entry) stages.now notes.now) }
+    ensures { IfOk result (λ ends. ends ≡ stages_noted stages.now notes.now) }
 {
-    match stages {
-        [] => Ok(List::new(alloc)),
-        [stage, ..] => noted_end(alloc, stage, verdict, notes),
+    let mut ends = List::new(alloc);
+    let mut left = notes;
+    'notes: while let [note, after @ ..] = left {
+        add_noted(alloc, stages, after.len(), note, &mut ends)?;
+        left = after;
     }
+    Ok(ends)
 }
 
 // Counts the groups and the instructions of a thread program in the log.

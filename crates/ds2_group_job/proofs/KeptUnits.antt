@@ -1,4 +1,5 @@
 -- What units of a thread program tell, kept one after the other.
+use Rattle.std.specs.Prelude.{reverse}
 use Rattle.std.proofs.Common.{◌≡◌, ℕ, ◌+◌, true, false, List, [], ◌++◌, map, Option, Some, refl, sym, ap, ◌∙◌, subst, append_assoc, arith}
 use Rattle.std.proofs.lemmas.List.{append-nil, map-append}
 use Rattle.ds2_value.specs.Progress.{Progress, UnitOutcome, Completed, Interrupted, Strayed}
@@ -6,7 +7,7 @@ use Rattle.ds2_value.specs.Row.{Row}
 use Rattle.ds2_value.specs.Run.{Written}
 use Rattle.ds2_value.specs.declared.fault.Ending.{Ending}
 use Rattle.ds2_value.specs.declared.fault.Ending.TheVariants.{Normal, Faulted}
-use Rattle.ds2_table.specs.OneThread.{Reached, Standing, Halted, Astray, GroupResult, Answer, nothing_left, followed_by, then_unit, joined_loads, behind_loads, run_each, groups_at, alone_answer}
+use Rattle.ds2_table.specs.OneThread.{StageAnswer, Reached, Standing, Halted, Astray, GroupResult, Answer, nothing_left, followed_by, then_unit, joined_loads, behind_loads, run_each, groups_at, alone_answer}
 use Rattle.ds2_table.specs.Table.{Contents}
 use Rattle.ds2_bags.specs.Endings.{ended_by_fault}
 use Rattle.ds2_code.specs.declared.parts.ProgramParts.{ProgramParts}
@@ -20,6 +21,7 @@ use Rattle.ds2_machine.specs.Kept.{all_written}
 use Rattle.ds2_machine.specs.declared.record.OutRow.{OutRow}
 use Rattle.ds2_machine.specs.declared.record.UnitRecord.{UnitRecord}
 use Rattle.ds2_machine.specs.declared.unit_end.UnitEnd.{UnitEnd}
+use Rattle.ds2_unit.specs.ProgramRun.{note_of_stage}
 use Rattle.ds2_unit.specs.Threads.{IsThreadEnd, rows_kept}
 use Rattle.ds2_unit.specs.declared.thread.ThreadEnd.{ThreadEnd}
 use Rattle.ds2_unit.specs.declared.units_end.UnitsEnd.{UnitsEnd}
@@ -183,9 +185,9 @@ module _ (stage : ProgramParts) (tables : List Contents) (budget grain : ℕ) (b
   pub thread_ended : (before after : UnitRecord) (end : UnitsEnd) (told : ThreadEnd) (groups : ℕ) → before.rows ≡ [] → before.lines ≡ []
       → HasKeptTold before after (told_by_answer (then_unit (code_init stage budget begun) (run_each (code_units stage budget) (code_loads stage tables)))) end
       → told.written ≡ after → told.ending ≡ end.ending → told.note.executed ≡ end.executed → told.note.groups ≡ groups_at (Some told.ending) groups
-      → groups_at (Some told.ending) groups ≡ groups_at (Some told.ending) (code_group_count grain stage tables)
+      → groups_at (Some told.ending) groups ≡ groups_at (Some told.ending) (code_group_count grain stage tables) → told.below ≡ []
       → IsThreadEnd (alone_answer (code_program stage [] tables budget grain) begun) told
-  thread_ended before after end told groups no_rows no_lines kept written ending executed noted count =
+  thread_ended before after end told groups no_rows no_lines kept written ending executed noted count below =
       let answer = units_told begun in
       record {
         rows = ap (λ (r : UnitRecord). rows_kept r.rows) written ∙ kept.rows ∙ ap (λ (rs : List OutRow). rows_kept rs ++ rows_of answer.rows) no_rows;
@@ -193,5 +195,5 @@ module _ (stage : ProgramParts) (tables : List Contents) (budget grain : ℕ) (b
         ended = kept.ended ∙ ap Some (sym ending);
         counted = executed ∙ kept.counted;
         grouped = noted ∙ count ∙ ap (λ (e : Option Ending). groups_at e (code_group_count grain stage tables)) (ap Some ending ∙ sym kept.ended);
-        alone = none_read stage tables budget begun;
+        noted = below ∙ ap (λ (xs : List StageAnswer). reverse (map note_of_stage xs)) (sym (none_read stage tables budget begun));
       }

@@ -36,7 +36,12 @@ IsIndependentFrom stage tables budget grain begun =
 abbrev pub IsIndependentThread : ProgramParts → List Contents → (budget grain : ℕ) → Type 0
 IsIndependentThread stage tables budget grain = (given : Row) → IsIndependentFrom stage tables budget grain (code_opening stage [] tables given)
 
--- the thread program of a program that has one is independent at the grain that is asked for it
+-- the thread program that reads tables is independent at a grain: this one without thread programs below it, or the last of these
+abbrev pub IsIndependentChain : ProgramParts → List ProgramParts → List Contents → (budget grain : ℕ) → Type 0
+IsIndependentChain thread [] tables budget grain = IsIndependentThread thread tables budget grain
+IsIndependentChain thread (stage ∷ stages) tables budget grain = IsIndependentChain stage stages (tables_of_stage thread tables) budget grain
+
+-- so is that of a program that reads from one, at the grain that is asked for it
 abbrev pub AreIndependentStages : ProgramParts → List ProgramParts → List Contents → (budget grain : ℕ) → Type 0
 AreIndependentStages program [] tables budget grain = Unit {0}
-AreIndependentStages program (stage ∷ stages) tables budget grain = IsIndependentThread stage (tables_of_stage program tables) budget grain
+AreIndependentStages program (stage ∷ stages) tables budget grain = IsIndependentChain stage stages (tables_of_stage program tables) budget grain

@@ -1,8 +1,8 @@
 //! The groups of a thread program as a job of a stage, and programs with the thread programs that they read from.
 //!
 //! A [`GroupJob`] stands on the machine on which `init` of the thread program was run once. Each worker has a copy of that machine, and a
-//! cursor of its own over the loads. [`run_thread_on`] gives what `ds2_unit::run_thread` gives, for every number of workers, where groups
-//! of the thread program give the same whatever groups ran before them. The laws in [`laws`] say which thread programs these are.
+//! cursor of its own over the loads. [`run_thread_on`] gives what [`StageRun::run`] gives on one thread, for every number of workers, where
+//! groups of the thread program give the same whatever groups ran before them. The laws in [`laws`] say which thread programs these are.
 //!
 //! A [`StageRun`] is a thread program that can be run in both ways. [`run_into`] runs a whole program ([`ProgramRun`]) and takes what runs
 //! its thread program as a function, so that it needs no threads itself.

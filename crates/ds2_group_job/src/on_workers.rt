@@ -23,10 +23,17 @@ use ds2_loads::laws::groups_are_all_loads;
 use ds2_machine::{Machine, UnitRecord};
 use ds2_outside::Gate;
 use ds2_stage::run_stage;
-use ds2_unit::{GroupedEnd, UnitsEnd, open_loads, sum_of};
+use ds2_unit::{UnitsEnd, open_loads, sum_of};
 use std::alloc::Global;
 use std::sync::Wait;
 use std::thread::Threads;
+
+/// How the units of a thread program have ended, and how many groups its loads make; none need be counted where it ended by a fault.
+#[derive(Clone, Copy)]
+pub(crate) struct GroupedEnd {
+    pub(crate) end: UnitsEnd,
+    pub(crate) groups: u64,
+}
 
 // Runs the groups of a job on so many workers, and keeps what they gave in order of group.
 fn run_groups<'m, 'a, G: Gate + Sync, W: Threads + Wait + Sync>(

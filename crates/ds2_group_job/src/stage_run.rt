@@ -6,7 +6,7 @@ ghost use Rattle.ds2_group_job.specs.StageRuns.{IsStageReady, answer_of_thread};
 use crate::thread_on::run_thread_on;
 use ds2_base::OutOfMemory;
 use ds2_outside::Gate;
-use ds2_unit::{ThreadEnd, ThreadRun, run_thread};
+use ds2_unit::{ThreadEnd, ThreadRun, open_thread, run_thread};
 use ds2_value::Value;
 use std::alloc::Global;
 use std::marker::Model;
@@ -39,11 +39,15 @@ impl<'a> StageRun<'a> {
         StageRun { thread, workers }
     }
 
-    /// Runs it whole on the caller's thread, with these values of its parameters.
+    /// Runs it whole on the caller's thread, with these values of its parameters: its `init`, `run` on each of its loads, `term`, up to the
+    /// first fault. What it writes is kept.
+    ///
+    /// A decimal of another scale than its parameter's, which valid code does not set, would be refused as want of memory.
     pub fn run(&self, alloc: Global, given: &[Value]) -> Result<ThreadEnd, OutOfMemory>
         ensures { IfOk result (λ end. IsThreadEnd (answer_of_thread self.now given.now) end) }
     {
-        run_thread(alloc, &self.thread, given)
+        let mut machine = open_thread(alloc, &self.thread, given)?;
+        run_thread(alloc, &self.thread, &mut machine)
     }
 
     /// Runs it whole with the same answer, its groups on workers where some are given. It returns if the threads that it waits for do.

@@ -10,12 +10,12 @@ ghost use Rattle.ds2_group_job.specs.KeptAnswers.{HasKeptTold};
 ghost use Rattle.ds2_group_job.specs.WhateverRan.{IsIndependentFrom, IsIndependentThread};
 ghost use Rattle.ds2_group_job.specs.WorkerRuns.{IsReadyOnWorkers};
 
-use crate::on_workers::run_rest;
+use crate::on_workers::{GroupedEnd, run_rest};
 use crate::worker_run::WorkerRun;
 use ds2_base::OutOfMemory;
 use ds2_machine::{Machine, UnitRecord};
 use ds2_outside::Gate;
-use ds2_unit::{GroupedEnd, ThreadEnd, ThreadRun, UnitsEnd, open_thread, sum_of, thread_end};
+use ds2_unit::{ThreadEnd, ThreadRun, UnitsEnd, ended_alone, open_thread, sum_of, thread_end};
 use ds2_value::Value;
 use std::alloc::Global;
 use std::sync::Wait;
@@ -78,7 +78,7 @@ fn run_begun<G: Gate + Sync, W: Threads + Wait + Sync>(
 {
     let mut written = UnitRecord::new(alloc);
     let ran = run_whole(rt, alloc, run, machine, gate, &mut written)?;
-    Ok(thread_end(written, ran.end, ran.groups))
+    Ok(thread_end(written, ended_alone(alloc, ran.end), ran.groups))
 }
 
 /// Runs a thread program whose groups give the same whatever groups ran before them: its `init` on the caller's machine, its groups on 1

@@ -1,10 +1,10 @@
--- Valid code of a program that reads from a thread program, and of one that reads from none.
-use Rattle.std.proofs.Common.{◌≡◌, ℕ, ◌≤◌, Bool, true, false, ◌&&◌, List, [], ◌∷◌, ◌++◌, length, map, drop, Some, None, refl, sym, ap, ◌∙◌, subst, IsTrue, arith}
-use Rattle.std.specs.Prelude.{slice_get, unwrap_or}
+-- Valid code of programs that read from thread programs, and of one that reads from none.
+use Rattle.std.proofs.Common.{◌≡◌, ℕ, zero, suc, ◌+◌, ◌≤◌, Bool, true, false, ◌&&◌, List, [], ◌∷◌, ◌++◌, length, map, drop, Option, Some, None, sym, ap, ◌∙◌, subst, IsTrue, arith}
+use Rattle.std.specs.Prelude.{is_some, slice_get, unwrap_or}
 use Rattle.std.specs.List.{list_all}
 use Rattle.std.specs.Option.{option_map_or}
 use Rattle.std.proofs.Math.Seq.{drop-append_seam}
-use Rattle.std.proofs.lemmas.List.{drop-map}
+use Rattle.std.proofs.lemmas.List.{drop-map, length-drop}
 use Rattle.ds2_value.specs.Row.{Columns}
 use Rattle.ds2_table.specs.Table.{Contents}
 use Rattle.ds2_reading.specs.ReadingFits.{reading_fits_tables}
@@ -19,13 +19,14 @@ use Rattle.ds2_slots.specs.LoadedHashes.{AreSlotTypesInBounds}
 use Rattle.ds2_code_answer.specs.CodeLoads.{code_reading}
 use Rattle.ds2_code_answer.specs.CodeLoadLaws.{ReadingsFitTables}
 use Rattle.ds2_code_answer.specs.CodeTables.{hash_references, program_references, first_read_table, tables_of_stage, columns_named, columns_had, AreTablesOfCode}
-use Rattle.ds2_unit.specs.ProgramRun.{grain_asked}
 use Rattle.ds2_loads.specs.Readings.{ReadsNoThread}
 use Rattle.ds2_loads.specs.Grains.{IsGrainOfReading}
 use Rattle.ds2_machine.specs.AtRest.{staged_program}
 use Rattle.ds2_machine.specs.declared.machine.TheConstants.{MOST_BUDGET}
-use Rattle.ds2_unit.proofs.Statements.{first_of_two, types_of_values}
-use Rattle.ds2_unit.specs.Threads.{AreGrainsOf, IsReadyThread}
+use Rattle.ds2_unit.proofs.Statements.{first_of_two, types_of_valid}
+use Rattle.ds2_unit.specs.Readers.{IsReadyReader}
+use Rattle.ds2_unit.specs.Threads.{IsReadyThread}
+use Rattle.ds2_unit.specs.declared.reader.ReaderRun.{ReaderRun}
 use Rattle.ds2_unit.specs.declared.thread_run.ThreadRun.{ThreadRun}
 
 second_of : (a b : Bool) → (a && b) ≡ true → b ≡ true
@@ -48,92 +49,119 @@ reads_none code valid =
     let outputs = list_all output_fits code.outputs in
     reading_without code.slots code.reading (first_of_two fits outputs (second_of hashes (fits && outputs) (IsValidProgram.layout valid)))
 
--- ---- a chain of one
+-- ---- chains
 
 pub valid_alone : (parts : StagedParts) → IsValidStaged parts → parts.stages ≡ [] → IsValidProgram parts.program None
 valid_alone parts valid none = let P : List ProgramParts → Type 0 = λ stages. IsValidChain parts.program stages in subst P none (IsValidStaged.chain valid)
 
--- the thread program by itself
-abbrev pub stage_itself : ProgramParts → StagedParts
-stage_itself stage = record { program = stage; stages = [] }
+-- a thread program with those below it is a chain
+abbrev pub chain_of : ProgramParts → List ProgramParts → StagedParts
+chain_of program stages = record { program = program; stages = stages }
 
-module _ (parts : StagedParts) (stage : ProgramParts) (valid : IsValidStaged parts) (one : parts.stages ≡ stage ∷ []) where
-  both_valid : IsValidProgram parts.program (Some stage) × IsValidProgram stage None
-  both_valid = let P : List ProgramParts → Type 0 = λ stages. IsValidChain parts.program stages in subst P one (IsValidStaged.chain valid)
+chain_below : (program : ProgramParts) (stages : List ProgramParts) (n : ℕ) (stage : ProgramParts) → IsValidChain program stages → slice_get stages n ≡ Some stage → IsValidChain stage (drop (n + 1) stages)
+chain_below program [] n stage valid here = absurd cc
+chain_below program (s ∷ stages) zero stage valid here =
+    let same : s ≡ stage = cc in
+    let one : suc zero ≡ 0 + 1 = omega arith in
+    let P : ProgramParts → Type 0 = λ p. IsValidChain p stages in
+    subst (λ k. IsValidChain stage (drop k (s ∷ stages))) one (subst P same valid.1)
+chain_below program (s ∷ stages) (suc n) stage valid here =
+    let more : suc (n + 1) ≡ suc n + 1 = omega arith in
+    subst (λ k. IsValidChain stage (drop k (s ∷ stages))) more (chain_below s stages n stage valid.1 here)
 
-  pub stage_valid : IsValidProgram stage None
-  stage_valid = both_valid.1
+all_dropped : {A : Type 0} (f : A → Bool) (n : ℕ) (xs : List A) → list_all f xs ≡ true → list_all f (drop n xs) ≡ true
+all_dropped f zero xs h = h
+all_dropped f (suc n) [] h = h
+all_dropped f (suc n) (x ∷ xs) h = all_dropped f n xs (second_of (f x) (list_all f xs) h)
 
-  pub stage_types : AreSlotTypesInBounds stage.slots
-  stage_types = types_of_values stage (IsValidProgram.values both_valid.1)
+-- a thread program of valid code with those below it is valid
+pub valid_below : (parts : StagedParts) (n : ℕ) (stage : ProgramParts) → IsValidStaged parts → slice_get parts.stages n ≡ Some stage → IsValidStaged (chain_of stage (drop (n + 1) parts.stages))
+valid_below parts n stage valid here = record {
+  chain = chain_below parts.program parts.stages n stage valid.chain here;
+  names = all_dropped (λ (s : ProgramParts). is_some s.name) (n + 1) parts.stages valid.names;
+  depth = omega (arith, valid.depth, length-drop (n + 1) parts.stages);
+}
 
-  stage_staged : IsValidStaged (stage_itself stage)
-  stage_staged = record { chain = both_valid.1; names = refl; depth = omega arith }
+-- its tables stand behind those of the hash objects of the program that reads from it
+pub tables_below : (program stage : ProgramParts) (stages further : List ProgramParts) (tables : List Contents) → stages ≡ stage ∷ further → AreTablesOfCode (chain_of program stages) tables
+    → AreTablesOfCode (chain_of stage further) (tables_of_stage program tables)
+tables_below program stage stages further tables is are =
+    let own = hash_references program.hashes in
+    let others = program_references stage further in
+    let n = first_read_table program in
+    let P : List ProgramParts → Type 0 = λ ss. map columns_had tables ≡ map columns_named (program_references program ss) in
+    let all : map columns_had tables ≡ map columns_named (own ++ others) = subst P is are in
+    sym (drop-map columns_had n tables)
+    ∙ ap (λ (cs : List Columns). drop n cs) all
+    ∙ drop-map columns_named n (own ++ others)
+    ∙ ap (map columns_named) (drop-append_seam own others)
 
-  -- the tables of a thread program stand behind those of the hash objects
-  stage_tables : (tables : List Contents) → AreTablesOfCode parts tables → AreTablesOfCode (stage_itself stage) (tables_of_stage parts.program tables)
-  stage_tables tables are =
-      let own = hash_references parts.program.hashes in
-      let further = program_references stage [] in
-      let n = first_read_table parts.program in
-      let P : List ProgramParts → Type 0 = λ stages. map columns_had tables ≡ map columns_named (program_references parts.program stages) in
-      let all : map columns_had tables ≡ map columns_named (own ++ further) = subst P one are in
-      sym (drop-map columns_had n tables)
-      ∙ ap (λ (cs : List Columns). drop n cs) all
-      ∙ drop-map columns_named n (own ++ further)
-      ∙ ap (map columns_named) (drop-append_seam own further)
+-- ---- numbers
 
-  pub stage_fits_tables : ReadingsFitTables → (tables : List Contents) → AreTablesOfCode parts tables → IsTrue (reading_fits_tables (tables_of_stage parts.program tables) (code_reading stage))
-  stage_fits_tables law tables are = law (stage_itself stage) (tables_of_stage parts.program tables) stage_staged refl (stage_tables tables are)
+pub staged_at : (parts : StagedParts) (n : ℕ) (stage : ProgramParts) → slice_get parts.stages n ≡ Some stage → staged_program parts (n + 1) ≡ stage
+staged_at parts n stage here =
+    let next : n + 1 ≡ suc n = omega arith in
+    ap (staged_program parts) next ∙ ap (λ (o : Option ProgramParts). unwrap_or o parts.program) here
 
-  -- the thread program can be run over the tables behind those of the hash objects
-  pub ready_staged : ReadingsFitTables → (tables : List Contents) → AreTablesOfCode parts tables → (asked : ℕ) → IsGrainOfReading stage.reading asked
-      → (run : ThreadRun) → run.code.now ≡ parts → run.stage.now ≡ stage → run.reading.now ≡ code_reading stage → run.tables.now ≡ tables_of_stage parts.program tables → run.grain ≡ asked
-      → run.budget ≤ MOST_BUDGET → IsReadyThread run
-  ready_staged law tables are asked parts_fit run code is statement behind same few =
-      let first : staged_program parts 1 ≡ stage = ap (λ (stages : List ProgramParts). unwrap_or (slice_get stages 0) parts.program) one in
-      let there : 1 ≤ length parts.stages = omega (arith, ap (λ (stages : List ProgramParts). length stages) one) in
-      let T : StagedParts → Type 0 = λ p. 1 ≤ length p.stages in
+pub number_within : {A : Type 0} (xs : List A) (n : ℕ) (x : A) → slice_get xs n ≡ Some x → n + 1 ≤ length xs
+number_within [] n x here = absurd cc
+number_within (y ∷ xs) zero x here = omega arith
+number_within (y ∷ xs) (suc n) x here = omega (arith, number_within xs n x here)
+
+-- ---- programs that read from a thread program
+
+-- the thread program at a number, where it reads from one
+pub reader_below : (parts : StagedParts) (number : ℕ) (stage : ProgramParts) → IsValidStaged parts → slice_get parts.stages number ≡ Some stage → (r : ReaderRun)
+    → r.place.code.now ≡ parts → r.place.number ≡ number + 1 → r.place.program.now ≡ stage → IsReadyReader r
+reader_below parts number stage valid here r code at is =
+    let T : StagedParts → Type 0 = λ p. number + 1 ≤ length p.stages in
+    let S : ProgramParts → Type 0 = λ p. AreSlotTypesInBounds p.slots in
+    let there = subst T (sym code) (number_within parts.stages number stage here) in
+    record {
+      place = record {
+        here = ap (λ (p : StagedParts). staged_program p r.place.number) code ∙ ap (staged_program parts) at ∙ staged_at parts number stage here ∙ sym is;
+        there = omega (arith, there, at);
+      };
+      types = subst S (sym is) (types_of_valid (chain_of stage (drop (number + 1) parts.stages)) (valid_below parts number stage valid here));
+    }
+
+-- the data program, where it does
+pub data_reader : (parts : StagedParts) → IsValidStaged parts → (r : ReaderRun) → r.place.code.now ≡ parts → r.place.number ≡ 0 → r.place.program.now ≡ parts.program → IsReadyReader r
+data_reader parts valid r code at is =
+    let S : ProgramParts → Type 0 = λ p. AreSlotTypesInBounds p.slots in
+    record {
+      place = record {
+        here = ap (λ (p : StagedParts). staged_program p r.place.number) code ∙ ap (staged_program parts) at ∙ sym is;
+        there = omega (arith, at);
+      };
+      types = subst S (sym is) (types_of_valid parts valid);
+    }
+
+-- ---- the thread program that reads tables
+
+module _ (parts : StagedParts) (number : ℕ) (stage : ProgramParts) (valid : IsValidStaged parts) (here : slice_get parts.stages number ≡ Some stage) (last : drop (number + 1) parts.stages ≡ []) where
+  stage_alone : IsValidStaged (chain_of stage (drop (number + 1) parts.stages))
+  stage_alone = valid_below parts number stage valid here
+
+  -- it can be run over tables of its code
+  pub ready_thread : ReadingsFitTables → (own : List Contents) → AreTablesOfCode (chain_of stage (drop (number + 1) parts.stages)) own → (asked : ℕ) → IsGrainOfReading stage.reading asked → (run : ThreadRun)
+      → run.code.now ≡ parts → run.number ≡ number + 1 → run.stage.now ≡ stage → run.reading.now ≡ code_reading run.stage.now → run.tables.now ≡ own → run.grain ≡ asked → run.budget ≤ MOST_BUDGET → IsReadyThread run
+  ready_thread law own are asked fits run code at is statement over same few =
       let R : ProgramParts → Type 0 = λ p. ReadsNoThread p.reading in
       let S : ProgramParts → Type 0 = λ p. AreSlotTypesInBounds p.slots in
       let F : List Contents → Type 0 = λ ts. IsTrue (reading_fits_tables ts (code_reading stage)) in
       let E : ProgramParts → Type 0 = λ p. IsTrue (reading_fits_tables run.tables.now (code_reading p)) in
       let G : ℕ → Type 0 = λ g. IsGrainOfReading stage.reading g in
       let H : ProgramParts → Type 0 = λ p. IsGrainOfReading p.reading run.grain in
+      let T : StagedParts → Type 0 = λ p. number + 1 ≤ length p.stages in
+      let there : number + 1 ≤ length run.code.now.stages = subst T (sym code) (number_within parts.stages number stage here) in
       record {
-        first = ap (λ (p : StagedParts). staged_program p 1) code ∙ first ∙ sym is;
-        there = subst T (sym code) there;
-        reads = subst R (sym is) (reads_none stage stage_valid);
-        types = subst S (sym is) stage_types;
-        statement = statement ∙ ap code_reading (sym is);
-        fits = subst E (sym is) (subst F (sym behind) (stage_fits_tables law tables are));
-        parts = subst H (sym is) (subst G (sym same) parts_fit);
+        here = ap (λ (p : StagedParts). staged_program p run.number) code ∙ ap (staged_program parts) at ∙ staged_at parts number stage here ∙ sym is;
+        there = omega (arith, there, at);
+        reads = subst R (sym is) (reads_none stage (valid_alone (chain_of stage (drop (number + 1) parts.stages)) stage_alone last));
+        types = subst S (sym is) (types_of_valid (chain_of stage (drop (number + 1) parts.stages)) stage_alone);
+        statement = statement;
+        fits = subst E (sym is) (subst F (sym over) (law (chain_of stage (drop (number + 1) parts.stages)) own stage_alone last are));
+        parts = subst H (sym is) (subst G (sym same) fits);
         within = few;
       }
-
--- ---- how many thread programs there are
-
-pub none_first : {A : Type 0} (xs : List A) → slice_get xs 0 ≡ None → xs ≡ []
-none_first [] h = refl
-none_first (x ∷ xs) h = absurd cc
-
-pub one_first : {A : Type 0} (xs : List A) (x : A) → length xs ≤ 1 → slice_get xs 0 ≡ Some x → xs ≡ x ∷ []
-one_first [] x few h = absurd cc
-one_first (y ∷ []) x few h = let same : x ≡ y = cc in ap (λ z. z ∷ []) (sym same)
-one_first (y ∷ (z ∷ xs)) x few h = absurd (omega (arith, few))
-
--- ---- grains
-
-pub as_many_grains : (stages : List ProgramParts) (grains : List ℕ) → AreGrainsOf stages grains → stages ≡ [] → length grains ≡ length stages
-as_many_grains stages grains are none =
-    let P : List ProgramParts → Type 0 = λ xs. AreGrainsOf xs grains in
-    ap length (subst P none are) ∙ sym (ap length none)
-
-grain_of_first : (stage : ProgramParts) (stages : List ProgramParts) (grains : List ℕ) → AreGrainsOf (stage ∷ stages) grains → IsGrainOfReading stage.reading (grain_asked grains)
-grain_of_first stage stages [] are = absurd are
-grain_of_first stage stages (grain ∷ grains) are = are.0
-
-pub first_grain_fits : (all : List ProgramParts) (stage : ProgramParts) (grains : List ℕ) → all ≡ stage ∷ [] → AreGrainsOf all grains → IsGrainOfReading stage.reading (grain_asked grains)
-first_grain_fits all stage grains one are =
-    let P : List ProgramParts → Type 0 = λ xs. AreGrainsOf xs grains in
-    grain_of_first stage [] grains (subst P one are)

@@ -2,6 +2,7 @@
 use Rattle.std.proofs.Common.{◌≡◌, ℕ, zero, suc, ◌+◌, ◌<◌, ◌≤◌, true, false, List, [], ◌∷◌, ◌++◌, length, map, take, drop, get_or, Option, Some, None, refl, sym, ap, ◌∙◌, subst, append_assoc, arith}
 use Rattle.std.specs.Prelude.{reverse, slice_get}
 use Rattle.std.specs.List.{AllByRecursion}
+use Rattle.std.proofs.lemmas.Grind.{reverse_onto}
 use Rattle.std.proofs.lemmas.List.{append-nil}
 use Rattle.ds2_base.specs.declared.place.Place.{Place}
 use Rattle.ds2_value.specs.Progress.{UnitOutcome, Completed, Interrupted, Strayed}
@@ -10,7 +11,8 @@ use Rattle.ds2_value.specs.Run.{Written}
 use Rattle.ds2_value.specs.declared.fault.Ending.{Ending}
 use Rattle.ds2_value.specs.declared.fault.Ending.TheVariants.{Normal, Faulted}
 use Rattle.ds2_value.specs.declared.fault.Fault.{Fault}
-use Rattle.ds2_table.specs.OneThread.{Answer, StageAnswer, then_unit, with_groups, stage_notes, stage_rows, after_stage}
+use Rattle.ds2_table.specs.OneThread.{Answer, StageAnswer, then_unit, with_groups, stage_notes, stage_rows, after_stage, groups_at}
+use Rattle.ds2_code.specs.declared.parts.ProgramParts.{ProgramParts}
 use Rattle.ds2_code.specs.declared.parts.Slot.{Slot}
 use Rattle.ds2_code.specs.CodeUnit.{row_slot_settings}
 use Rattle.ds2_code.specs.Desk.{ProgramData}
@@ -23,7 +25,7 @@ use Rattle.ds2_machine.specs.declared.unit_end.UnitEnd.{UnitEnd}
 use Rattle.ds2_unit.specs.ProgramRun.{IsRunEnd, note_of_stage}
 use Rattle.ds2_loads.specs.StageRows.{rows_as_loads}
 use Rattle.ds2_loads.proofs.CursorSteps.{first_at}
-use Rattle.ds2_unit.specs.Threads.{IsThreadEnd, rows_kept}
+use Rattle.ds2_unit.specs.Threads.{IsThreadEnd, answer_behind, answer_on_rows, rows_kept}
 use Rattle.ds2_unit.specs.UnitsRun.{HasRunAnswer}
 use Rattle.ds2_unit.specs.declared.program_end.RunEnd.{RunEnd}
 use Rattle.ds2_unit.specs.declared.program_end.StageNote.{StageNote}
@@ -108,13 +110,15 @@ module _ {S : Type 0} (has_taken : S → S → List Written → List (List ℕ) 
 
   -- ---- the whole
 
-  -- what is told of a thread program
-  noted_one : (stage : Answer) (note : StageNote) → note.groups ≡ stage.groups → note.executed ≡ stage.executed → stage.stages ≡ []
-      → note ∷ [] ≡ reverse (map note_of_stage (stage_notes stage))
-  noted_one stage note groups executed none =
-      let one : note ≡ note_of_stage (record { groups = stage.groups; executed = stage.executed; ending = stage.ending }) = λ i. record { groups = groups i; executed = executed i } in
-      ap (λ (n : StageNote). n ∷ []) one
-      ∙ ap (λ (xs : List StageAnswer). reverse (map note_of_stage (record { groups = stage.groups; executed = stage.executed; ending = stage.ending } ∷ xs))) (sym none)
+  -- what is told of a thread program behind those below it
+  noted_behind : (stage : Answer) (below : List StageNote) (note : StageNote) → note.groups ≡ stage.groups → note.executed ≡ stage.executed → below ≡ reverse (map note_of_stage stage.stages)
+      → below ++ note ∷ [] ≡ reverse (map note_of_stage (stage_notes stage))
+  noted_behind stage below note groups executed others =
+      let told = note_of_stage (record { groups = stage.groups; executed = stage.executed; ending = stage.ending }) in
+      let one : note ≡ told = λ i. record { groups = groups i; executed = executed i } in
+      ap (λ (n : StageNote). below ++ n ∷ []) one
+      ∙ ap (λ (ns : List StageNote). ns ++ told ∷ []) others
+      ∙ sym (reverse_onto (map note_of_stage stage.stages) told [])
 
   stages_behind : (stage : Answer) (go : List Row → Answer) (e : Option Ending) → (after_stage e stage go).stages ≡ stage_notes stage
   stages_behind stage go (Some Normal) = refl
@@ -153,18 +157,18 @@ module _ {S : Type 0} (has_taken : S → S → List Written → List (List ℕ) 
     goes_on d = after_stage (stage_of d).ending (stage_of d) (rows_go d)
 
     one_noted : (o : UnitOutcome ProgramData) (before next : S) (unit : UnitEnd) (state : ProgramData) (stage : ThreadEnd) → IsUnitEnd has_taken before next o unit state → is_early unit.ending ≡ false
-        → IsThreadEnd (stage_of state) stage → stage.note ∷ [] ≡ reverse (map note_of_stage (then_unit o goes_on).stages)
+        → IsThreadEnd (stage_of state) stage → stage.below ++ stage.note ∷ [] ≡ reverse (map note_of_stage (then_unit o goes_on).stages)
     one_noted (Completed c p n) before next unit state stage h late is =
         let P : ProgramData → Type 0 = λ d. IsThreadEnd (stage_of d) stage in
         let at = subst P h.4 is in
-        noted_one (stage_of c) stage.note at.grouped at.counted at.alone
+        noted_behind (stage_of c) stage.below stage.note at.grouped at.counted at.noted
         ∙ ap (λ (xs : List StageAnswer). reverse (map note_of_stage xs)) (sym (stages_behind (stage_of c) (rows_go c) (stage_of c).ending))
     one_noted (Interrupted fault p n) before next unit state stage h late is = absurd (not_late unit.ending (Faulted fault p.place) h.0 refl late)
     one_noted Strayed before next unit state stage h late is = absurd h
 
     pub reader_ends : (o : UnitOutcome ProgramData) (before next after : S) (unit : UnitEnd) (state : ProgramData) (rest : UnitsEnd) (stage : ThreadEnd) (told : RunEnd) → IsUnitEnd has_taken before next o unit state
         → is_early unit.ending ≡ false → IsThreadEnd (stage_of state) stage → HasRunAnswer has_taken next after (goes_on state) rest
-        → told.ending ≡ rest.ending → told.executed ≡ unit.executed + rest.executed → told.stages ≡ stage.note ∷ [] → IsRunEnd has_taken before after (then_unit o goes_on) told
+        → told.ending ≡ rest.ending → told.executed ≡ unit.executed + rest.executed → told.stages ≡ stage.below ++ stage.note ∷ [] → IsRunEnd has_taken before after (then_unit o goes_on) told
     reader_ends o before next after unit state rest stage told h late is behind ending executed notes =
         let end : UnitsEnd = record { ending = told.ending; executed = told.executed } in
         let ran = unit_then has_taken o goes_on before next after unit state rest end h late behind ending executed in
@@ -174,3 +178,35 @@ module _ {S : Type 0} (has_taken : S → S → List Written → List (List ℕ) 
           counted = ran.counted;
           noted = notes ∙ one_noted o before next unit state stage h late is;
         }
+
+-- ---- the groups of a program that reads from a thread program
+
+pub groups_none : (e : Option Ending) → groups_at e 0 ≡ 0
+groups_none (Some Normal) = refl
+groups_none (Some (Faulted fault place)) = refl
+groups_none None = refl
+
+module _ {S : Type 0} (has_taken : S → S → List Written → List (List ℕ) → Type 0) where
+  -- where `init` ends the program by a fault there are none
+  pub no_groups : (o : UnitOutcome ProgramData) (go : ProgramData → Answer) (before after : S) (unit : UnitEnd) (state : ProgramData) → IsUnitEnd has_taken before after o unit state
+      → is_early unit.ending ≡ true → (then_unit o go).groups ≡ 0
+  no_groups (Completed c p n) go before after unit state h early = absurd (let s : is_early unit.ending ≡ false = ap is_early h.0 in absurd cc)
+  no_groups (Interrupted fault p n) go before after unit state h early = refl
+  no_groups Strayed go before after unit state h early = absurd h
+
+  module _ (code : ProgramParts) (budget : ℕ) (stage_of : ProgramData → Answer) where
+    behind_groups : (d : ProgramData) (stage : Answer) (e : Option Ending)
+        → (after_stage e stage (answer_on_rows code budget d)).groups ≡ groups_at (after_stage e stage (answer_on_rows code budget d)).ending (length (stage_rows stage))
+    behind_groups d stage (Some Normal) = refl
+    behind_groups d stage (Some (Faulted fault place)) = refl
+    behind_groups d stage None = refl
+
+    -- each row of the thread program is one
+    pub rows_grouped : (o : UnitOutcome ProgramData) (before next : S) (unit : UnitEnd) (state : ProgramData) → IsUnitEnd has_taken before next o unit state → is_early unit.ending ≡ false
+        → (then_unit o (λ d. answer_behind code budget d (stage_of d))).groups
+        ≡ groups_at (then_unit o (λ d. answer_behind code budget d (stage_of d))).ending (length (stage_rows (stage_of state)))
+    rows_grouped (Completed c p n) before next unit state h late =
+        let behind = answer_behind code budget c (stage_of c) in
+        behind_groups c (stage_of c) (stage_of c).ending ∙ ap (λ d. groups_at behind.ending (length (stage_rows (stage_of d)))) (sym h.4)
+    rows_grouped (Interrupted fault p n) before next unit state h late = absurd (let s : is_early unit.ending ≡ true = ap is_early h.0 in absurd cc)
+    rows_grouped Strayed before next unit state h late = absurd h

@@ -1,7 +1,9 @@
 pub mod UnitsRun
+pub mod Places
 pub mod Outputs
 pub mod ProgramRun
 pub mod Threads
+pub mod Readers
 pub mod GivenScales
 pub mod EveryGroup
 pub use Rattle.ds2_loads.specs.Grains

@@ -1,11 +1,11 @@
 -- A thread program from which a program reads.
-use Rattle.std.specs.Prelude.{◌≡◌, ◌≤◌, ℕ, false, List, [], ◌∷◌, length, map, Some, IsTrue}
+use Rattle.std.specs.Prelude.{◌≡◌, ◌≤◌, ℕ, false, List, [], ◌∷◌, length, map, reverse, Some, IsTrue}
 use Rattle.ds2_value.specs.Row.{Row}
 use Rattle.ds2_table.specs.OneThread.{Answer, alone_answer, then_unit, after_stage, run_each, with_groups, stage_rows}
 use Rattle.ds2_table.specs.Table.{Contents}
 use Rattle.ds2_reading.specs.ReadingFits.{reading_fits_tables}
 use Rattle.ds2_code.specs.declared.parts.ProgramParts.{ProgramParts}
-use Rattle.ds2_code.specs.CodeUnit.{code_init, opening_data, row_slot_settings}
+use Rattle.ds2_code.specs.CodeUnit.{code_init, row_slot_settings}
 use Rattle.ds2_code.specs.Desk.{ProgramData}
 use Rattle.ds2_code.specs.Scales.{IsDataScaled}
 use Rattle.ds2_slots.specs.LoadedHashes.{AreSlotTypesInBounds}
@@ -14,19 +14,23 @@ use Rattle.ds2_machine.specs.declared.machine.TheConstants.{MOST_BUDGET}
 use Rattle.ds2_machine.specs.declared.record.OutRow.{OutRow}
 use Rattle.ds2_code_answer.specs.CodeAnswer.{code_units, code_opening, code_program}
 use Rattle.ds2_code_answer.specs.CodeLoads.{code_reading, slots_of_stage}
-use Rattle.ds2_code_answer.specs.CodeTables.{rows_of_each}
 use Rattle.ds2_loads.specs.Readings.{ReadsNoThread}
 use Rattle.ds2_loads.specs.Grains.{IsGrainOfReading}
+use Rattle.ds2_unit.specs.ProgramRun.{grain_asked, note_of_stage}
 use Rattle.ds2_unit.specs.declared.thread.ThreadEnd.{ThreadEnd}
 use Rattle.ds2_unit.specs.declared.thread_run.ThreadRun.{ThreadRun}
 
 -- ---- grains
 
--- the grains of at most one thread program, which fits its reading statement
+-- a grain fits the statement that reads tables: that of a program without thread programs below it, or that of the last of these
+abbrev pub IsGrainOfChain : ProgramParts → List ProgramParts → (grain : ℕ) → Type 0
+IsGrainOfChain program [] grain = IsGrainOfReading program.reading grain
+IsGrainOfChain program (stage ∷ stages) grain = IsGrainOfChain stage stages grain
+
+-- the grain that is asked fits the thread program that reads tables, where there is one
 abbrev pub AreGrainsOf : List ProgramParts → List ℕ → Type 0
-AreGrainsOf [] grains = grains ≡ []
-AreGrainsOf (stage ∷ stages) [] = ⊥
-AreGrainsOf (stage ∷ stages) (grain ∷ grains) = IsGrainOfReading stage.reading grain × (grains ≡ [])
+AreGrainsOf [] grains = Unit {0}
+AreGrainsOf (stage ∷ stages) grains = IsGrainOfChain stage stages (grain_asked grains)
 
 -- ---- what a thread program leaves
 
@@ -34,19 +38,19 @@ AreGrainsOf (stage ∷ stages) (grain ∷ grains) = IsGrainOfReading stage.readi
 abbrev pub rows_kept : List OutRow → List Row
 rows_kept rows = map (λ (r : OutRow). r.row) rows
 
--- a thread program that reads tables has ended as its answer says
+-- a thread program has ended as its answer says
 pub record IsThreadEnd (answer : Answer) (end : ThreadEnd) : Type 0 where
   pub rows : rows_kept end.written.rows ≡ stage_rows answer
   pub lines : end.written.lines ≡ answer.lines
   pub ended : answer.ending ≡ Some end.ending
   pub counted : end.note.executed ≡ answer.executed
   pub grouped : end.note.groups ≡ answer.groups
-  pub alone : answer.stages ≡ []
+  pub noted : end.below ≡ reverse (map note_of_stage answer.stages)
 
--- a thread program can be run on its tables: it is the first of the code's, its statement fits these tables, and the grain fits its statement
+-- a thread program can be run on its tables: it is that of its number, its statement fits these tables, and the grain fits its statement
 pub record IsReadyThread (run : ThreadRun) : Type 0 where
-  pub first : staged_program run.code.now 1 ≡ run.stage.now
-  pub there : 1 ≤ length run.code.now.stages
+  pub here : staged_program run.code.now run.number ≡ run.stage.now
+  pub there : run.number ≤ length run.code.now.stages
   pub reads : ReadsNoThread run.stage.now.reading
   pub types : AreSlotTypesInBounds run.stage.now.slots
   pub statement : run.reading.now ≡ code_reading run.stage.now
@@ -62,9 +66,13 @@ pub record IsMachineOf (run : ThreadRun) (machine : MachineAtRest) : Type 0 wher
 
 -- ---- answers
 
+-- the answer of a program with the thread programs below it, over the tables that they name, to these values of its parameters
+abbrev pub chain_answer : ProgramParts → List ProgramParts → List Contents → (budget grain : ℕ) → Row → Answer
+chain_answer program stages tables budget grain given = alone_answer (code_program program stages tables budget grain) (code_opening program stages tables given)
+
 -- the answer of a thread program over the tables that it reads, to these values of its parameters
 abbrev pub thread_answer : ProgramParts → List Contents → (budget grain : ℕ) → Row → Answer
-thread_answer stage tables budget grain given = alone_answer (code_program stage [] tables budget grain) (code_opening stage [] tables given)
+thread_answer stage tables budget grain given = chain_answer stage [] tables budget grain given
 
 -- what comes of the rows of a thread program
 abbrev pub answer_on_rows : ProgramParts → (budget : ℕ) → ProgramData → List Row → Answer
@@ -77,7 +85,3 @@ answer_behind code budget d stage = after_stage stage.ending stage (answer_on_ro
 -- the answer of a program that reads from a thread program whose answer is this function of its parameters, from this data
 abbrev pub reader_answer_from : ProgramParts → (budget : ℕ) → (Row → Answer) → ProgramData → Answer
 reader_answer_from code budget answers state = then_unit (code_init code budget state) (λ d. answer_behind code budget d (answers d.parameters))
-
--- its answer over tables, where the thread program has so many parameters
-abbrev pub reader_answer : ProgramParts → (parameters : ℕ) → List Contents → (budget : ℕ) → (Row → Answer) → Answer
-reader_answer code parameters tables budget answers = reader_answer_from code budget answers (opening_data code [] (rows_of_each tables) parameters)

@@ -1,12 +1,12 @@
 //! A program on one thread.
-ghost use Rattle.std.specs.Prelude.{◌≡◌, ◌≤◌, [], length, IfOk};
+ghost use Rattle.std.specs.Prelude.{◌≡◌, ◌≤◌, [], IfOk};
 ghost use Rattle.ds2_machine.specs.declared.machine.TheConstants.{MOST_BUDGET};
 ghost use Rattle.ds2_code_answer.specs.CodeAnswer.{code_answer};
 ghost use Rattle.ds2_code_answer.specs.CodeTables.{AreTablesOfCode};
 ghost use Rattle.ds2_loads.specs.Readings.{ReadsNoThread};
 ghost use Rattle.ds2_unit.specs.ProgramRun.{IsRunEnd, grain_asked};
 
-use crate::program_end::RunEnd;
+use crate::program_end::{RunEnd, ended_alone};
 use crate::reading::run_reading;
 use ds2_base::{List, OutOfMemory};
 use ds2_loads::TableRows;
@@ -30,7 +30,6 @@ pub fn run_into<S: UnitSink>(
 ) -> Result<RunEnd, OutOfMemory>
     requires tables { AreTablesOfCode code.now tables.now }
     requires budget { budget ≤ MOST_BUDGET }
-    requires grains { length grains.now ≡ length code.now.stages }
     requires stages { code.now.stages ≡ [] }
     requires reads { ReadsNoThread code.now.program.reading }
     ensures { IfOk result (λ end. IsRunEnd S.has_taken sink.old sink.new (code_answer code.now tables.now budget (grain_asked grains.now)) end) }
@@ -38,9 +37,5 @@ pub fn run_into<S: UnitSink>(
     let rows = TableRows { tables };
     let mut machine = Machine::open(alloc, code, 0, &[], &rows, 0)?;
     let end = run_reading(alloc, code, tables, &mut machine, budget, sink)?;
-    Ok(RunEnd {
-        ending: end.ending,
-        executed: end.executed,
-        stages: List::new(alloc),
-    })
+    Ok(ended_alone(alloc, end))
 }

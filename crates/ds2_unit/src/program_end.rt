@@ -1,7 +1,10 @@
 //! How a program has ended.
+ghost use Rattle.std.specs.Prelude.{◌≡◌, []};
 
+use crate::units_end::UnitsEnd;
 use ds2_base::List;
 use ds2_value::Ending;
+use std::alloc::Global;
 
 /// What is known of a thread program from which a program read.
 #[derive(Clone, Copy, PartialEq, Eq)]
@@ -20,4 +23,17 @@ pub struct RunEnd {
     pub executed: u128,
     /// The thread programs that were begun, the innermost first.
     pub stages: List<StageNote>,
+}
+
+/// How a program has ended whose units ended so, and that began no thread program.
+pub fn ended_alone(alloc: Global, end: UnitsEnd) -> RunEnd
+    ensures ending { result.ending ≡ end.ending }
+    ensures executed { result.executed ≡ end.executed }
+    ensures stages { result.stages ≡ [] }
+{
+    RunEnd {
+        ending: end.ending,
+        executed: end.executed,
+        stages: List::new(alloc),
+    }
 }

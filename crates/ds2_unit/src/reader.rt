@@ -1,25 +1,47 @@
 //! A program behind the thread program that it reads from.
-ghost use Rattle.std.specs.Prelude.{◌≡◌, ◌+◌, ◌≤◌, [], ◌∷◌, false, IfOk, OnOk};
+ghost use Rattle.std.specs.Prelude.{◌≡◌, ◌+◌, ◌++◌, ◌≤◌, [], ◌∷◌, length, IfOk, OnOk};
 ghost use Rattle.ds2_table.specs.OneThread.{Answer};
-ghost use Rattle.ds2_code.specs.Scales.{IsDataScaled};
+ghost use Rattle.ds2_code.specs.CodeUnit.{opening_data};
+ghost use Rattle.ds2_code_answer.specs.CodeLoads.{slots_of_stage};
+ghost use Rattle.ds2_code_answer.specs.CodeTables.{rows_of_each};
 ghost use Rattle.ds2_machine.specs.Sink.{SinkTakes};
 ghost use Rattle.ds2_machine.specs.declared.machine.TheConstants.{MOST_BUDGET};
-ghost use Rattle.ds2_code_answer.specs.CodeLoads.{slots_of_stage};
 ghost use Rattle.ds2_unit.specs.UnitsRun.{HasRunAnswer};
+ghost use Rattle.ds2_unit.specs.Places.{IsMachineAt};
+ghost use Rattle.ds2_unit.specs.Readers.{IsReadyReader};
 ghost use Rattle.ds2_unit.specs.Threads.{IsThreadEnd, answer_behind};
 
-use crate::program_end::{RunEnd, StageNote};
-use crate::reading::slots_of;
+use crate::place::{ProgramPlace, open_machine};
+use crate::program_end::RunEnd;
 use crate::thread::ThreadEnd;
 use crate::units::{run_to_end, sum_of};
 use crate::units_end::UnitsEnd;
-use ds2_base::{List, OutOfMemory, Text};
-use ds2_code::ReadingPart;
+use ds2_base::{OutOfMemory, Text};
+use ds2_code::{ProgramParts, ReadingPart};
 use ds2_loads::StageRows;
 use ds2_machine::{Machine, UnitEnd, UnitSink};
-use ds2_valid_code::ProgramCode;
-use ds2_value::Ending;
+use ds2_value::{Ending, Value};
 use std::alloc::Global;
+
+/// What stays the same while a program runs that reads from a thread program.
+#[derive(Clone, Copy)]
+pub struct ReaderRun<'a> {
+    pub place: ProgramPlace<'a>,
+    /// The thread program that it reads from, the next one below it.
+    pub stage: &'a ProgramParts,
+}
+
+/// The machine of a program before its `init`, with these values of its own parameters; those of the thread program are null.
+///
+/// A decimal of another scale than its parameter's, which valid code does not set, would be refused as want of memory.
+pub fn open_reader(alloc: Global, run: &ReaderRun, given: &[Value]) -> Result<Machine, OutOfMemory>
+    requires { IsReadyReader run.now }
+    ensures machine { IfOk result (λ machine. IsMachineAt run.now.place machine) }
+    ensures begun { IfOk result (λ machine. machine.state
+        ≡ opening_data run.now.place.program.now given.now (rows_of_each run.now.place.tables.now) (length run.now.stage.now.parameters)) }
+{
+    open_machine(alloc, &run.place, given, run.stage.parameters.len())
+}
 
 // The slots of the columns of the thread program that a reading reads from; none where it reads from none.
 fn thread_slots(reading: &ReadingPart) -> &[u32]
@@ -44,33 +66,33 @@ fn hand_on<S: UnitSink>(alloc: Global, lines: &[Text], sink: &mut S) -> Result<(
     Ok(())
 }
 
-/// Goes on behind a thread program: its lines come first, its fault ends the data program, and its rows are the loads of `run`.
+/// Goes on behind a thread program: its lines come first, its fault ends the program that reads from it, and its rows are the loads of `run`.
 pub fn run_rows<S: UnitSink>(
     alloc: Global,
-    code: &ProgramCode,
-    stage: &ThreadEnd,
+    run: &ReaderRun,
+    thread: &ThreadEnd,
     machine: &mut Machine,
     budget: u64,
     sink: &mut S,
 ) -> Result<UnitsEnd, OutOfMemory>
-    requires number { machine.old.program ≡ 0 }
-    requires scaled { IsDataScaled code.now.program machine.old.state }
+    requires reader { IsReadyReader run.now }
+    requires machine { IsMachineAt run.now.place machine.old }
     requires budget { budget ≤ MOST_BUDGET }
-    requires ready { machine.old.spent ≡ false }
-    ensures { IfOk result (λ end. (answer : Answer) → IsThreadEnd answer stage.now → HasRunAnswer S.has_taken sink.old sink.new
-        (answer_behind code.now.program budget machine.old.state answer) end) }
+    ensures { IfOk result (λ end. (answer : Answer) → IsThreadEnd answer thread.now → HasRunAnswer S.has_taken sink.old sink.new
+        (answer_behind run.now.place.program.now budget machine.old.state answer) end) }
 {
-    let into = thread_slots(&code.parts().program.reading);
-    let slots = slots_of(code);
-    let lines = stage.written.lines.as_slice();
+    let program = run.place.program;
+    let into = thread_slots(&program.reading);
+    let slots = program.slots.as_slice();
+    let lines = thread.written.lines.as_slice();
     hand_on(alloc, lines, sink)?;
-    match stage.ending {
+    match thread.ending {
         Ending::Faulted { kind, place } => Ok(UnitsEnd {
             ending: Ending::Faulted { kind, place },
             executed: 0,
         }),
         Ending::Normal => {
-            let rest = stage.written.rows.as_slice();
+            let rest = thread.written.rows.as_slice();
             let mut source = StageRows {
                 slots,
                 into,
@@ -78,38 +100,25 @@ pub fn run_rows<S: UnitSink>(
                 rest,
                 all: rest,
             };
-            let end = run_to_end(alloc, code, machine, &mut source, budget, sink)?;
+            let end = run_to_end(alloc, run.place.code, machine, &mut source, budget, sink)?;
             Ok(end)
         }
     }
 }
 
-/// How a program has ended that ended in its `init`: no thread program was begun.
-pub fn ended_at_init(alloc: Global, first: UnitEnd) -> RunEnd
-    ensures ending { result.ending ≡ first.ending }
-    ensures executed { result.executed ≡ first.executed }
-    ensures stages { result.stages ≡ [] }
-{
-    RunEnd {
-        ending: first.ending,
-        executed: u128::from(first.executed),
-        stages: List::new(alloc),
-    }
-}
-
-/// How a program has ended behind its thread program.
+/// How a program has ended behind `init` and its thread program.
 pub fn ended_behind(
-    alloc: Global,
     first: UnitEnd,
-    note: StageNote,
+    thread: ThreadEnd,
     rest: UnitsEnd,
 ) -> Result<RunEnd, OutOfMemory>
     ensures ending { IfOk result (λ end. end.ending ≡ rest.ending) }
     ensures executed { IfOk result (λ end. end.executed ≡ first.executed + rest.executed) }
-    ensures stages { IfOk result (λ end. end.stages ≡ note ∷ []) }
+    ensures stages { IfOk result (λ end. end.stages ≡ thread.below ++ thread.note ∷ []) }
 {
     let executed = sum_of(rest.executed, u128::from(first.executed))?;
-    let mut stages = List::new(alloc);
+    let note = thread.note;
+    let mut stages = thread.below;
     stages.push(note)?;
     Ok(RunEnd {
         ending: rest.ending,

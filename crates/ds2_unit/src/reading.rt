@@ -1,6 +1,5 @@
 //! The units of a data program on its loads.
 ghost use Rattle.std.specs.Prelude.{◌≡◌, [], IfOk};
-ghost use Rattle.ds2_slots.specs.LoadedHashes.{AreSlotTypesInBounds};
 ghost use Rattle.ds2_code_answer.specs.CodeLoads.{code_loads};
 ghost use Rattle.ds2_code_answer.specs.CodeTables.{AreTablesOfCode};
 ghost use Rattle.ds2_loads.specs.Readings.{ReadsNoThread};
@@ -9,21 +8,12 @@ ghost use Rattle.ds2_unit.specs.UnitsRun.{HasRunOnLoads, IsReadyToRun};
 use crate::units::run_units;
 use crate::units_end::UnitsEnd;
 use ds2_base::OutOfMemory;
-use ds2_code::Slot;
 use ds2_code_answer::laws::{loads_are_scaled, readings_fit_tables};
 use ds2_loads::{ProgramLoads, statement_of};
 use ds2_machine::{Machine, UnitSink};
 use ds2_reading::Tables;
 use ds2_valid_code::ProgramCode;
 use std::alloc::Global;
-
-/// The slots of a data program.
-pub(crate) fn slots_of(code: &ProgramCode) -> &[Slot]
-    ensures value { result.now ≡ code.now.program.slots }
-    ensures types { AreSlotTypesInBounds result.now }
-{
-    code.parts().program.slots.as_slice()
-}
 
 /// Runs the units of a data program on its loads over its tables.
 pub(crate) fn run_reading<S: UnitSink>(

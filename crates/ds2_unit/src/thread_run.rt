@@ -1,16 +1,15 @@
 //! What stays the same while a thread program runs, and what it begins with.
 ghost use Rattle.std.specs.Prelude.{◌≡◌, [], IfOk};
-ghost use Rattle.ds2_code.specs.Scales.{AreGivenScaled};
 ghost use Rattle.ds2_code_answer.specs.CodeAnswer.{code_opening};
 ghost use Rattle.ds2_code_answer.specs.CodeLoads.{code_loads};
 ghost use Rattle.ds2_loads.specs.GroupedLoads.{loads_in_groups};
 ghost use Rattle.ds2_loads.specs.ProgramSources.{program_groups, program_left};
 ghost use Rattle.ds2_unit.specs.Threads.{IsMachineOf, IsReadyThread};
 
-use crate::given::are_given_scaled;
+use crate::place::{ProgramPlace, open_machine};
 use ds2_base::OutOfMemory;
 use ds2_code::ProgramParts;
-use ds2_loads::{ProgramLoads, TableRows};
+use ds2_loads::ProgramLoads;
 use ds2_machine::Machine;
 use ds2_reading::{Reading, Tables};
 use ds2_valid_code::ProgramCode;
@@ -21,7 +20,8 @@ use std::alloc::Global;
 #[derive(Clone, Copy)]
 pub struct ThreadRun<'a> {
     pub code: &'a ProgramCode,
-    /// The thread program, the first of the code's.
+    /// The number of the thread program: k for the k-th below the data program.
+    pub number: usize,
     pub stage: &'a ProgramParts,
     /// Its reading statement, over the numbers of its tables.
     pub reading: &'a Reading,
@@ -33,18 +33,6 @@ pub struct ThreadRun<'a> {
     pub grain: u32,
 }
 
-// The machine of a thread program, with values of its parameters that have the scales of their slots.
-fn machine_with(alloc: Global, run: &ThreadRun, given: &[Value]) -> Result<Machine, OutOfMemory>
-    requires thread { IsReadyThread run.now }
-    requires given { AreGivenScaled run.now.stage.now.slots run.now.stage.now.parameters given.now }
-    ensures machine { IfOk result (λ machine. IsMachineOf run.now machine) }
-    ensures begun { IfOk result (λ machine. machine.state ≡ code_opening run.now.stage.now [] run.now.tables.now given.now) }
-{
-    let rows = TableRows { tables: run.tables };
-    let machine = Machine::open(alloc, run.code, 1, given, &rows, 0)?;
-    Ok(machine)
-}
-
 /// The machine of a thread program before its `init`, with these values of its parameters.
 ///
 /// A decimal of another scale than its parameter's, which valid code does not set, would be refused as want of memory.
@@ -53,12 +41,13 @@ pub fn open_thread(alloc: Global, run: &ThreadRun, given: &[Value]) -> Result<Ma
     ensures machine { IfOk result (λ machine. IsMachineOf run.now machine) }
     ensures begun { IfOk result (λ machine. machine.state ≡ code_opening run.now.stage.now [] run.now.tables.now given.now) }
 {
-    let numbers = run.stage.parameters.as_slice();
-    if are_given_scaled(&run.stage.slots, numbers, given) {
-        machine_with(alloc, run, given)
-    } else {
-        Err(OutOfMemory)
-    }
+    let place = ProgramPlace {
+        code: run.code,
+        number: run.number,
+        program: run.stage,
+        tables: run.tables,
+    };
+    open_machine(alloc, &place, given, 0)
 }
 
 /// The loads of a thread program over its tables, before the first one, in groups at its grain.

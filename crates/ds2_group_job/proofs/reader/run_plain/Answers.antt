@@ -1,4 +1,4 @@
-use Rattle.ds2_unit.proofs.StagedCode.{reads_none, valid_alone, as_many_grains}
+use Rattle.ds2_unit.proofs.StagedCode.{reads_none, valid_alone}
 use Rattle.ds2_group_job.proofs.reader.run_plain.Goals as goal
 
 pub run_into-requires-clause-tables : goal.run_into-requires-clause-tables
@@ -9,6 +9,3 @@ run_into-requires-clause-budget g c = c.requires.ready.budget
 
 pub run_into-requires-clause-reads : goal.run_into-requires-clause-reads
 run_into-requires-clause-reads g c = reads_none c.args.program.now.code.now.program (valid_alone c.args.program.now.code.now c.parts-valid.ensures.valid c.requires.stages)
-
-pub run_into-requires-clause-grains : goal.run_into-requires-clause-grains
-run_into-requires-clause-grains g c = as_many_grains c.args.program.now.code.now.stages c.args.program.now.grains.now c.requires.ready.grains c.requires.stages

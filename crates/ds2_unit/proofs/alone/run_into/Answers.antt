@@ -1,8 +1,7 @@
-use Rattle.std.proofs.Common.{ℕ, refl, ap, subst}
+use Rattle.std.proofs.Common.{ℕ, ap, subst}
 use Rattle.ds2_code.specs.Scales.{IsDataScaled}
 use Rattle.ds2_machine.specs.AtRest.{MachineAtRest, staged_program}
 use Rattle.ds2_unit.specs.ProgramRun.{grain_asked}
-use Rattle.ds2_unit.specs.declared.program_end.RunEnd.{RunEnd}
 use Rattle.ds2_unit.proofs.WholeRuns.{whole_run}
 use Rattle.ds2_unit.proofs.alone.run_into.Goals as goal
 
@@ -22,6 +21,5 @@ run_reading-requires-clause-ready g c =
 
 pub returns : goal.returns
 returns g c =
-    let told : RunEnd = record { ending = c.in_ok-end.end.ending; executed = c.in_ok-end.end.executed; stages = c.new.result } in
-    whole_run g.S.UnitSink.has_taken c.args.sink.now c.run_reading.new.sink c.args.tables.now c.args.budget (grain_asked c.args.grains.now) c.args.code.now c.in_ok-machine.machine.state c.in_ok-end.end told
-    c.requires.stages (ap (λ (m : MachineAtRest). m.state) c.in_ok-machine.ensures.opened) c.in_ok-end.ensures refl refl c.new.ensures
+    whole_run g.S.UnitSink.has_taken c.args.sink.now c.run_reading.new.sink c.args.tables.now c.args.budget (grain_asked c.args.grains.now) c.args.code.now c.in_ok-machine.machine.state c.in_ok-end.end c.ended_alone.result
+    c.requires.stages (ap (λ (m : MachineAtRest). m.state) c.in_ok-machine.ensures.opened) c.in_ok-end.ensures c.ended_alone.ensures.ending c.ended_alone.ensures.executed c.ended_alone.ensures.stages

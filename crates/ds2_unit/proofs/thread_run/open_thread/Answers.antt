@@ -1,9 +1,8 @@
-use Rattle.std.proofs.Common.{ℕ, List, subst}
-use Rattle.std.proofs.lemmas.Bool.{OnTrue_at}
-use Rattle.ds2_code.specs.Scales.{AreGivenScaled}
+use Rattle.ds2_unit.proofs.ThreadEnds.{machine_of_place}
 use Rattle.ds2_unit.proofs.thread_run.open_thread.Goals as goal
 
-pub machine_with-requires-clause-given : goal.machine_with-requires-clause-given
-machine_with-requires-clause-given c =
-    let P : List ℕ → Type 0 = λ numbers. AreGivenScaled c.args.run.now.stage.now.slots numbers c.args.given.now in
-    subst P c.as_slice-numbers.ensures (OnTrue_at c.if-are_given_scaled.true c.are_given_scaled.ensures.scaled)
+pub open_machine-requires : goal.open_machine-requires
+open_machine-requires c = record { place = record { here = c.requires.thread.here; there = c.requires.thread.there } }
+
+pub returns-clause-machine : goal.returns-clause-machine
+returns-clause-machine c = machine_of_place c.args.run.now c.args.run.now.number c.open_machine.result c.open_machine.ensures.machine
