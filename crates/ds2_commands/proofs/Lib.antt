@@ -7,3 +7,5 @@ pub mod StoreSteps
 pub mod CommandSteps
 pub mod ObjectSteps
 pub mod DemoSteps
+pub mod NamedLines
+pub mod WordSteps

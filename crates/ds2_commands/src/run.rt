@@ -6,9 +6,7 @@ ghost use Rattle.ds2_answer.specs.declared.words.TheConstants.{MOST_BUDGET};
 ghost use Rattle.ds2_exec.specs.StageRuns.{RunsStages};
 ghost use Rattle.ds2_store_steps.specs.Halts.{CausedByStore, InSession};
 ghost use Rattle.ds2_commands.specs.CommandOutcomes.{DoesSource, runs_with};
-ghost use Rattle.ds2_commands.specs.SourceLoads.{IsRunnableObject, RunsLoaded, StoresReadable};
 
-use crate::loaded::Loaded;
 use crate::source_run::SourceRun;
 use crate::sources::load_source;
 use crate::storing::store_new;
@@ -21,38 +19,7 @@ use ds2_store_steps::{Halt, Session};
 use ds2_value::Value;
 use std::alloc::Global;
 
-// Unless an output is there already, stores the object of a source and runs its programs.
-fn run_loaded<F: Fn(Global, &StageRun, &[Value]) -> Result<ThreadEnd, OutOfMemory>, S: Store>(
-    session: &mut Session<S>,
-    asked: &SourceRun,
-    loaded: &Loaded,
-    run: &F,
-) -> Result<(), Halt>
-    requires callable { F.IsAlwaysCallable run.now }
-    requires right { RunsStages (F.post run.now) }
-    requires named { IsTrue (is_source asked.now.source.now) }
-    requires runs { IsRunnableObject loaded.now }
-    requires budget { asked.now.budget ≤ MOST_BUDGET }
-    ensures does { InSession S.files (RunsLoaded asked.now.source.now asked.now.budget loaded.now) session.old result session.new }
-    ensures readable { StoresReadable loaded.now.object result (S.files session.old.store.now) (S.files session.new.store.now) }
-    ensures cause { CausedByStore S.read_faults S.write_faults session.old result session.new }
-{
-    codes_do_as_programs();
-    store_new(session, asked.source, &loaded.object)?;
-    let codes = loaded.object.programs().as_slice();
-    let stored = loaded.stored.as_slice();
-    let verdicts = loaded.verdicts.as_slice();
-    let input = RunInput {
-        codes,
-        stored,
-        verdicts,
-        threads: asked.threads,
-        budget: asked.budget,
-    };
-    run_programs(session, &input, run)
-}
-
-/// `run`: compiles a source, stores its object and runs its programs, their thread programs by `run`.
+/// `run`: compiles a source and, unless an output is there already, stores its object and runs its programs, their thread programs by `run`.
 pub(crate) fn run_source<
     F: Fn(Global, &StageRun, &[Value]) -> Result<ThreadEnd, OutOfMemory>,
     S: Store,
@@ -65,6 +32,18 @@ pub(crate) fn run_source<
     ensures cause { CausedByStore S.read_faults S.write_faults session.old result session.new }
 {
     sources_are_read();
+    codes_do_as_programs();
     let loaded = load_source(session, asked.source)?;
-    run_loaded(session, asked, &loaded, run)
+    store_new(session, asked.source, &loaded.object)?;
+    let codes = loaded.object.programs().as_slice();
+    let stored = loaded.stored.as_slice();
+    let verdicts = loaded.verdicts.as_slice();
+    let input = RunInput {
+        codes,
+        stored,
+        verdicts,
+        threads: asked.threads,
+        budget: asked.budget,
+    };
+    run_programs(session, &input, run)
 }

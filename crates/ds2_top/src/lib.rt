@@ -9,7 +9,6 @@
 
 mod report;
 mod top;
-mod words;
 
 pub use ds2_answer::Status;
 pub use top::{ds2, ds2_alone};

@@ -2,10 +2,9 @@
 ghost use Rattle.ds2_top.specs.Headline.{Headline};
 
 use crate::report::report_end;
-use crate::words::do_words;
 use ds2_answer::Status;
 use ds2_base::{List, Text};
-use ds2_commands::{StageRun, sources_are_read};
+use ds2_commands::{StageRun, do_command, sources_are_read};
 use ds2_outside::{Gate, Sink, Store};
 use ds2_store_steps::Session;
 use ds2_value::Value;
@@ -36,7 +35,7 @@ pub fn ds2_alone<T: Store, L: Sink>(
         store,
     };
     let run = |a: Global, stage: &StageRun, given: &[Value]| stage.run(a, given);
-    let ran = do_words(&mut session, words, &run);
+    let ran = do_command(&mut session, words, &run);
     let Session {
         alloc: _,
         log: text,
@@ -67,7 +66,7 @@ pub fn ds2<T: Store, L: Sink, G: Gate + Sync>(
         store,
     };
     let run_on = |a: Global, stage: &StageRun, given: &[Value]| stage.run_on(rt, a, given, gate);
-    let ran = do_words(&mut session, words, &run_on);
+    let ran = do_command(&mut session, words, &run_on);
     let Session {
         alloc: _,
         log: text,

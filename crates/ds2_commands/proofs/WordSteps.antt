@@ -1,7 +1,7 @@
 -- What is left of words that are no command, or for which there is no memory.
 use Rattle.std.proofs.Common.{◌≡◌, IsErrAnd, inr, ℕ, List, [], Option, Some, None, Result, Ok, Err, refl, sym, subst}
 use Rattle.ds2_outside.specs.Files.{Files}
-use Rattle.ds2_commands.specs.AnswersOfTexts.{SourcesRead}
+use Rattle.ds2_compile.specs.AnswersOfTexts.{SourcesRead}
 use Rattle.ds2_answer.specs.declared.command_line.CommandLine.{CommandLine}
 use Rattle.ds2_answer.specs.declared.command_line.CommandLine.TheVariants.{Run, Compile, Exec, Check, Demo}
 use Rattle.ds2_answer.specs.declared.status.Status.TheVariants as ended
