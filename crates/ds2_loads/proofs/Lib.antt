@@ -1,4 +1,5 @@
 pub mod SlotTypes
+pub mod Unchanged
 pub mod SettingLists
 pub mod LoadSteps
 pub mod NumberedTables

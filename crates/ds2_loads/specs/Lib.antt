@@ -1,6 +1,7 @@
 pub mod Sources
 pub mod Readings
 pub mod Grains
+pub mod Unchanged
 pub mod StatementSource
 pub mod RowsBehind
 pub mod LoadCursors
