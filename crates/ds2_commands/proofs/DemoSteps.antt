@@ -1,5 +1,5 @@
 -- From the run inside of `demo` to what `demo` leaves.
-use Rattle.std.proofs.Common.{◌≡◌, ◌≤◌, ◌⊎◌, ◌∙◌, IsErrAnd, inl, inr, ℕ, List, [], ◌∷◌, ◌++◌, Option, Some, None, Result, Ok, Err, refl, sym, ap, subst, append_assoc, arith}
+use Rattle.std.proofs.Common.{◌≡◌, ◌⊎◌, ◌∙◌, IsErrAnd, inl, inr, ℕ, List, [], ◌∷◌, ◌++◌, Option, Some, None, Result, Ok, Err, refl, sym, subst, append_assoc, arith}
 use Rattle.std.specs.List.{concat}
 use Rattle.std.proofs.lemmas.List.{append-nil}
 use Rattle.ds2_outside.specs.Causes.{Rose}
@@ -10,13 +10,12 @@ use Rattle.ds2_answer.specs.CountLines.{lines_without_counts}
 use Rattle.ds2_answer.specs.DemoPlans.{demo_end, demo_files, demo_job, demo_plan, demo_run, total_line}
 use Rattle.ds2_answer.specs.Plan.{Plan, Stops, Logs, ReadsFile, AsksFor, WritesFile, each_in_turn}
 use Rattle.ds2_answer.specs.PlanSteps.{status_at_end, steps_of, text_logged}
-use Rattle.ds2_answer.specs.SourcePlans.{run_programs_of, source_plan}
 use Rattle.ds2_answer.specs.Status.{IsAnswerStatus}
 use Rattle.ds2_answer.specs.TablePlans.{Presence, present_in}
 use Rattle.ds2_answer.specs.declared.status.Status.{Status}
 use Rattle.ds2_answer.specs.declared.status.Status.TheVariants as ended
 use Rattle.ds2_answer.specs.declared.words.TheConstants.{DEFAULT_BUDGET}
-use Rattle.ds2_store_steps.specs.Halts.{CausedBy, Follows, FollowsAll, HaltsAs, LeadsOn}
+use Rattle.ds2_store_steps.specs.Halts.{CausedBy, FollowsAll, HaltsAs, LeadsOn}
 use Rattle.ds2_store_steps.specs.PlanOutcomes.{CameOfPlan, files_told_with}
 use Rattle.ds2_store_steps.specs.declared.halt.Halt.{Halt}
 use Rattle.ds2_store_steps.specs.declared.halt.Halt.TheVariants.{Ended, OutOfMemory}

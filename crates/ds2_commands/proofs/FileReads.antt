@@ -1,5 +1,5 @@
 -- Files that were read, and what is read behind them.
-use Rattle.std.proofs.Common.{◌≡◌, ◌≢◌, ◌⊎◌, ◌≤◌, ◌-◌, ◌∙◌, ◌&&◌, IsTrue, if◌then◌else◌, inl, inr, Bool, true, false, ℕ, List, [], ◌∷◌, ◌++◌, length, drop, take, codes, nat_eq, map, Option, Some, None, Result, Ok, Err, IfSome, refl, sym, ap, subst, arith, length-append}
+use Rattle.std.proofs.Common.{◌≡◌, ◌≢◌, ◌⊎◌, ◌≤◌, ◌-◌, ◌∙◌, ◌&&◌, IsTrue, if◌then◌else◌, inl, inr, Bool, true, false, ℕ, List, [], ◌∷◌, ◌++◌, length, drop, take, codes, nat_eq, map, Option, Some, None, Result, Ok, Err, IfSome, refl, ap, subst, arith, length-append}
 use Rattle.std.specs.Cmp.{tied_itself}
 use Rattle.std.specs.Cmp.Lexicographic.{nat_list_cmp_total, pointwise}
 use Rattle.std.specs.FinMap.{get-insert}
@@ -24,7 +24,7 @@ use Rattle.ds2_answer.specs.Words.{is_file_name, is_source}
 use Rattle.ds2_store_steps.specs.FileReads.{WasFileRead}
 use Rattle.ds2_store_steps.specs.Halts.{LeadsOn}
 use Rattle.ds2_store_steps.proofs.FileSteps.{other_bytes}
-use Rattle.ds2_store_steps.proofs.Leading.{leads_none, leads_read}
+use Rattle.ds2_store_steps.proofs.Leading.{leads_none}
 
 -- ---- a file that was read
 

@@ -1,14 +1,13 @@
 -- From the file of a source to its object.
-use Rattle.std.proofs.Common.{◌≡◌, ◌≢◌, ◌⊎◌, ◌∙◌, ◌&&◌, ◌==◌, IsErrAnd, IsTrue, inl, inr, if◌then◌else◌, Bool, true, false, bytes_eq, ℕ, List, [], ◌∷◌, ◌++◌, map, flat_map, Option, Some, None, IfSome, Result, Ok, Err, refl, sym, ap, subst}
+use Rattle.std.proofs.Common.{◌≡◌, ◌≢◌, ◌∙◌, ◌&&◌, IsErrAnd, IsTrue, if◌then◌else◌, Bool, true, false, bytes_eq, ℕ, List, [], ◌∷◌, ◌++◌, map, Option, Some, None, Result, Ok, Err, refl, sym, ap, subst}
 use Rattle.std.specs.List.{AllByRecursion}
 use Rattle.ds2_base.specs.Bytes.{Bytes}
 use Rattle.ds2_base.specs.declared.stop.Stop.{Stop}
 use Rattle.ds2_base.specs.declared.stop.Stop.TheVariants.{Refused}
 use Rattle.ds2_base.specs.Text.{text_of}
-use Rattle.ds2_value.specs.Row.{Columns}
 use Rattle.ds2_table.specs.Table.{Contents}
 use Rattle.ds2_outside.specs.Files.{Files, with_file}
-use Rattle.ds2_object.specs.ObjectSpelling.{IsValidObject, linked_behind}
+use Rattle.ds2_object.specs.ObjectSpelling.{linked_behind}
 use Rattle.ds2_code.specs.ValidCode.{is_short}
 use Rattle.ds2_compile.specs.Answers.{AnswersWith}
 use Rattle.ds2_compile.specs.AnswersOfTexts.{OneSourceAnswer, SourcesRead}
@@ -16,17 +15,14 @@ use Rattle.ds2_compile.specs.CodeTables.{program_references}
 use Rattle.ds2_compile.specs.CompiledSources.{AreCompiledPrograms, HasStoreTable, IsCompiled, IsCompiledObject, IsOutcomeCompiled}
 use Rattle.ds2_compile.specs.Elaboration.{ProgramRefusal, elaborated_source}
 use Rattle.ds2_compile.specs.InputTables.{names_or_refusal, source_inputs}
-use Rattle.ds2_compile.specs.NamedSchema.{NamedSchema}
 use Rattle.ds2_compile.specs.ProgramTree.{ProgramTree}
 use Rattle.ds2_compile.specs.SourceAnswer.{IsSourceAnswer, SourceAnswer}
 use Rattle.ds2_compile.specs.SourceRefusal.{SourceRefusal}
-use Rattle.ds2_compile.specs.SourceRefusals.{source_refusal_of}
 use Rattle.ds2_compile.specs.SourceUnit.{TableColumns, columns_stored, names_alone}
 use Rattle.ds2_compile.specs.StagedParts.{StagedParts}
 use Rattle.ds2_compile.specs.TableReference.{TableReference}
 use Rattle.ds2_compile.specs.Units.{SourcePart}
 use Rattle.ds2_compile.specs.declared.compiling.Compiled.{Compiled}
-use Rattle.ds2_answer.specs.declared.kinds.FileKind.TheVariants.{NotUtf8}
 use Rattle.ds2_answer.specs.declared.kinds.TheConstants.{SOURCE_LIMIT}
 use Rattle.ds2_answer.specs.declared.status.Status.{Status}
 use Rattle.ds2_answer.specs.declared.status.Status.TheVariants as ended
@@ -38,27 +34,26 @@ use Rattle.ds2_answer.specs.Plan.{Plan, Stops, Logs, ReadsFile, each_in_turn}
 use Rattle.ds2_answer.specs.SourcePlans.{SourceCommand, source_plan, with_inputs, with_typed_programs, with_tables, with_text, with_tree}
 use Rattle.ds2_answer.specs.Status.{IsAnswerStatus}
 use Rattle.ds2_answer.specs.StoredCodes.{HaveCodes}
-use Rattle.ds2_answer.specs.TablePlans.{read_file, read_tables}
+use Rattle.ds2_answer.specs.TablePlans.{read_tables}
 use Rattle.ds2_answer.specs.Words.{is_source}
-use Rattle.ds2_exec.specs.CodeRuns.{AreLinked, HasColumnsStored}
+use Rattle.ds2_exec.specs.CodeRuns.{HasColumnsStored}
 use Rattle.ds2_exec.specs.VerdictGrains.{VerdictGrainsFit}
 use Rattle.ds2_compile.specs.LocalStages.{StagesAreIndependent}
 use Rattle.ds2_exec.specs.LocalThreads.{IndependentCodeGivesStages}
 use Rattle.ds2_verdicts.specs.OwnVerdicts.{ProgramsHaveVerdicts, StagesHaveVerdicts}
 use Rattle.ds2_verdicts.specs.SourceVerdicts.{source_verdicts}
 use Rattle.ds2_verdicts.specs.declared.verdicts.ThreadVerdict.{ThreadVerdict}
-use Rattle.ds2_store_steps.specs.FileReads.{OverSomeFiles, ReadsWholeFile, WasFileRead}
+use Rattle.ds2_store_steps.specs.FileReads.{OverSomeFiles, ReadsWholeFile}
 use Rattle.ds2_store_steps.specs.Halts.{HaltsAs, HaltsPlan, StopsAs}
 use Rattle.ds2_store_steps.specs.TableReads.{ReadsTables}
 use Rattle.ds2_store_steps.specs.declared.halt.Halt.{Halt}
 use Rattle.ds2_store_steps.specs.declared.halt.Halt.TheVariants.{OutOfMemory, Ended}
-use Rattle.ds2_store_steps.proofs.FileSteps.{line_ends, load_then, over_all, over_map}
+use Rattle.ds2_store_steps.proofs.FileSteps.{line_ends, over_all, over_map}
 use Rattle.ds2_store_steps.proofs.Leading.{at_once, does_on}
-use Rattle.ds2_commands.specs.SourceLoads.{AreInputsRead, IsObjectOfPrograms, LoadsSource, ReadsInputs, WasLoaded, schema_held}
-use Rattle.ds2_commands.specs.SourceObjects.{BecomesPrograms}
+use Rattle.ds2_commands.specs.SourceLoads.{IsObjectOfPrograms, LoadsSource, ReadsInputs, WasLoaded, schema_held}
 use Rattle.ds2_commands.specs.declared.loaded.Loaded.{Loaded}
 use Rattle.ds2_commands.proofs.LocalRuns.{independent_codes}
-use Rattle.ds2_commands.proofs.FileReads.{HoldsFile, file_found, holds_file, leads_reads, reads_append, same_over, same_tables, table_is_no_source, table_reads}
+use Rattle.ds2_commands.proofs.FileReads.{file_found, holds_file, leads_reads, reads_append, same_over, same_tables, table_is_no_source, table_reads}
 
 -- ---- with which status a call has ended
 

@@ -1,8 +1,8 @@
 -- A line of words that is a command names a source, or an object, or has its number of rows.
-use Rattle.std.proofs.Common.{◌≡◌, ◌&&◌, IsTrue, Bool, true, false, bytes_eq, codes, cond, ℕ, List, [], ◌∷◌, Option, Some, None, is_none, refl, subst}
+use Rattle.std.proofs.Common.{◌≡◌, IsTrue, Bool, true, false, bytes_eq, codes, cond, ℕ, List, [], ◌∷◌, Option, Some, None, is_none, refl, subst}
 use Rattle.std.specs.Option.{option_map}
 use Rattle.ds2_answer.specs.declared.command_line.CommandLine.{CommandLine}
-use Rattle.ds2_answer.specs.declared.command_line.CommandLine.TheVariants.{Run, Compile, Exec, Check, Demo}
+use Rattle.ds2_answer.specs.declared.command_line.CommandLine.TheVariants.{Compile, Check, Demo}
 use Rattle.ds2_answer.specs.declared.command_line.GivenOptions.{GivenOptions}
 use Rattle.ds2_answer.specs.CommandLines.{HasRowsWithin, command_line_of, demo_command, exec_with_options, file_command, is_object_name, no_options, object_command, options_behind, rows_asked, run_with_options, source_command, without_options}
 use Rattle.ds2_answer.specs.Words.{is_source}

@@ -1,5 +1,5 @@
 -- From the file of an object to what its run leaves.
-use Rattle.std.proofs.Common.{◌≡◌, ◌≢◌, ◌⊎◌, ◌∙◌, IsErrAnd, IsTrue, inl, inr, Bool, true, false, ℕ, List, [], ◌∷◌, Option, Some, None, IfSome, Result, Ok, Err, refl, sym, ap, subst}
+use Rattle.std.proofs.Common.{◌≡◌, ◌≢◌, ◌⊎◌, ◌∙◌, IsErrAnd, IsTrue, inl, inr, ℕ, List, [], Option, IfSome, Result, Ok, Err, refl, sym, ap, subst}
 use Rattle.ds2_base.specs.Bytes.{Bytes}
 use Rattle.ds2_base.specs.declared.stop.Stop.{Stop}
 use Rattle.ds2_base.specs.declared.stop.Stop.TheVariants.{Refused}
@@ -16,12 +16,12 @@ use Rattle.ds2_answer.specs.Answer.{table_file}
 use Rattle.ds2_answer.specs.CommandLines.{is_object_name}
 use Rattle.ds2_answer.specs.Lines.{object_refused_line}
 use Rattle.ds2_answer.specs.Load.{within_limit}
-use Rattle.ds2_answer.specs.ObjectPlans.{IsDecoding, ObjectReading, exec_plan, object_inputs, object_over, object_plan, on_object, references_of}
-use Rattle.ds2_answer.specs.Plan.{Plan, Stops, Logs, ReadsFile}
-use Rattle.ds2_answer.specs.TablePlans.{Presence, present_in, read_file, refuse_file, with_bytes}
+use Rattle.ds2_answer.specs.ObjectPlans.{IsDecoding, ObjectReading, object_inputs, object_over, object_plan, on_object, references_of}
+use Rattle.ds2_answer.specs.Plan.{Plan, Stops, ReadsFile}
+use Rattle.ds2_answer.specs.TablePlans.{Presence, present_in, with_bytes}
 use Rattle.ds2_exec.specs.ExecOutcomes.{OverStore}
-use Rattle.ds2_store_steps.specs.FileReads.{OverSomeFiles, ReadsWholeFile}
-use Rattle.ds2_store_steps.specs.Halts.{Follows, FollowsAll, HaltsPlan, StopsAs}
+use Rattle.ds2_store_steps.specs.FileReads.{ReadsWholeFile}
+use Rattle.ds2_store_steps.specs.Halts.{FollowsAll, HaltsPlan, StopsAs}
 use Rattle.ds2_store_steps.specs.PlanOutcomes.{CameOfPlan, CutShort}
 use Rattle.ds2_store_steps.specs.declared.halt.Halt.{Halt}
 use Rattle.ds2_store_steps.specs.declared.halt.Halt.TheVariants.{Ended, OutOfMemory}
@@ -29,7 +29,7 @@ use Rattle.ds2_store_steps.proofs.FileSteps.{line_ends, over_all}
 use Rattle.ds2_store_steps.proofs.Leading.{at_once, does_on, leads_read}
 use Rattle.ds2_store_steps.proofs.OutputSteps.{answers_all}
 use Rattle.ds2_commands.specs.ObjectRuns.{DecodesFile, HaltsUndecoded, RunsBytes, RunsFile}
-use Rattle.ds2_commands.proofs.FileReads.{HoldsFile, file_found, holds_file, same_over, same_tables, table_is_no_object}
+use Rattle.ds2_commands.proofs.FileReads.{file_found, holds_file, same_over, same_tables, table_is_no_object}
 
 -- no object file is decoded
 abbrev pub no_objects : ObjectReading

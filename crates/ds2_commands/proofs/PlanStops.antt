@@ -1,5 +1,5 @@
 -- With which statuses plans stop, before their first write and behind it.
-use Rattle.std.proofs.Common.{◌≡◌, ◌⊎◌, inl, inr, ◌∙◌, Bool, true, false, ◌||◌, bytes_eq, if◌then◌else◌, ℕ, List, [], ◌∷◌, ◌++◌, map, flat_map, Option, Some, None, Result, Ok, Err, refl, sym, ap, subst}
+use Rattle.std.proofs.Common.{◌≡◌, Bool, true, false, if◌then◌else◌, ℕ, List, [], ◌∷◌, ◌++◌, map, flat_map, Option, Some, None, Result, Ok, Err, refl}
 use Rattle.ds2_base.specs.Bytes.{Bytes}
 use Rattle.ds2_base.specs.Text.{text_of}
 use Rattle.ds2_value.specs.declared.fault.Ending.{Ending}
@@ -25,15 +25,15 @@ use Rattle.ds2_answer.specs.declared.status.Status.TheVariants as ended
 use Rattle.ds2_answer.specs.Answer.{table_file}
 use Rattle.ds2_answer.specs.HeldTables.{HeldTables, NamedTable, columns_held, held_behind, held_from_store}
 use Rattle.ds2_answer.specs.Load.{within_limit}
-use Rattle.ds2_answer.specs.ObjectPlans.{ObjectReading, exec_plan, object_inputs, object_over, object_plan, on_object, outputs_of_code, references_of, run_of_code}
+use Rattle.ds2_answer.specs.ObjectPlans.{ObjectReading, exec_plan, object_inputs, object_over, on_object, outputs_of_code, references_of, run_of_code}
 use Rattle.ds2_answer.specs.Plan.{Plan, Stops, Logs, ReadsFile, AsksFor, WritesFile, each_in_turn}
 use Rattle.ds2_answer.specs.PlanSteps.{files_behind_all, status_at_end, steps_of}
-use Rattle.ds2_answer.specs.ProgramPlans.{ProgramLeft, ProgramRun, count_rows_then, count_stage_then, end_then, program_then, programs_plan, put_then, write_then}
+use Rattle.ds2_answer.specs.ProgramPlans.{ProgramLeft, ProgramRun, count_rows_then, count_stage_then, end_then, programs_plan, put_then, write_then}
 use Rattle.ds2_answer.specs.StagesLeft.{StageLeft, no_verdict}
-use Rattle.ds2_answer.specs.SourcePlans.{check_threads, SourceCommand, compile_programs_of, run_programs_of, source_plan, with_inputs, with_typed_programs, with_tables, with_text, with_tree}
+use Rattle.ds2_answer.specs.SourcePlans.{check_threads, SourceCommand, source_plan, with_inputs, with_typed_programs, with_tables, with_text, with_tree}
 use Rattle.ds2_verdicts.specs.SourceVerdicts.{source_verdicts}
 use Rattle.ds2_verdicts.specs.declared.verdicts.ThreadVerdict.{ThreadVerdict}
-use Rattle.ds2_answer.specs.TablePlans.{OutputNamed, Presence, are_columns_named, ask_unless_made, made_too, none_made, output_then, outputs_then, read_file, read_table, read_tables, unless_there, with_bytes, with_read_columns, with_read_table}
+use Rattle.ds2_answer.specs.TablePlans.{OutputNamed, Presence, are_columns_named, ask_unless_made, made_too, none_made, outputs_then, read_tables, unless_there, with_bytes, with_read_columns, with_read_table}
 
 -- a plan stops with such a status before its first write, or with such another one behind it
 abbrev pub StopsAmong : (Status → Type 0) → (Status → Type 0) → Plan → Type 0

@@ -1,10 +1,9 @@
 -- From the object of a source to its file.
-use Rattle.std.proofs.Common.{◌≡◌, ◌∙◌, IsErrAnd, IfOk, OnOk, ℕ, List, [], ◌∷◌, ◌++◌, flat_map, length, map, Option, Some, None, Result, Ok, Err, refl, sym, ap, subst}
+use Rattle.std.proofs.Common.{◌≡◌, ◌∙◌, IsErrAnd, IfOk, OnOk, ℕ, List, ◌++◌, flat_map, length, map, Option, Result, Ok, Err, refl, sym, ap, subst}
 use Rattle.std.specs.List.{AllByRecursion}
 use Rattle.ds2_outside.specs.Files.{Files}
 use Rattle.ds2_base.specs.Bytes.{Bytes}
 use Rattle.ds2_object.specs.ObjectSpelling.{IsSpellingOf, ReadsWhatIsSpelled, written_object}
-use Rattle.ds2_compile.specs.AnswersOfTexts.{SourcesRead}
 use Rattle.ds2_compile.specs.StagedParts.{StagedParts}
 use Rattle.ds2_answer.specs.declared.status.Status.TheVariants.{Done}
 use Rattle.ds2_answer.specs.HeldTables.{NamedTable, held_from_store}

@@ -13,7 +13,7 @@ use crate::storing::store_new;
 use ds2_answer::laws::codes_do_as_programs;
 use ds2_base::OutOfMemory;
 use ds2_compile::sources_are_read;
-use ds2_exec::{RunInput, StageRun, ThreadEnd, run_programs};
+use ds2_exec::{RunCodes, RunInput, StageRun, ThreadEnd, run_programs};
 use ds2_outside::Store;
 use ds2_store_steps::{Halt, Session};
 use ds2_value::Value;
@@ -35,11 +35,11 @@ pub(crate) fn run_source<
     codes_do_as_programs();
     let loaded = load_source(session, asked.source)?;
     store_new(session, asked.source, &loaded.object)?;
-    let codes = loaded.object.programs().as_slice();
+    let codes = RunCodes::of(session.alloc, loaded.object.programs().as_slice())?;
     let stored = loaded.stored.as_slice();
     let verdicts = loaded.verdicts.as_slice();
     let input = RunInput {
-        codes,
+        codes: &codes,
         stored,
         verdicts,
         threads: asked.threads,

@@ -1,4 +1,5 @@
 pub mod CodeSteps
+pub mod GatheredCodes
 pub mod SinkSteps
 pub mod StageSteps
 pub mod CodeEnds

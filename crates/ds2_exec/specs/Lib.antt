@@ -1,5 +1,6 @@
 -- The run of an object over a store.
 pub mod CodeRuns
+pub mod GatheredCodes
 pub mod StageEnds
 pub mod LocalCodes
 pub mod Workers

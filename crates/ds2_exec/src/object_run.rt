@@ -7,13 +7,14 @@ ghost use Rattle.ds2_store_steps.specs.Halts.{CausedByStore, FollowsAll, InSessi
 ghost use Rattle.ds2_outside.specs.Causes.{HasCause};
 
 use crate::programs::run_programs;
+use crate::run_codes::RunCodes;
 use crate::run_input::RunInput;
 use ds2_answer::Status;
 use ds2_base::{Bytes, List, OutOfMemory};
 use ds2_group_job::StageRun;
 use ds2_object::ObjectCode;
 use ds2_outside::Store;
-use ds2_store_steps::{Halt, Session, ask_outputs, inputs_of, read_tables, references_of};
+use ds2_store_steps::{Halt, Session, ask_outputs, inputs_of, read_tables};
 use ds2_value::Value;
 use std::alloc::Global;
 
@@ -37,13 +38,13 @@ pub fn run_object<S: Store>(
 {
     let alloc = session.alloc;
     let codes = object.programs().as_slice();
-    let named = references_of(alloc, codes)?;
-    let references = named.as_slice();
+    let named = RunCodes::of(alloc, codes)?;
+    let references = named.references();
     let names = inputs_of(alloc, references)?;
     let stored = read_tables(session, references, names.as_slice())?;
     ask_outputs(session, codes)?;
     let input = RunInput {
-        codes,
+        codes: &named,
         stored: stored.as_slice(),
         verdicts: &[],
         threads: None,

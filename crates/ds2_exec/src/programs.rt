@@ -4,8 +4,7 @@ ghost use Rattle.std.specs.Cmp.Lexicographic.{pointwise};
 ghost use Rattle.std.specs.HashSet.{contains};
 ghost use Rattle.std.specs.List.{AllByRecursion};
 ghost use Rattle.ds2_value.specs.declared.fault.Ending.TheVariants.{Normal};
-ghost use Rattle.ds2_table.specs.Table.{IsTable};
-ghost use Rattle.ds2_code_answer.specs.CodeTables.{AreTablesOfCode};
+ghost use Rattle.ds2_code_answer.specs.CodeTables.{AreTablesOfCode, program_references};
 ghost use Rattle.ds2_machine.specs.declared.machine.TheConstants.{MOST_BUDGET};
 ghost use Rattle.ds2_group_job.specs.StageRuns.{RunsStages};
 ghost use Rattle.ds2_answer.specs.HeldTables.{held_from_store, tables_held};
@@ -30,13 +29,13 @@ use crate::stages::{
 use crate::workers::workers_of;
 use ds2_answer::lines::{say_count, say_lines, say_table};
 use ds2_base::{Bytes, List, OutOfMemory, Text};
+use ds2_code::TableReference;
 use ds2_group_job::{ProgramRun, StageRun, ThreadEnd, run_into};
 use ds2_outside::Store;
-use ds2_reading::{HashKey, Tables};
+use ds2_reading::HashKey;
 use ds2_scope::NameSet;
 use ds2_store_steps::{
-    Halt, KeptTable, Session, end_in_fault, names_kept, references_of, references_of_code,
-    table_file, tables_referred, write_file,
+    Halt, KeptTable, Session, end_in_fault, names_kept, table_file, tables_referred, write_file,
 };
 use ds2_unit::{OutputSinks, RunEnd};
 use ds2_valid_code::ProgramCode;
@@ -55,21 +54,6 @@ pub(crate) struct CodeEnd {
 }
 
 // ---- one program
-
-// The tables that a program's code names, of those that are held, with this key.
-fn tables_of_code(
-    alloc: Global,
-    code: &ProgramCode,
-    stored: &[KeptTable],
-    made: &[List<KeptTable>],
-    key: HashKey,
-) -> Result<Tables, OutOfMemory>
-    ensures held { IfOk result (λ tables. tables ≡ tables_held (record { stored = stored.now; made = made.now }) code.now) }
-    ensures whole { IfOk result (λ tables. AllByRecursion IsTable tables) }
-{
-    let references = references_of_code(alloc, code)?;
-    tables_referred(alloc, references.as_slice(), stored, made, key)
-}
 
 // What a program's code leaves whose run has ended so, with what its sink has taken and the verdicts on its thread programs.
 fn code_end(
@@ -90,15 +74,17 @@ fn code_end(
     })
 }
 
-// Runs a program's code over those of the tables that are held that it names. Rows are kept of tables of the names that are kept.
+// Runs a program's code over those of the tables that are held that it names: these. Rows are kept of tables of the names that are kept.
 fn run_code<F: Fn(Global, &StageRun, &[Value]) -> Result<ThreadEnd, OutOfMemory>>(
     alloc: Global,
     running: &Running<F>,
     code: &ProgramCode,
+    references: &[TableReference],
     made: &[List<KeptTable>],
 ) -> Result<CodeEnd, OutOfMemory>
     requires callable { F.IsAlwaysCallable running.now.run.now }
     requires right { RunsStages (F.post running.now.run.now) }
+    requires references { references.now ≡ program_references code.now.program code.now.stages }
     requires fit { GrainsFit (verdict_named running.now.verdicts.now) code.now }
     requires tables { AreTablesOfCode code.now (tables_held (record { stored = running.now.stored.now; made = made.now }) code.now) }
     requires budget { running.now.budget ≤ MOST_BUDGET }
@@ -106,7 +92,7 @@ fn run_code<F: Fn(Global, &StageRun, &[Value]) -> Result<ThreadEnd, OutOfMemory>
     ensures { IfOk result (λ end. IsCodeEnd (contains (pointwise nat_eq) running.now.kept.now) (verdict_named running.now.verdicts.now) code.now
         (answer_over (verdict_named running.now.verdicts.now) code.now running.now.budget (record { stored = running.now.stored.now; made = made.now })) end) }
 {
-    let tables = tables_of_code(alloc, code, running.stored, made, running.key)?;
+    let tables = tables_referred(alloc, references, running.stored, made, running.key)?;
     let parts = code.parts();
     let stages = stages_judged(alloc, parts.stages.as_slice(), running.verdicts)?;
     let judged = stages.as_slice();
@@ -275,10 +261,9 @@ pub fn run_programs<F: Fn(Global, &StageRun, &[Value]) -> Result<ThreadEnd, OutO
     ensures cause { CausedByStore S.read_faults S.write_faults session.old result session.new }
 {
     let alloc = session.alloc;
-    let codes = input.codes;
+    let codes = input.codes.codes();
     let stored = input.stored;
-    let references = references_of(alloc, codes)?;
-    let names = names_kept(alloc, references.as_slice())?;
+    let names = names_kept(alloc, input.codes.references())?;
     let kept = KeptNames { names };
     let key = key_of_run(alloc, codes, stored)?;
     let running = Running {
@@ -294,7 +279,8 @@ pub fn run_programs<F: Fn(Global, &StageRun, &[Value]) -> Result<ThreadEnd, OutO
     let mut left = codes;
     while let [code, after @ ..] = left {
         let _parts = code.parts();
-        let end = run_code(alloc, &running, code, made.as_slice())?;
+        let references = input.codes.references_at(made.len());
+        let end = run_code(alloc, &running, code, references, made.as_slice())?;
         let tables = settle(session, end)?;
         made.push(tables)?;
         left = after;

@@ -1,15 +1,15 @@
 //! What programs are run over.
 
+use crate::run_codes::RunCodes;
 use ds2_reading::HashKey;
 use ds2_scope::NameSet;
 use ds2_store_steps::KeptTable;
-use ds2_valid_code::ProgramCode;
 use ds2_verdicts::ThreadVerdict;
 
 /// Programs that are run one behind the other, and what they are run over.
 #[derive(Drop)]
-pub struct RunInput<'a> {
-    pub codes: &'a [ProgramCode],
+pub struct RunInput<'a, 'c> {
+    pub codes: &'a RunCodes<'c>,
     /// The tables of the store that were read.
     pub stored: &'a [KeptTable],
     /// The verdicts on the thread programs.

@@ -1,7 +1,5 @@
-use Rattle.std.proofs.Common.{List, ℕ, inl, refl, subst}
-use Rattle.ds2_answer.specs.Plan.{Plan, WritesFile}
+use Rattle.std.proofs.Common.{inl, refl}
 use Rattle.ds2_answer.specs.SourcePlans.{store_object}
-use Rattle.ds2_store_steps.specs.Halts.{Follows}
 use Rattle.ds2_store_steps.proofs.Leading.{no_memory}
 use Rattle.ds2_commands.proofs.CommandSteps.{readable_short}
 use Rattle.ds2_commands.proofs.StoreSteps.{object_written}

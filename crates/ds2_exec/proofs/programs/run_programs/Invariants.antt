@@ -1,4 +1,4 @@
-use Rattle.std.proofs.Common.{◌≡◌, ◌≤◌, length}
+use Rattle.std.proofs.Common.{◌≡◌, ◌≤◌, drop, length}
 use Rattle.std.specs.Prelude.{nat_eq}
 use Rattle.std.specs.Cmp.Lexicographic.{pointwise}
 use Rattle.std.specs.HashSet.{contains}
@@ -10,6 +10,7 @@ use Rattle.ds2_exec.proofs.programs.run_programs.Given as goal
 
 abbrev pub invariant-loop-left : goal.invariant-loop-left
 invariant-loop-left g l = record {
+  place : drop (length l.made) l.fn.input.codes.now ≡ l.left;
   run : AreRunSoFar (contains (pointwise nat_eq) l.running.kept.now) (verdict_named l.fn.input.verdicts.now) l.fn.input.budget l.fn.input.stored.now l.fn.input.codes.now l.left l.made l.initial.session.log (g.S.Store.files l.initial.session.store.now) l.session.log (g.S.Store.files l.session.store.now);
   independent : AllByRecursion (IsIndependentWhereLocal (verdict_named l.fn.input.verdicts.now)) l.left;
   same_store : l.session.store.ghost_name ≡ l.initial.session.store.ghost_name;
