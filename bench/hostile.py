@@ -97,7 +97,7 @@ class Command:
 
     def outlasts(self, plain):
         """Whether it takes too many times the seconds of one over a plain input."""
-        return self.seconds > MOST_TIMES_PLAIN * plain.seconds
+        return self.seconds > max(LEAST_SECONDS, MOST_TIMES_PLAIN * plain.seconds)
 
     def still(self, seems, other):
         """Whether what seems so beside another command is so by the least of several runs of both."""

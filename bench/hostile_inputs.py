@@ -436,9 +436,15 @@ job("60 iterators of a hash object", 50_000, hash_job("do while (e.next() = 0); 
 
 COPY = "data out (overwrite=yes); method run(); set t; end; enddata;"
 
-SMALL = one_table("a,b,c,d", lambda n, count: "1,2,3,4")
-table("types that change in the last row", 200_000, reads("set t;"), one_table("a,b,c,d", lambda n, count: "1,2,3,4" if n < count - 1 else "x,1.5,-0,99999999999999999999"), plain=SMALL)
-table("types that change in row 1,001", 200_000, reads("set t;"), one_table("a,b,c,d", lambda n, count: "1,2,3,4" if n != 1000 else "1,2,3,4.5"), plain=SMALL)
+
+def digits_but_for(place, other):
+    """A table of small numbers, in which the row of this place is another one."""
+    return one_table("a,b,c,d", lambda n, count: other if n == place % count else "1,2,3,4")
+
+
+ALL_TYPES = "x,1.5,-0,99999999999999999999"
+table("types that change in the last row", 1_000_000, reads("set t;"), digits_but_for(-1, ALL_TYPES), plain=digits_but_for(0, ALL_TYPES))
+table("types that change in row 1,001", 1_000_000, reads("set t;"), digits_but_for(1000, ALL_TYPES), plain=digits_but_for(0, ALL_TYPES))
 table("types that change again and again", 50_000, reads("set t;"), one_table("a,b", lambda n, count: f"{'9' * (n % 30 + 1)}.{'1' * (n % 8 + 1)},{'x' * (n % 1000 + 1)}"))
 table("cells of quotes", 100_000, COPY, one_table("a", lambda n, count: '"' + '""' * 30 + '"'))
 table("a quote without an end", 400_000, COPY, one_table("a,b", lambda n, count: "1,2" if n else '"1,2'), 4)
